@@ -3,6 +3,17 @@
 pub mod Base
 pub mod Refusals
 pub mod Operations
+pub mod Value
 pub mod Ast
 pub mod SectionFile
 pub mod Spellings
+pub mod Sizes
+pub mod Walk
+pub mod Scope
+pub mod Expressions
+pub mod Statements
+pub mod End
+pub mod ActionList
+pub mod Checker
+pub mod Premise
+pub mod Starred

@@ -81,6 +81,29 @@ operationNumber Operation.Arg = 64
 operationNumber Operation.Invalid = 65
 operationNumber Operation.Subpiece = 66
 
+-- 0 to 32
+unfoldable pub operators : List Operation
+operators =
+    Operation.IntMul ∷ Operation.IntDiv ∷ Operation.IntSignedDiv ∷ Operation.IntRem ∷ Operation.IntSignedRem
+    ∷ Operation.IntAdd ∷ Operation.IntSub ∷ Operation.IntLeft ∷ Operation.IntRight ∷ Operation.IntSignedRight
+    ∷ Operation.IntSignedLess ∷ Operation.IntSignedLessEqual ∷ Operation.IntLess ∷ Operation.IntLessEqual
+    ∷ Operation.IntEqual ∷ Operation.IntNotEqual ∷ Operation.FloatDiv ∷ Operation.FloatMul ∷ Operation.FloatAdd
+    ∷ Operation.FloatSub ∷ Operation.FloatLess ∷ Operation.FloatLessEqual ∷ Operation.FloatEqual
+    ∷ Operation.FloatNotEqual ∷ Operation.IntAnd ∷ Operation.IntXor ∷ Operation.IntOr ∷ Operation.BoolXor
+    ∷ Operation.BoolAnd ∷ Operation.BoolOr ∷ Operation.IntCarry ∷ Operation.IntSignedCarry
+    ∷ Operation.IntSignedBorrow
+    ∷ []
+
+-- 39 to 56
+unfoldable pub oneInputs : List Operation
+oneInputs =
+    Operation.BoolNot ∷ Operation.IntNot ∷ Operation.IntNegate ∷ Operation.FloatIsNan ∷ Operation.ZeroExtend
+    ∷ Operation.SignExtend ∷ Operation.FloatNegate ∷ Operation.FloatAbs ∷ Operation.FloatSqrt
+    ∷ Operation.FloatCeil ∷ Operation.FloatFloor ∷ Operation.FloatRound ∷ Operation.FloatToInt
+    ∷ Operation.IntToFloat ∷ Operation.UintToFloat ∷ Operation.FloatToFloat ∷ Operation.IntCountOnes
+    ∷ Operation.IntCountLeadingZeroes
+    ∷ []
+
 abbrev pub isOp : Operation → Operation → Bool
 isOp a b = eqb (operationNumber a) (operationNumber b)
 
@@ -88,5 +111,5 @@ unfoldable pub among : List Operation → Operation → Bool
 among group op = any (isOp op) group
 
 unfoldable pub operations-opens : Unit {0}
-unfolding base-opens operationNumber among
+unfolding base-opens operationNumber operators oneInputs among
 operations-opens = tt

@@ -1,0 +1,338 @@
+-- THE STATEMENT RULES, expressions: resolved first, read later.
+use Prim.Native.Nat.{ℕ, zero, suc, _+_, _*_, _-_, _/_, _%_, _^_, min}
+use mathlib.Core.Bool.{Bool, true, false, _&&_}
+use mathlib.Core.List.{List, [], _∷_}
+use mathlib.Core.Option.{Option, none, some}
+use lib.ListN.{take, drop, getD, getElem?}
+use lib.Dec.{eqb, leb, ltb}
+use Rattle.definition.specs.Base.{if_then_else_, _or_, orElse, andThen}
+use Rattle.definition.specs.Refusals.{Refusal, undefined, addressOfNonLocal, addressOfOffset, constantPool, argumentCount, macroInExpression, subpieceArgument, slicePastEnd, constSpace, noDefaultSpace, otherSpace, shiftTooFar}
+use Rattle.definition.specs.Operations.{Operation}
+use Rattle.definition.specs.Value.{Value, local, constant, withSize, truncate, ActionKind}
+use Rattle.definition.specs.Ast.{PcodeOp, PcodeExpr, Args, noArgs, arg, SpaceKind, Space as SpaceEntry, Section}
+use Rattle.definition.specs.Spellings.{Inbuilt, translateInbuiltFunc, spellings-opens}
+use Rattle.definition.specs.Sizes.{setSize}
+use Rattle.definition.specs.Walk.{ExprValue, Walk, _>>=_, _>>_, pure, refuse, require, expect, section, sizing, knownSize, sliced, addTmp, outputOr, push, op, opNoOutput}
+use Rattle.definition.specs.Scope.{SymbolKind, Symbol, isSymbol, lookup, lookupKind, resolveIdent, scope-opens}
+
+-- Masks have the low n bits set, all 64 from n = 64.
+
+abbrev pub mask : ℕ → ℕ
+mask n = 2 ^ min n 64 - 1
+
+-- the bits of x that such a mask keeps
+abbrev pub masked : ℕ → ℕ → ℕ
+masked n x = x % 2 ^ min n 64
+
+abbrev pub neededBytes : ℕ → ℕ
+neededBytes bits = (bits + 7) / 8
+
+-- Reading.
+
+unfoldable pub copyTo : Option Value → Value → Walk Value
+copyTo none v = pure v
+copyTo (some to) v = op Operation.Copy 0 (v ∷ []) (some to)
+
+-- a register access's stated size is set as under Sizes; 0 sets none
+unfoldable pub setStated : ℕ → Value → Walk Value
+setStated size v = if eqb size 0 then pure v else sizing λ sec. setSize sec size v
+
+unfoldable pub takeKnown : Option ℕ → ℕ → Value → Walk Value
+takeKnown (some known) size v = pure (truncate size v)
+takeKnown none size v = sizing λ sec. setSize sec size v
+
+-- a RAM access's stated size is taken silently; 0 sets none
+unfoldable pub takeStated : ℕ → Value → Walk Value
+takeStated size v = if eqb size 0 then pure v else do
+  known ← knownSize v
+  takeKnown known size v
+
+unfoldable pub byteAligned : ℕ → ℕ → Bool
+byteAligned from bits = eqb (from % 8) 0 && eqb (bits % 8) 0
+
+unfoldable pub shiftAndMask : Value → ℕ → ℕ → Walk Value
+shiftAndMask v from bits = do
+  size ← knownSize v
+  tmp ← addTmp none size
+  _ ← op Operation.IntRight 0 (v ∷ constant from ∷ []) (some tmp)
+  _ ← op Operation.IntAnd 0 (tmp ∷ constant (mask bits) ∷ []) (some tmp)
+  pure (truncate (neededBytes bits) tmp)
+
+unfoldable pub readSlice : Value → ℕ → ℕ → Option Value → Walk Value
+readSlice v from bits to = do
+  part ← if byteAligned from bits then sliced (from / 8) (bits / 8) v else shiftAndMask v from bits
+  copyTo to part
+
+-- the value, in the output where one is given
+unfoldable pub readValue : ExprValue → Option Value → Walk Value
+readValue (ExprValue.Local v) to = copyTo to v
+readValue (ExprValue.Unbound v) to = copyTo to v
+readValue (ExprValue.Const n size) to = copyTo to (withSize size (constant n))
+readValue (ExprValue.BitRange v from bits) to = readSlice v from bits to
+readValue (ExprValue.Apply operation n inputs) to = op operation n inputs to
+readValue (ExprValue.AddressOf base size) to = do
+  require (eqb (base .offset) 0) addressOfOffset
+  out ← outputOr size to
+  push (record { kind = ActionKind.AddressOf; number = 0; inputs = local (base .kind) (base .number) ∷ []; output = some out })
+  pure out
+readValue (ExprValue.RamRef pointer size) to = do
+  out ← outputOr none to
+  out ← takeStated size out
+  op Operation.Load 0 (pointer ∷ []) (some out)
+readValue (ExprValue.RegisterRef pointer size) to = do
+  out ← outputOr (some size) to
+  out ← setStated size out
+  push (record { kind = ActionKind.LoadRegister; number = size; inputs = pointer ∷ []; output = some out })
+  pure out
+
+-- `resolve_expr_value`
+abbrev pub valueOf : Walk ExprValue → Walk Value
+valueOf resolve = do
+  x ← resolve
+  readValue x none
+
+unfoldable pub readAll : List ExprValue → Walk (List Value)
+readAll [] = pure []
+readAll (x ∷ xs) = do
+  v ← readValue x none
+  vs ← readAll xs
+  pure (v ∷ vs)
+
+-- Slices. One of a local has no bound; what cannot be sliced unread is read first.
+
+unfoldable pub sliceRead : ℕ → ℕ → ExprValue → Walk ExprValue
+sliceRead from bits x = do
+  v ← readValue x none
+  part ← readSlice v from bits none
+  pure (ExprValue.Unbound part)
+
+unfoldable pub sliceBits : ℕ → ℕ → ExprValue → Walk ExprValue
+sliceBits from bits (ExprValue.Local v) = pure (ExprValue.BitRange v from bits)
+sliceBits from bits (ExprValue.Const n size) = do
+  require (leb (from + bits) (8 * orElse 8 size)) slicePastEnd
+  require (ltb from 64) shiftTooFar
+  pure (ExprValue.Const (masked bits (n / 2 ^ from)) (some (neededBytes bits)))
+sliceBits from bits (ExprValue.BitRange v before whole) = do
+  require (leb (from + bits) whole) slicePastEnd
+  pure (ExprValue.BitRange v (before + from) bits)
+sliceBits from bits (ExprValue.Unbound v) = sliceRead from bits (ExprValue.Unbound v)
+sliceBits from bits (ExprValue.Apply operation n vs) = sliceRead from bits (ExprValue.Apply operation n vs)
+sliceBits from bits (ExprValue.RamRef v z) = sliceRead from bits (ExprValue.RamRef v z)
+sliceBits from bits (ExprValue.RegisterRef v z) = sliceRead from bits (ExprValue.RegisterRef v z)
+sliceBits from bits (ExprValue.AddressOf v z) = sliceRead from bits (ExprValue.AddressOf v z)
+
+-- what is a local, and nothing else
+unfoldable pub asLocal : ExprValue → Option Value
+asLocal (ExprValue.Local v) = some v
+asLocal (ExprValue.Unbound v) = none
+asLocal (ExprValue.Const n z) = none
+asLocal (ExprValue.Apply operation n vs) = none
+asLocal (ExprValue.RamRef v z) = none
+asLocal (ExprValue.RegisterRef v z) = none
+asLocal (ExprValue.AddressOf v z) = none
+asLocal (ExprValue.BitRange v from bits) = none
+
+-- Addresses.
+
+unfoldable pub spaceKind : Option SpaceEntry → Refusal → Walk SpaceKind
+spaceKind (some x) r = pure (x .kind)
+spaceKind none r = refuse r
+
+-- the named space, else the default one
+unfoldable pub resolveSpace : Option ℕ → Walk SpaceKind
+resolveSpace none = do
+  sec ← section
+  spaceKind (andThen (sec .defaultSpace) (getElem? (sec .spaces))) noDefaultSpace
+resolveSpace (some n) = do
+  id ← lookupKind SymbolKind.Space n
+  sec ← section
+  spaceKind (getElem? (sec .spaces) id) undefined
+
+unfoldable pub inConstSpace : Option ℕ → ExprValue → Walk ExprValue
+inConstSpace size (ExprValue.Local v) = pure (ExprValue.Local (withSize (size or v .size) v))
+inConstSpace size (ExprValue.Const n z) = pure (ExprValue.Const n (size or z))
+inConstSpace size (ExprValue.Unbound v) = refuse constSpace
+inConstSpace size (ExprValue.Apply operation n vs) = refuse constSpace
+inConstSpace size (ExprValue.RamRef v z) = refuse constSpace
+inConstSpace size (ExprValue.RegisterRef v z) = refuse constSpace
+inConstSpace size (ExprValue.AddressOf v z) = refuse constSpace
+inConstSpace size (ExprValue.BitRange v from bits) = refuse constSpace
+
+unfoldable pub reference : SpaceKind → Value → ℕ → Walk ExprValue
+reference SpaceKind.RamSpace pointer size = pure (ExprValue.RamRef pointer size)
+reference SpaceKind.RegisterSpace pointer size = pure (ExprValue.RegisterRef pointer size)
+reference SpaceKind.OtherSpace pointer size = refuse otherSpace
+
+unfoldable pub isName : ℕ → Option ℕ → Bool
+isName n (some m) = eqb n m
+isName n none = false
+
+unfoldable pub addressIn : Option ℕ → Option ℕ → ExprValue → Walk ExprValue
+addressIn space size x = do
+  kind ← resolveSpace space
+  pointer ← readValue x none
+  reference kind pointer (orElse 0 size)
+
+unfoldable pub resolveAddress : Option ℕ → Option ℕ → Walk ExprValue → Walk ExprValue
+resolveAddress space size pointer = do
+  x ← pointer
+  sec ← section
+  if isName (sec .const) space then inConstSpace size x else addressIn space size x
+
+-- Operators. The six greater ones swap their operands before either is resolved.
+
+pub data Order : Type 0 where
+  asWritten swapped : Operation → Order
+
+unfoldable pub translatePcodeOp : PcodeOp → Order
+translatePcodeOp PcodeOp.IntMult = asWritten Operation.IntMul
+translatePcodeOp PcodeOp.IntDiv = asWritten Operation.IntDiv
+translatePcodeOp PcodeOp.IntSignedDiv = asWritten Operation.IntSignedDiv
+translatePcodeOp PcodeOp.IntRem = asWritten Operation.IntRem
+translatePcodeOp PcodeOp.IntSignedRem = asWritten Operation.IntSignedRem
+translatePcodeOp PcodeOp.IntAdd = asWritten Operation.IntAdd
+translatePcodeOp PcodeOp.IntSub = asWritten Operation.IntSub
+translatePcodeOp PcodeOp.IntLeft = asWritten Operation.IntLeft
+translatePcodeOp PcodeOp.IntRight = asWritten Operation.IntRight
+translatePcodeOp PcodeOp.IntSignedRight = asWritten Operation.IntSignedRight
+translatePcodeOp PcodeOp.IntSignedLess = asWritten Operation.IntSignedLess
+translatePcodeOp PcodeOp.IntSignedLessEqual = asWritten Operation.IntSignedLessEqual
+translatePcodeOp PcodeOp.IntLess = asWritten Operation.IntLess
+translatePcodeOp PcodeOp.IntLessEqual = asWritten Operation.IntLessEqual
+translatePcodeOp PcodeOp.IntEqual = asWritten Operation.IntEqual
+translatePcodeOp PcodeOp.IntNotEqual = asWritten Operation.IntNotEqual
+translatePcodeOp PcodeOp.FloatDiv = asWritten Operation.FloatDiv
+translatePcodeOp PcodeOp.FloatMult = asWritten Operation.FloatMul
+translatePcodeOp PcodeOp.FloatAdd = asWritten Operation.FloatAdd
+translatePcodeOp PcodeOp.FloatSub = asWritten Operation.FloatSub
+translatePcodeOp PcodeOp.FloatLess = asWritten Operation.FloatLess
+translatePcodeOp PcodeOp.FloatLessEqual = asWritten Operation.FloatLessEqual
+translatePcodeOp PcodeOp.FloatEqual = asWritten Operation.FloatEqual
+translatePcodeOp PcodeOp.FloatNotEqual = asWritten Operation.FloatNotEqual
+translatePcodeOp PcodeOp.IntAnd = asWritten Operation.IntAnd
+translatePcodeOp PcodeOp.IntXor = asWritten Operation.IntXor
+translatePcodeOp PcodeOp.IntOr = asWritten Operation.IntOr
+translatePcodeOp PcodeOp.BoolXor = asWritten Operation.BoolXor
+translatePcodeOp PcodeOp.BoolAnd = asWritten Operation.BoolAnd
+translatePcodeOp PcodeOp.BoolOr = asWritten Operation.BoolOr
+translatePcodeOp PcodeOp.IntCarry = asWritten Operation.IntCarry
+translatePcodeOp PcodeOp.IntSignedCarry = asWritten Operation.IntSignedCarry
+translatePcodeOp PcodeOp.IntSignedBorrow = asWritten Operation.IntSignedBorrow
+translatePcodeOp PcodeOp.IntGreater = swapped Operation.IntLess
+translatePcodeOp PcodeOp.IntGreaterEqual = swapped Operation.IntLessEqual
+translatePcodeOp PcodeOp.IntSignedGreater = swapped Operation.IntSignedLess
+translatePcodeOp PcodeOp.IntSignedGreaterEqual = swapped Operation.IntSignedLessEqual
+translatePcodeOp PcodeOp.FloatGreater = swapped Operation.FloatLess
+translatePcodeOp PcodeOp.FloatGreaterEqual = swapped Operation.FloatLessEqual
+
+unfoldable pub binary : Operation → Walk Value → Walk Value → Walk ExprValue
+binary operation a b = do
+  left ← a
+  right ← b
+  pure (ExprValue.Apply operation 0 (left ∷ right ∷ []))
+
+unfoldable pub resolveOp : Order → Walk Value → Walk Value → Walk ExprValue
+resolveOp (asWritten operation) a b = binary operation a b
+resolveOp (swapped operation) a b = binary operation b a
+
+-- Calls.
+
+-- the arguments of a user op from the third on, each followed by its Arg, from number i
+unfoldable pub passArgs : ℕ → List ExprValue → Walk (Unit {0})
+passArgs i [] = pure tt
+passArgs i (x ∷ xs) = do
+  v ← readValue x none
+  opNoOutput Operation.Arg i (v ∷ [])
+  passArgs (suc i) xs
+
+unfoldable pub callUserOp : ℕ → List ExprValue → Walk ExprValue
+callUserOp id xs = do
+  passArgs 0 (drop 2 xs)
+  vs ← readAll (take 2 xs)
+  pure (ExprValue.Apply Operation.PcodeOp id vs)
+
+unfoldable pub argCount : Args → ℕ
+argCount noArgs = 0
+argCount (arg x xs) = suc (argCount xs)
+
+unfoldable pub asInteger : PcodeExpr → Option ℕ
+asInteger (PcodeExpr.Integer n) = some n
+asInteger (PcodeExpr.Ident n) = none
+asInteger (PcodeExpr.AddressOf z n) = none
+asInteger (PcodeExpr.Truncate x z) = none
+asInteger (PcodeExpr.SliceBits x from bits) = none
+asInteger (PcodeExpr.Op a o b) = none
+asInteger (PcodeExpr.Deref n z x) = none
+asInteger (PcodeExpr.ConstantPoolRef xs) = none
+asInteger (PcodeExpr.Call n xs) = none
+
+-- the number that is the one argument
+unfoldable pub onlyInteger : Args → Option ℕ
+onlyInteger noArgs = none
+onlyInteger (arg x noArgs) = asInteger x
+onlyInteger (arg x (arg y ys)) = none
+
+-- a call of a local: part of it, from a byte on
+unfoldable pub subpiece : ℕ → Args → Walk ExprValue
+subpiece name args = do
+  v ← valueOf (resolveIdent name)
+  n ← expect subpieceArgument (onlyInteger args)
+  require (leb n 255) subpieceArgument
+  pure (ExprValue.Apply Operation.Subpiece n (v ∷ []))
+
+unfoldable pub callSymbol : ℕ → Args → Walk (List ExprValue) → Option Symbol → Walk ExprValue
+callSymbol name args resolved none = subpiece name args
+callSymbol name args resolved (some y) =
+    if isSymbol SymbolKind.UserOp y then resolved >>= callUserOp (y .id) else
+    if isSymbol SymbolKind.Macro y then refuse macroInExpression else
+    subpiece name args
+
+unfoldable pub callInbuilt : Inbuilt → Args → Walk (List Value) → Walk ExprValue
+callInbuilt f args values = do
+  require (eqb (argCount args) (f .arguments)) argumentCount
+  vs ← values
+  pure (ExprValue.Apply (f .op) 0 vs)
+
+-- The built-in spellings come before any symbol. The arguments are given as written, as values and as resolved only.
+unfoldable pub callNamed : ℕ → Args → Walk (List Value) → Walk (List ExprValue) → Option Inbuilt → Walk ExprValue
+callNamed name args values resolved (some f) = callInbuilt f args values
+callNamed name args values resolved none = lookup name >>= callSymbol name args resolved
+
+unfoldable pub resolveCall : ℕ → Args → Walk (List Value) → Walk (List ExprValue) → Walk ExprValue
+resolveCall name args values resolved = do
+  sec ← section
+  callNamed name args values resolved (translateInbuiltFunc (getD (sec .names) name []))
+
+unfoldable mutual
+  pub resolveExpr : PcodeExpr → Walk ExprValue
+  resolveExpr (PcodeExpr.Ident n) = resolveIdent n
+  resolveExpr (PcodeExpr.Integer v) = pure (ExprValue.Const v none)
+  resolveExpr (PcodeExpr.AddressOf size n) = do
+    x ← resolveIdent n
+    base ← expect addressOfNonLocal (asLocal x)
+    pure (ExprValue.AddressOf base size)
+  resolveExpr (PcodeExpr.Truncate x size) = resolveExpr x >>= sliceBits 0 (8 * size)
+  resolveExpr (PcodeExpr.SliceBits x from bits) = resolveExpr x >>= sliceBits from bits
+  resolveExpr (PcodeExpr.Op a o b) = resolveOp (translatePcodeOp o) (valueOf (resolveExpr a)) (valueOf (resolveExpr b))
+  resolveExpr (PcodeExpr.Deref space size pointer) = resolveAddress space size (resolveExpr pointer)
+  resolveExpr (PcodeExpr.ConstantPoolRef args) = refuse constantPool
+  resolveExpr (PcodeExpr.Call name args) = resolveCall name args (resolveArgValues args) (resolveArgs args)
+
+  pub resolveArgs : Args → Walk (List ExprValue)
+  resolveArgs noArgs = pure []
+  resolveArgs (arg x xs) = do
+    v ← resolveExpr x
+    vs ← resolveArgs xs
+    pure (v ∷ vs)
+
+  -- `resolve_inbuilt`: each argument is read before the next is resolved
+  pub resolveArgValues : Args → Walk (List Value)
+  resolveArgValues noArgs = pure []
+  resolveArgValues (arg x xs) = do
+    v ← valueOf (resolveExpr x)
+    vs ← resolveArgValues xs
+    pure (v ∷ vs)
+
+unfoldable pub expressions-opens : Unit {0}
+unfolding scope-opens spellings-opens copyTo setStated takeKnown takeStated byteAligned shiftAndMask readSlice readValue readAll sliceRead sliceBits asLocal spaceKind resolveSpace inConstSpace reference isName addressIn resolveAddress translatePcodeOp binary resolveOp passArgs callUserOp argCount asInteger onlyInteger subpiece callSymbol callInbuilt callNamed resolveCall resolveExpr
+expressions-opens = tt

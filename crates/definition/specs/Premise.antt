@@ -1,0 +1,77 @@
+-- THE PREMISE of demand 3. It fails exactly where the forward pass, at some action, sizes an unsized temporary that an
+-- operation with a rule, nearer the list's start, has as an operand at any offset.
+use Prim.Native.Nat.{ℕ}
+use mathlib.Core.Bool.{Bool, true, false, _&&_, not}
+use mathlib.Core.List.{List, [], _∷_, _++_}
+use mathlib.Core.Option.{Option, none, some}
+use lib.ListN.{getElem?}
+use Rattle.definition.specs.Base.{if_then_else_, andThen, isSome}
+use Rattle.definition.specs.Value.{Kind, Value, isKind, SemanticAction, operationOf, Temporary}
+use Rattle.definition.specs.Ast.{Section}
+use Rattle.definition.specs.SectionFile.{Parsed, parsed, refused, read}
+use Rattle.definition.specs.Sizes.{Sizing, Step, stepsOf, updateOperandSizes, backwardPass}
+use Rattle.definition.specs.Walk.{Outcome, done, stopped, Walk, _>>=_, _>>_, pure, section, state, sizing}
+use Rattle.definition.specs.End.{resolveStatements, atStart}
+use Rattle.definition.specs.ActionList.{roomFor, action-list-opens}
+
+unfoldable pub filter : {A : Type 0} → (A → Bool) → List A → List A
+filter p [] = []
+filter p (x ∷ xs) = if p x then x ∷ filter p xs else filter p xs
+
+unfoldable pub temporariesAmong : List Value → List ℕ
+temporariesAmong [] = []
+temporariesAmong (v ∷ vs) = if isKind Kind.PcodeTmp v then v .number ∷ temporariesAmong vs else temporariesAmong vs
+
+unfoldable pub operands : Option Value → List Value → List Value
+operands none inputs = inputs
+operands (some v) inputs = v ∷ inputs
+
+unfoldable pub underRule : List Step → SemanticAction → List ℕ
+underRule [] a = []
+underRule (x ∷ xs) a = temporariesAmong (operands (a .output) (a .inputs))
+
+-- the temporaries that an operation with a rule has as operands
+unfoldable pub ruled : SemanticAction → List ℕ
+ruled a = underRule (stepsOf (operationOf (a .kind))) a
+
+unfoldable pub isSizedIn : Sizing → ℕ → Bool
+isSizedIn s i = isSome (andThen (getElem? (s .temporaries) i) λ (t : Temporary). t .size)
+
+-- The forward pass: the temporaries that it sizes too late. Before stand those of the operations nearer the start.
+unfoldable pub sizedLate : Section → List ℕ → List SemanticAction → Sizing → List ℕ
+sizedLate sec before [] s = []
+sizedLate sec before (a ∷ rest) s =
+    let t : Sizing = (updateOperandSizes sec true a s) .1 in
+    filter (λ i. not (isSizedIn s i) && isSizedIn t i) before ++ sizedLate sec (ruled a ++ before) rest t
+
+unfoldable pub sizedLateWalk : Walk (List ℕ)
+sizedLateWalk = do
+  resolveStatements
+  sec ← section
+  s ← state
+  back ← sizing λ sec. backwardPass sec (s .actions)
+  t ← state
+  pure (sizedLate sec [] back (t .sizing))
+
+unfoldable pub walked : Outcome (List ℕ) → List ℕ
+walked (done late s) = late
+walked (stopped r ordinal errors) = []
+
+unfoldable pub lateIn : ℕ → ℕ → Parsed Section → List ℕ
+lateIn la lt (parsed sec rest) = walked (sizedLateWalk (roomFor sec la lt) (atStart sec))
+lateIn la lt (refused r) = []
+
+-- where the premise fails: at these temporaries
+unfoldable pub premiseFailures : List ℕ → ℕ → ℕ → List ℕ
+premiseFailures file la lt = lateIn la lt (read file)
+
+unfoldable pub none? : List ℕ → Bool
+none? [] = true
+none? (x ∷ xs) = false
+
+unfoldable pub premise : List ℕ → ℕ → ℕ → Bool
+premise file la lt = none? (premiseFailures file la lt)
+
+unfoldable pub premise-opens : Unit {0}
+unfolding action-list-opens filter temporariesAmong operands underRule ruled isSizedIn sizedLate sizedLateWalk walked lateIn premiseFailures none? premise
+premise-opens = tt
