@@ -15,6 +15,11 @@ use Rattle.definition.specs.Walk.{State, Env, Outcome, stopped, Walk, _>
 use Rattle.definition.specs.Scope.{sectionScope}
 use Rattle.definition.specs.Statements.{ordinalAfter, resolveBody, statements-opens}
 
+-- 51 has the first error's ordinal and the count
+unfoldable pub noErrors : List (Option ℕ) → Walk (Unit {0})
+noErrors [] = pure tt
+noErrors (ordinal ∷ rest) = λ e s. stopped errorsRecorded ordinal (suc (length rest))
+
 -- part of each input, from a byte on
 unfoldable pub slicedInputs : ℕ → ℕ → List Value → Walk (List Value)
 slicedInputs more size [] = pure []
@@ -66,11 +71,6 @@ implicitBuilds actions i (suc n) =
     let rest = implicitBuilds actions (suc i) n in
     if any (builds i) actions then rest else record { kind = ActionKind.Build; number = i; inputs = []; output = none } ∷ rest
 
--- 51 has the first error's ordinal and the count
-unfoldable pub noErrors : List (Option ℕ) → Walk (Unit {0})
-noErrors [] = pure tt
-noErrors (ordinal ∷ rest) = λ e s. stopped errorsRecorded ordinal (suc (length rest))
-
 pub record Semantics : Type 0 where
   pub actions : List SemanticAction
   pub export : Option Export
@@ -109,5 +109,5 @@ atStart sec = record {
 }
 
 unfoldable pub end-opens : Unit {0}
-unfolding statements-opens slicedInputs subpieceCopy finishOp finishActions finishExport isBuild builds implicitBuilds noErrors finish resolveStatements resolveSection atStart
+unfolding statements-opens noErrors slicedInputs subpieceCopy finishOp finishActions finishExport isBuild builds implicitBuilds finish resolveStatements resolveSection atStart
 end-opens = tt
