@@ -1,0 +1,1 @@
+// The guarantee: theorems in specs/ about the definition. There is no code.
