@@ -1,0 +1,18 @@
+use borrow.Author.Needs.{needs}
+use Rattle.cells.proofs.u16_at.Statement.{statement}
+use Rattle.cells.proofs.u16_at.Tie as tie
+use Rattle.cells.proofs.u16_at.Reads as reads
+use Rattle.cells.proofs.u16_at.Lts as lts
+use Rattle.cells.proofs.pair.Reads as pair-reads
+use native.Mathlib.Nat.{add-zero}
+
+-- src/lib.rt:41:5
+pair-requires : tie.Need-pair-requires
+pair-requires c κs = search needs
+
+-- src/lib.rt:38:1
+returns : tie.Need-returns
+returns c = rw add-zero at (c .pair .ensures)
+
+pub u16-at-spec : {M : Type 1} → statement M
+u16-at-spec = tie.close (tie.spec pair-requires returns)

@@ -1,0 +1,31 @@
+use borrow.Author.Needs.{needs}
+use Rattle.cells.proofs.u64_at.Statement.{statement}
+use Rattle.cells.proofs.u64_at.Tie as tie
+use Rattle.cells.proofs.u64_at.Reads as reads
+use Rattle.cells.proofs.u64_at.Lts as lts
+use Rattle.cells.proofs.quad.Reads as quad-reads
+use native.Mathlib.Omega.{arith}
+use Rattle.cells.proofs.Laws.{whole-law}
+
+-- src/lib.rt:53:5
+quad-requires : tie.Need-quad-requires
+quad-requires c κs = search needs
+
+-- src/lib.rt:53:35
+quad-requires-2 : tie.Need-quad-requires-2
+quad-requires-2 c κs = search needs
+
+-- src/lib.rt:53:22
+mul-result : tie.Need-mul-result
+mul-result c = search needs
+
+-- src/lib.rt:53:5
+add-result : tie.Need-add-result
+add-result c = search needs
+
+-- src/lib.rt:50:1
+returns : tie.Need-returns
+returns c = whole-law _ _ _ _ (c .before .quad .ensures) (c .quad2 .ensures)
+
+pub u64-at-spec : {M : Type 1} → statement M
+u64-at-spec = tie.close (tie.spec quad-requires quad-requires-2 mul-result add-result returns)

@@ -1,0 +1,51 @@
+use borrow.Author.Needs.{needs}
+use Rattle.section.proofs.read_stream.Statement.{statement}
+use Rattle.section.proofs.read_stream.Tie as tie
+use Rattle.section.proofs.read_stream.Reads as reads
+use Rattle.section.proofs.read_stream.Lts as lts
+use Rattle.cells.proofs.u16_at.Reads as u16-at-reads
+use Rattle.section.proofs.header.header.Reads as header-reads
+use Rattle.section.proofs.lists.lists.Reads as lists-reads
+use Rattle.section.proofs.names.names.Reads as names-reads
+use Rattle.section.proofs.own_statements.Reads as own-statements-reads
+use Rattle.section.proofs.ListLaws.{list-laws}
+
+-- src/lib.rt:60:9
+header-requires : tie.Need-header-requires
+header-requires c κs = search (list-laws, needs)
+
+-- src/lib.rt:62:9
+returns : tie.Need-returns
+returns c = search (list-laws, needs)
+
+-- src/lib.rt:64:26
+u16-at-requires : tie.Need-u16-at-requires
+u16-at-requires c κs = search (list-laws, needs)
+
+-- src/lib.rt:64:9
+names-requires : tie.Need-names-requires
+names-requires c κs = search (list-laws, needs)
+
+-- src/lib.rt:65:9
+lists-requires : tie.Need-lists-requires
+lists-requires c κs = search (list-laws, needs)
+
+-- src/lib.rt:66:9
+own-statements-requires : tie.Need-own-statements-requires
+own-statements-requires c κs = search (list-laws, needs)
+
+-- src/lib.rt:57:1
+returns-2 : tie.Need-returns-2
+returns-2 c = search (list-laws, needs)
+
+pub read-stream-spec : {M : Type 1} → statement M
+read-stream-spec =
+    tie.close
+    (tie.spec
+    header-requires
+    returns
+    u16-at-requires
+    names-requires
+    lists-requires
+    own-statements-requires
+    returns-2)

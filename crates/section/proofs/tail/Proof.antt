@@ -1,0 +1,65 @@
+use Rattle.section.proofs.tail.Statement.{statement}
+use Rattle.section.proofs.tail.Tie as tie
+use Rattle.section.proofs.tail.Reads as reads
+use Rattle.section.proofs.tail.Lts as lts
+use Rattle.section.proofs.cursor.refuse.Reads as refuse-reads
+use borrow.Author.Needs.{needs}
+use native.Mathlib.Omega.{arith}
+use Prim.Native.Nat.{_-_}
+use mathlib.Core.Path.{_≡_, refl}
+use lib.ListN.{length}
+use Rattle.section.specs.Stream.{zeros}
+use Rattle.section.proofs.ListLaws.{zeros-found, zeros-more, zeros-end, tail-found, tail-end}
+
+abbrev Inv-loop : tie.InvT-loop
+Inv-loop s c i₀ i = zeros (length s - i) i s ≡ zeros (length s - c .at) (c .at) s
+
+abbrev μ-loop : tie.MeasureT-loop
+μ-loop s c i₀ i = length s - i
+
+-- src/lib.rt:38:5
+loop-holds : tie.Need-loop-holds Inv-loop μ-loop
+loop-holds c = refl
+
+-- src/lib.rt:39:12
+shared-slice-read-if1 : tie.Need-shared-slice-read-if1 Inv-loop μ-loop
+shared-slice-read-if1 c = search needs
+
+-- src/lib.rt:40:13
+refuse-requires : tie.Need-refuse-requires Inv-loop μ-loop
+refuse-requires c κs = search needs
+
+-- src/lib.rt:40:13
+returns : tie.Need-returns Inv-loop μ-loop
+returns c = tail-found _ _ _ (zeros-found (c .before .before .before .before .before .before .args .s .now) _ _ (c .before .before .before .loop-test .taken) (c .before .if1 .taken) (c .before .before .before .before .loop .inv)) (c .refuse .ensures)
+
+-- src/lib.rt:42:9
+add-i : tie.Need-add-i Inv-loop μ-loop
+add-i c = search needs
+
+-- src/lib.rt:38:5
+loop-less : tie.Need-loop-less Inv-loop μ-loop
+loop-less c = search needs
+
+-- src/lib.rt:38:5
+loop-again : tie.Need-loop-again Inv-loop μ-loop
+loop-again c = zeros-more (c .before .before .before .before .before .args .s .now) _ _ (c .before .before .loop-test .taken) (c .if1 .left) (c .before .before .before .loop .inv)
+
+-- src/lib.rt:34:1
+returns-2 : tie.Need-returns-2 Inv-loop μ-loop
+returns-2 c = tail-end _ _ (zeros-end (c .before .before .before .args .s .now) _ _ (c .loop-test .left) (c .before .loop .inv))
+
+pub tail-spec : {M : Type 1} → statement M
+tail-spec =
+    tie.close
+    (tie.spec
+    Inv-loop
+    μ-loop
+    loop-holds
+    shared-slice-read-if1
+    refuse-requires
+    returns
+    add-i
+    loop-less
+    loop-again
+    returns-2)

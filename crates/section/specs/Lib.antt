@@ -1,0 +1,11 @@
+-- The words: for each function of the code, what it computes on the very bytes and positions that it has.
+pub mod Cursors
+pub mod Expressions
+pub mod Statements
+pub mod Names
+pub mod Headers
+pub mod Lists
+pub mod Stream
+pub mod Blocks
+pub mod Inbuilts
+pub mod Holds

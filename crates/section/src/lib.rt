@@ -1,0 +1,68 @@
+// The section file: `blocks::check_blocks` finds refusals 1 and 2, `blocks::join` joins the payloads of a file of more than
+// one block, and `read_stream` reads the stream strictly in sequence: refusals 3 to 6, and a table of all that a later walk
+// needs. The table is 3,344 numbers:
+//   n            where the length byte of name n stands in the stream
+//   1024 + name  0, or 1 + kind + 8 × index of the global of that name: kind 0 space, 1 register, 2 bit range, 3 table,
+//                4 user op, 5 macro, 6 other symbol
+//   2048 + name  0, or 1 + 2 × i for field i, 2 + 2 × i for subtable i
+//   3072 + i     where the parameter count of macro i stands in the stream
+//   3200 + i     the first ordinal of macro i's body
+//   3328 + k     where list k begins: spaces, registers, bit ranges, tables, user ops, macros, other symbols, fields,
+//                subtables, statements
+//   3338         the first ordinal of the section's own statements
+// The header stays in the stream, at its fixed offsets.
+use cursor::Cursor;
+use cursor::refuse;
+use header::header;
+use lists::lists;
+use names::low;
+use names::names;
+use statements::body;
+ghost use mathlib.Core.Path.{_≡_};
+ghost use Rattle.section.specs.Stream.{tail, statements, answer, readStream};
+ghost use Rattle.section.specs.Names.{reading};
+
+pub mod blocks;
+pub mod cursor;
+pub mod expressions;
+pub mod header;
+pub mod inbuilt;
+pub mod lists;
+pub mod names;
+pub mod statements;
+
+// The stream after the cursor is zero.
+fn tail(s: &[u8], c: Cursor) -> Cursor
+    ensures { λ r. ⌜ r ≡ tail (now (s .entry)) c ⌝ }
+{
+    let mut i = c.at;
+    while i < s.len() {
+        if s[i] != 0 {
+            return refuse(3, c);
+        }
+        i += 1;
+    }
+    c
+}
+
+// The section's own statements, and the end.
+fn own_statements(s: &[u8], c: Cursor, t: &mut [u16]) -> Cursor
+    ensures { λ r. ⌜ reading r (now (t .exit)) ≡ statements (now (s .entry)) (reading c (now (t .entry))) ⌝ }
+{
+    cells::put_u16(t, 3337, low(c.at));
+    tail(s, body(s, cells::u16_at(s, 2), cells::u16_at(s, 22), c))
+}
+
+// The refusal of a stream, or 0, and the table.
+pub fn read_stream(s: &[u8], t: &mut [u16; 3344]) -> u64
+    ensures { λ r. ⌜ answer r (now (t .exit)) ≡ readStream (now (s .entry)) (now (t .entry)) ⌝ }
+{
+    let h = header(s);
+    if h.bad != 0 {
+        return h.bad;
+    }
+    let named = names(s, cells::u16_at(s, 2) as usize, h, t);
+    let listed = lists(s, named, t);
+    let end = own_statements(s, listed, t);
+    end.bad
+}
