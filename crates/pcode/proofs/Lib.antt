@@ -1,0 +1,7 @@
+pub mod LoopLaws
+pub mod ValueLaws
+pub mod SizeLaws
+pub mod RuleLaws
+pub mod PushLaws
+mod PassLaws
+mod EndLaws

@@ -1,0 +1,8 @@
+-- The words: for each function of the code, what it computes on the very lists and positions that it has.
+pub mod Base
+pub mod Values
+pub mod Sizes
+pub mod Rules
+pub mod Pushes
+pub mod Passes
+pub mod End

@@ -1,0 +1,352 @@
+// Known sizes, and setting one: in the operand, in its temporary, or as a recorded error. In all of these s is the stream, t
+// the section's table, a the actions and m the temporaries.
+use crate::value::Value;
+use crate::value::put_size;
+use crate::value::value_at;
+ghost use mathlib.Core.Path.{_≡_};
+ghost use Prim.Native.Nat.{_<_};
+ghost use Rattle.pcode.specs.Base.{listed};
+ghost use Rattle.pcode.specs.Sizes.{sized, entry, listSize, exportSizeOf, tmpSize, sizeOfLocal, sizeOf, sizeAt, error, sizeTemporary, settled, setOperand, setTwo, setThree, fallsBack, pairFallback, setSizeOfPair, tripleFallsBack, tripleFallback, shareSize, allEqual, setSizeOfTriple, setUnsized};
+
+// The ordinal of the statement begun last, the errors recorded and the first one's ordinal.
+pub struct Sizing {
+    pub begun: u64,
+    pub errors: u64,
+    pub first: u64,
+}
+
+// A position so many bytes into list k.
+pub fn entry(t: &[u16], k: usize, bytes: u64) -> usize
+    ensures { λ r. ⌜ r ≡ entry (now (t .entry)) k bytes ⌝ }
+{
+    cells::get_u16(t, 3328 + k % 16) as usize + (bytes % 1048576) as usize
+}
+
+// The size of entry i of list k, whose entries are a name and a size.
+fn list_size(s: &[u8], t: &[u16], k: usize, i: u64) -> u64
+    ensures { λ r. ⌜ r ≡ listSize (now (s .entry)) (now (t .entry)) k i ⌝ }
+{
+    cells::u16_at(s, entry(t, k, i % 65536 * 4 + 2))
+}
+
+// The size of a subtable's table export.
+fn export_size(s: &[u8], t: &[u16], i: u64) -> u64
+    ensures { λ r. ⌜ r ≡ exportSizeOf (now (s .entry)) (now (t .entry)) i ⌝ }
+{
+    list_size(s, t, 3, list_size(s, t, 8, i))
+}
+
+fn tmp_size(m: &[u64], i: u64) -> u64
+    ensures { λ r. ⌜ r ≡ tmpSize (now (m .entry)) i ⌝ }
+{
+    cells::get(m, i as usize) / 65536 % 65536
+}
+
+// The size of a register, table export, field or temporary.
+fn size_of_local(s: &[u8], t: &[u16], m: &[u64], kind: u64, number: u64) -> u64
+    ensures { λ r. ⌜ r ≡ sizeOfLocal (now (s .entry)) (now (t .entry)) (now (m .entry)) kind number ⌝ }
+{
+    match kind {
+        2 => list_size(s, t, 1, number),
+        3 => list_size(s, t, 7, number),
+        4 => export_size(s, t, number),
+        5 => export_size(s, t, number),
+        6 => tmp_size(m, number),
+        _ => 65535,
+    }
+}
+
+// The known size, 65,535 for none.
+pub fn size_of(s: &[u8], t: &[u16], m: &[u64], v: Value) -> u64
+    ensures { λ r. ⌜ r ≡ sizeOf (now (s .entry)) (now (t .entry)) (now (m .entry)) v ⌝ }
+{
+    if v.size != 65535 {
+        return v.size;
+    }
+    size_of_local(s, t, m, v.kind, v.number)
+}
+
+fn size_at(s: &[u8], t: &[u16], a: &[u64], m: &[u64], at: usize, i: usize) -> u64
+    requires { ⌜ i < 32 ⌝ }
+    ensures { λ r. ⌜ r ≡ sizeAt (now (s .entry)) (now (t .entry)) (now (a .entry)) (now (m .entry)) at i ⌝ }
+{
+    size_of(s, t, m, value_at(a, at, i))
+}
+
+pub fn error(z: Sizing) -> Sizing
+    ensures { λ r. ⌜ r ≡ error z ⌝ }
+{
+    if z.errors == 0 {
+        return Sizing {
+            begun: z.begun,
+            errors: 1,
+            first: z.begun,
+        };
+    }
+    Sizing {
+        begun: z.begun,
+        errors: std::num::wrapping_add_u64(z.errors, 1),
+        first: z.first,
+    }
+}
+
+fn size_temporary(m: &mut [u64], v: Value, size: u64)
+    ensures { λ _. ⌜ now (m .exit) ≡ sizeTemporary (now (m .entry)) v size ⌝ }
+{
+    if v.kind != 6 {
+        return;
+    }
+    let i = v.number as usize;
+    let w = cells::get(m, i);
+    cells::put(
+        m,
+        i,
+        w % 65536 + size % 65536 * 65536 + w / 4294967296 * 4294967296,
+    );
+}
+
+// A size set on a value whose known size was that one.
+pub fn settle(m: &mut [u64], v: Value, known: u64, size: u64, z: Sizing) -> Sizing
+    ensures { λ r. ⌜ listed r (now (m .exit)) ≡ settled (now (m .entry)) v known size z ⌝ }
+{
+    if known == 65535 {
+        size_temporary(m, v, size);
+        return z;
+    }
+    if known == size {
+        return z;
+    }
+    if v.kind == 4 {
+        return z;
+    }
+    error(z)
+}
+
+// Sets the size of the operand i after a position.
+pub fn set_operand(
+    s: &[u8],
+    t: &[u16],
+    a: &mut [u64],
+    m: &mut [u64],
+    at: usize,
+    i: usize,
+    size: u64,
+    z: Sizing,
+) -> Sizing
+    requires { ⌜ i < 32 ⌝ }
+    ensures { λ r. ⌜ sized r (now (a .exit)) (now (m .exit)) ≡ setOperand (now (s .entry)) (now (t .entry)) (now (a .entry)) (now (m .entry)) at i size z ⌝ }
+{
+    let v = value_at(a, at, i);
+    let known = size_of(s, t, m, v);
+    put_size(a, at, i, size);
+    settle(m, v, known, size, z)
+}
+
+fn set_two(
+    s: &[u8],
+    t: &[u16],
+    a: &mut [u64],
+    m: &mut [u64],
+    at: usize,
+    i: usize,
+    j: usize,
+    size: u64,
+    z: Sizing,
+) -> Sizing
+    requires { ⌜ (i < 32) × (j < 32) ⌝ }
+    ensures { λ r. ⌜ sized r (now (a .exit)) (now (m .exit)) ≡ setTwo (now (s .entry)) (now (t .entry)) (now (a .entry)) (now (m .entry)) at i j size z ⌝ }
+{
+    let y = set_operand(s, t, a, m, at, i, size, z);
+    set_operand(s, t, a, m, at, j, size, y)
+}
+
+pub fn set_three(
+    s: &[u8],
+    t: &[u16],
+    a: &mut [u64],
+    m: &mut [u64],
+    at: usize,
+    size: u64,
+    z: Sizing,
+) -> Sizing
+    ensures { λ r. ⌜ sized r (now (a .exit)) (now (m .exit)) ≡ setThree (now (s .entry)) (now (t .entry)) (now (a .entry)) (now (m .entry)) at size z ⌝ }
+{
+    let y = set_two(s, t, a, m, at, 6, 8, size, z);
+    set_operand(s, t, a, m, at, 4, size, y)
+}
+
+// Whether a value falls back to pointer size: InstStart, InstNext, a field or a constant.
+pub fn falls_back(v: Value) -> bool
+    ensures { λ r. ⌜ r ≡ fallsBack v ⌝ }
+{
+    let kind = v.kind;
+    match kind {
+        0 => true,
+        1 => true,
+        3 => true,
+        7 => true,
+        _ => false,
+    }
+}
+
+fn pair_fallback(
+    s: &[u8],
+    t: &[u16],
+    fallback: bool,
+    a: &mut [u64],
+    m: &mut [u64],
+    at: usize,
+    i: usize,
+    j: usize,
+    ptr: u64,
+    z: Sizing,
+) -> Sizing
+    requires { ⌜ (i < 32) × (j < 32) ⌝ }
+    ensures { λ r. ⌜ sized r (now (a .exit)) (now (m .exit)) ≡ pairFallback (now (s .entry)) (now (t .entry)) fallback (now (a .entry)) (now (m .entry)) at i j ptr z ⌝ }
+{
+    if fallback {
+        if falls_back(value_at(a, at, i)) {
+            return set_two(s, t, a, m, at, i, j, ptr, z);
+        }
+        if falls_back(value_at(a, at, j)) {
+            return set_two(s, t, a, m, at, i, j, ptr, z);
+        }
+    }
+    z
+}
+
+// Two operands have one size.
+pub fn set_size_of_pair(
+    s: &[u8],
+    t: &[u16],
+    fallback: bool,
+    a: &mut [u64],
+    m: &mut [u64],
+    at: usize,
+    i: usize,
+    j: usize,
+    ptr: u64,
+    z: Sizing,
+) -> Sizing
+    requires { ⌜ (i < 32) × (j < 32) ⌝ }
+    ensures { λ r. ⌜ sized r (now (a .exit)) (now (m .exit)) ≡ setSizeOfPair (now (s .entry)) (now (t .entry)) fallback (now (a .entry)) (now (m .entry)) at i j ptr z ⌝ }
+{
+    let x = size_at(s, t, a, m, at, i);
+    let y = size_at(s, t, a, m, at, j);
+    if x == 65535 {
+        if y == 65535 {
+            return pair_fallback(s, t, fallback, a, m, at, i, j, ptr, z);
+        }
+        return set_operand(s, t, a, m, at, i, y, z);
+    }
+    if x == y {
+        return z;
+    }
+    set_operand(s, t, a, m, at, j, x, z)
+}
+
+fn triple_falls_back(a: &[u64], at: usize) -> bool
+    ensures { λ r. ⌜ r ≡ tripleFallsBack (now (a .entry)) at ⌝ }
+{
+    if falls_back(value_at(a, at, 6)) {
+        return true;
+    }
+    if falls_back(value_at(a, at, 8)) {
+        return true;
+    }
+    falls_back(value_at(a, at, 4))
+}
+
+fn triple_fallback(
+    s: &[u8],
+    t: &[u16],
+    fallback: bool,
+    a: &mut [u64],
+    m: &mut [u64],
+    at: usize,
+    ptr: u64,
+    z: Sizing,
+) -> Sizing
+    ensures { λ r. ⌜ sized r (now (a .exit)) (now (m .exit)) ≡ tripleFallback (now (s .entry)) (now (t .entry)) fallback (now (a .entry)) (now (m .entry)) at ptr z ⌝ }
+{
+    if fallback {
+        if triple_falls_back(a, at) {
+            return set_three(s, t, a, m, at, ptr, z);
+        }
+    }
+    z
+}
+
+// The other two take the size of the first known one.
+fn share_size(
+    s: &[u8],
+    t: &[u16],
+    a: &mut [u64],
+    m: &mut [u64],
+    at: usize,
+    x: u64,
+    y: u64,
+    w: u64,
+    z: Sizing,
+) -> Sizing
+    ensures { λ r. ⌜ sized r (now (a .exit)) (now (m .exit)) ≡ shareSize (now (s .entry)) (now (t .entry)) (now (a .entry)) (now (m .entry)) at x y w z ⌝ }
+{
+    if x != 65535 {
+        return set_two(s, t, a, m, at, 8, 4, x, z);
+    }
+    if y != 65535 {
+        return set_two(s, t, a, m, at, 6, 4, y, z);
+    }
+    set_two(s, t, a, m, at, 6, 8, w, z)
+}
+
+fn all_equal(x: u64, y: u64, w: u64) -> bool
+    ensures { λ r. ⌜ r ≡ allEqual x y w ⌝ }
+{
+    if x == y { y == w } else { false }
+}
+
+// Both inputs and the output have one size.
+pub fn set_size_of_triple(
+    s: &[u8],
+    t: &[u16],
+    fallback: bool,
+    a: &mut [u64],
+    m: &mut [u64],
+    at: usize,
+    ptr: u64,
+    z: Sizing,
+) -> Sizing
+    ensures { λ r. ⌜ sized r (now (a .exit)) (now (m .exit)) ≡ setSizeOfTriple (now (s .entry)) (now (t .entry)) fallback (now (a .entry)) (now (m .entry)) at ptr z ⌝ }
+{
+    let x = size_at(s, t, a, m, at, 6);
+    let y = size_at(s, t, a, m, at, 8);
+    let w = size_at(s, t, a, m, at, 4);
+    if all_equal(x, y, w) {
+        if x == 65535 {
+            return triple_fallback(s, t, fallback, a, m, at, ptr, z);
+        }
+        return z;
+    }
+    share_size(s, t, a, m, at, x, y, w, z)
+}
+
+// An operand with no known size takes pointer size.
+pub fn set_unsized(
+    s: &[u8],
+    t: &[u16],
+    a: &mut [u64],
+    m: &mut [u64],
+    at: usize,
+    i: usize,
+    ptr: u64,
+    z: Sizing,
+) -> Sizing
+    requires { ⌜ i < 32 ⌝ }
+    ensures { λ r. ⌜ sized r (now (a .exit)) (now (m .exit)) ≡ setUnsized (now (s .entry)) (now (t .entry)) (now (a .entry)) (now (m .entry)) at i ptr z ⌝ }
+{
+    if size_at(s, t, a, m, at, i) == 65535 {
+        return set_operand(s, t, a, m, at, i, ptr, z);
+    }
+    z
+}
