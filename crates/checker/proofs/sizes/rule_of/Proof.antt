@@ -1,0 +1,111 @@
+use Rattle.checker.proofs.sizes.rule_of.Statement.{statement}
+use Rattle.checker.proofs.sizes.rule_of.Tie as tie
+use Rattle.checker.proofs.sizes.rule_of.Reads as reads
+use Rattle.checker.proofs.sizes.rule_of.Lts as lts
+use Rattle.checker.proofs.FitLaws.{rule-laws}
+use borrow.Author.Needs.{needs}
+
+-- src/sizes.rt:25:1
+returns : tie.Need-returns
+returns c = search (rule-laws, needs)
+
+-- src/sizes.rt:25:1
+returns-2 : tie.Need-returns-2
+returns-2 c = search (rule-laws, needs)
+
+-- src/sizes.rt:25:1
+returns-3 : tie.Need-returns-3
+returns-3 c = search (rule-laws, needs)
+
+-- src/sizes.rt:25:1
+returns-4 : tie.Need-returns-4
+returns-4 c = search (rule-laws, needs)
+
+-- src/sizes.rt:25:1
+returns-5 : tie.Need-returns-5
+returns-5 c = search (rule-laws, needs)
+
+-- src/sizes.rt:25:1
+returns-6 : tie.Need-returns-6
+returns-6 c = search (rule-laws, needs)
+
+-- src/sizes.rt:25:1
+returns-7 : tie.Need-returns-7
+returns-7 c = search (rule-laws, needs)
+
+-- src/sizes.rt:25:1
+returns-8 : tie.Need-returns-8
+returns-8 c = search (rule-laws, needs)
+
+-- src/sizes.rt:25:1
+returns-9 : tie.Need-returns-9
+returns-9 c = search (rule-laws, needs)
+
+-- src/sizes.rt:25:1
+returns-10 : tie.Need-returns-10
+returns-10 c = search (rule-laws, needs)
+
+-- src/sizes.rt:25:1
+returns-11 : tie.Need-returns-11
+returns-11 c = search (rule-laws, needs)
+
+-- src/sizes.rt:25:1
+returns-12 : tie.Need-returns-12
+returns-12 c = search (rule-laws, needs)
+
+-- src/sizes.rt:25:1
+returns-13 : tie.Need-returns-13
+returns-13 c = search (rule-laws, needs)
+
+-- src/sizes.rt:25:1
+returns-14 : tie.Need-returns-14
+returns-14 c = search (rule-laws, needs)
+
+-- src/sizes.rt:25:1
+returns-15 : tie.Need-returns-15
+returns-15 c = search (rule-laws, needs)
+
+-- src/sizes.rt:25:1
+returns-16 : tie.Need-returns-16
+returns-16 c = search (rule-laws, needs)
+
+-- src/sizes.rt:25:1
+returns-17 : tie.Need-returns-17
+returns-17 c = search (rule-laws, needs)
+
+-- src/sizes.rt:25:1
+returns-18 : tie.Need-returns-18
+returns-18 c = search (rule-laws, needs)
+
+-- src/sizes.rt:25:1
+returns-19 : tie.Need-returns-19
+returns-19 c = search (rule-laws, needs)
+
+-- src/sizes.rt:25:1
+returns-20 : tie.Need-returns-20
+returns-20 c = search (rule-laws, needs)
+
+pub rule-of-spec : {M : Type 1} → statement M
+rule-of-spec =
+    tie.close
+    (tie.spec
+    returns
+    returns-2
+    returns-3
+    returns-4
+    returns-5
+    returns-6
+    returns-7
+    returns-8
+    returns-9
+    returns-10
+    returns-11
+    returns-12
+    returns-13
+    returns-14
+    returns-15
+    returns-16
+    returns-17
+    returns-18
+    returns-19
+    returns-20)

@@ -1,0 +1,4 @@
+pub mod Layout
+pub mod Sizes
+pub mod Marks
+pub mod Sweep
