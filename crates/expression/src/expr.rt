@@ -1,0 +1,444 @@
+// Expressions, resolved by a walk over their prefix code: each part one level deeper.
+use crate::address::resolve_address;
+use crate::args::Args;
+use crate::args::put_arg;
+use crate::calls::applied;
+use crate::calls::call_user_op;
+use crate::calls::callee_of;
+use crate::calls::subpiece;
+use crate::read::read_operand;
+use crate::scope::ExprValue;
+use crate::scope::Meaning;
+use crate::scope::resolve_ident;
+use crate::scope::u16_in;
+use crate::slices::slice_bits;
+use pcode::push::Env;
+use pcode::push::Read;
+use pcode::push::State;
+use pcode::value::Value;
+use pcode::value::absent;
+use section::cursor::Cursor;
+ghost use mathlib.Core.Path.{_≡_};
+ghost use Rattle.expression.specs.Answers.{after, resolved, operand, passed};
+ghost use Rattle.expression.specs.Expressions.{valueThen, meansAt, localAddress, addressOf, atom, operationOf, later, skipExpr, operandsOf, apply1, apply2, partAt, withPart, exprValue, part, resolveOp, callInbuilt, resolveArgs, userOp, resolveCall, resolveExpr};
+
+pub enum Expr {
+    Value {
+        x: ExprValue,
+        next: usize,
+        st: State,
+    },
+    No(u64),
+}
+
+pub enum Operand {
+    Value { v: Value, next: usize, st: State },
+    No(u64),
+}
+
+// Where the operands of an operator stand, in the order in which they are resolved.
+pub struct Order {
+    pub op: u64,
+    pub first: usize,
+    pub second: usize,
+}
+
+// A position so many bytes on; a stream has fewer than 65,536.
+pub fn after(pos: usize, n: usize) -> usize
+    ensures { λ r. ⌜ r ≡ after pos n ⌝ }
+{
+    if pos < 65536 {
+        if n < 65536 {
+            return pos + n;
+        }
+    }
+    pos
+}
+
+fn value_then(r: Read, next: usize) -> Operand
+    ensures { λ x. ⌜ x ≡ valueThen next r ⌝ }
+{
+    match r {
+        Read::No(n) => Operand::No(n),
+        Read::Value { v, st } => Operand::Value { v, next, st },
+    }
+}
+
+fn means_at(r: Meaning, next: usize, st: State) -> Expr
+    ensures { λ x. ⌜ x ≡ meansAt r next st ⌝ }
+{
+    match r {
+        Meaning::Wrong(n) => Expr::No(n),
+        Meaning::Means(x) => Expr::Value { x, next, st },
+    }
+}
+
+fn local_address(x: ExprValue, size: u64, next: usize, st: State) -> Expr
+    ensures { λ r. ⌜ r ≡ localAddress x size next st ⌝ }
+{
+    match x {
+        ExprValue::Local(v) => Expr::Value {
+            x: ExprValue::AddressOf { base: v, size },
+            next,
+            st,
+        },
+        _ => Expr::No(30),
+    }
+}
+
+fn address_of(s: &[u8], t: &[u16], p: &[u64], m: &[u64], pos: usize, e: Env, st: State) -> Expr
+    ensures { λ r. ⌜ r ≡ addressOf (now (s .entry)) (now (t .entry)) (now (p .entry)) (now (m .entry)) pos e st ⌝ }
+{
+    match resolve_ident(s, t, p, m, e, st, u16_in(s, pos, 3)) {
+        Meaning::Wrong(n) => Expr::No(n),
+        Meaning::Means(x) => local_address(x, u16_in(s, pos, 1), after(pos, 5), st),
+    }
+}
+
+// A name, an integer or the address of a local.
+fn atom(code: u64, s: &[u8], t: &[u16], p: &[u64], m: &[u64], pos: usize, e: Env, st: State) -> Expr
+    ensures { λ r. ⌜ r ≡ atom code (now (s .entry)) (now (t .entry)) (now (p .entry)) (now (m .entry)) pos e st ⌝ }
+{
+    match code {
+        0 => means_at(
+            resolve_ident(s, t, p, m, e, st, u16_in(s, pos, 1)),
+            after(pos, 3),
+            st,
+        ),
+        1 => Expr::Value {
+            x: ExprValue::Const {
+                value: cells::u64_at(s, after(pos, 1)),
+                size: 65535,
+            },
+            next: after(pos, 9),
+            st,
+        },
+        _ => address_of(s, t, p, m, pos, e, st),
+    }
+}
+
+// The operation of an operator: the six greater ones are the lesser ones swapped.
+fn operation_of(code: u64) -> u64
+    ensures { λ r. ⌜ r ≡ operationOf code ⌝ }
+{
+    match code {
+        33 => 12,
+        34 => 13,
+        35 => 10,
+        36 => 11,
+        37 => 20,
+        38 => 21,
+        _ => code,
+    }
+}
+
+fn later(x: usize, y: usize) -> usize
+    ensures { λ r. ⌜ r ≡ later x y ⌝ }
+{
+    if x < y { y } else { x }
+}
+
+// Where the expression at a position ends.
+pub fn skip_expr(s: &[u8], pos: usize) -> usize
+    ensures { λ r. ⌜ r ≡ skipExpr (now (s .entry)) pos ⌝ }
+{
+    let c = section::expressions::expr(
+        32,
+        s,
+        cells::u16_at(s, 2),
+        Cursor {
+            at: pos,
+            bad: 0,
+            val: 0,
+        },
+    );
+    c.at
+}
+
+// The six greater operators swap their operands before either is resolved.
+fn operands_of(s: &[u8], pos: usize) -> Order
+    ensures { λ r. ⌜ r ≡ operandsOf (now (s .entry)) pos ⌝ }
+{
+    let first = after(pos, 1);
+    let middle = skip_expr(s, first);
+    let code = cells::byte(s, middle, 0);
+    let second = after(middle, 1);
+    if code < 33 {
+        return Order {
+            op: code,
+            first,
+            second,
+        };
+    }
+    Order {
+        op: operation_of(code),
+        first: second,
+        second: first,
+    }
+}
+
+fn apply1(op: u64, r: Operand) -> Expr
+    ensures { λ x. ⌜ x ≡ apply1 op r ⌝ }
+{
+    match r {
+        Operand::No(n) => Expr::No(n),
+        Operand::Value { v, next, st } => applied(op, 0, 1, v, absent(), next, st),
+    }
+}
+
+// A second operand, after a first that ends at a position.
+fn apply2(op: u64, v: Value, end: usize, r: Operand) -> Expr
+    ensures { λ x. ⌜ x ≡ apply2 op v end r ⌝ }
+{
+    match r {
+        Operand::No(n) => Expr::No(n),
+        Operand::Value { v: w, next, st } => applied(op, 0, 2, v, w, later(end, next), st),
+    }
+}
+
+// Where the part of a truncation, a slice or a dereference stands, after its code.
+fn part_at(code: u64) -> usize
+    ensures { λ r. ⌜ r ≡ partAt code ⌝ }
+{
+    if code == 6 { 5 } else { 1 }
+}
+
+// A truncation, a slice or a dereference of a part that is resolved.
+fn with_part(
+    code: u64,
+    s: &[u8],
+    t: &[u16],
+    a: &mut [u64],
+    m: &mut [u64],
+    pos: usize,
+    e: Env,
+    x: ExprValue,
+    next: usize,
+    st: State,
+) -> Expr
+    ensures { λ r. ⌜ resolved r (now (a .exit)) (now (m .exit)) ≡ withPart code (now (s .entry)) (now (t .entry)) (now (a .entry)) (now (m .entry)) pos e x next st ⌝ }
+{
+    match code {
+        3 => {
+            let bits = 8 * u16_in(s, next, 0);
+            slice_bits(s, t, a, m, e, x, 0, bits, after(next, 2), st)
+        }
+        4 => {
+            let from = u16_in(s, next, 0);
+            let bits = u16_in(s, next, 2);
+            slice_bits(s, t, a, m, e, x, from, bits, after(next, 4), st)
+        }
+        _ => {
+            let space = u16_in(s, pos, 1);
+            let size = u16_in(s, pos, 3);
+            resolve_address(s, t, a, m, e, space, size, x, next, st)
+        }
+    }
+}
+
+// An expression resolved, then read.
+pub fn expr_value(
+    deep: u64,
+    s: &[u8],
+    t: &[u16],
+    p: &[u64],
+    pos: usize,
+    e: Env,
+    a: &mut [u64],
+    m: &mut [u64],
+    st: State,
+) -> Operand
+    ensures { λ r. ⌜ operand r (now (a .exit)) (now (m .exit)) ≡ exprValue (resolveExpr deep (now (s .entry)) (now (t .entry)) (now (p .entry)) e) (now (s .entry)) (now (t .entry)) e pos (now (a .entry)) (now (m .entry)) st ⌝ }
+{
+    match resolve_expr(deep, s, t, p, pos, e, a, m, st) {
+        Expr::No(n) => Operand::No(n),
+        Expr::Value { x, next, st: st1 } => value_then(read_operand(s, t, a, m, e, x, st1), next),
+    }
+}
+
+// What has one part: a truncation, a slice or a dereference.
+fn part(
+    deep: u64,
+    code: u64,
+    s: &[u8],
+    t: &[u16],
+    p: &[u64],
+    pos: usize,
+    e: Env,
+    a: &mut [u64],
+    m: &mut [u64],
+    st: State,
+) -> Expr
+    ensures { λ r. ⌜ resolved r (now (a .exit)) (now (m .exit)) ≡ part (resolveExpr deep (now (s .entry)) (now (t .entry)) (now (p .entry)) e) code (now (s .entry)) (now (t .entry)) e pos (now (a .entry)) (now (m .entry)) st ⌝ }
+{
+    match resolve_expr(deep, s, t, p, after(pos, part_at(code)), e, a, m, st) {
+        Expr::No(n) => Expr::No(n),
+        Expr::Value { x, next, st: st1 } => with_part(code, s, t, a, m, pos, e, x, next, st1),
+    }
+}
+
+fn resolve_op(
+    deep: u64,
+    s: &[u8],
+    t: &[u16],
+    p: &[u64],
+    pos: usize,
+    e: Env,
+    a: &mut [u64],
+    m: &mut [u64],
+    st: State,
+) -> Expr
+    ensures { λ r. ⌜ resolved r (now (a .exit)) (now (m .exit)) ≡ resolveOp (resolveExpr deep (now (s .entry)) (now (t .entry)) (now (p .entry)) e) (now (s .entry)) (now (t .entry)) e pos (now (a .entry)) (now (m .entry)) st ⌝ }
+{
+    let o = operands_of(s, pos);
+    match expr_value(deep, s, t, p, o.first, e, a, m, st) {
+        Operand::No(n) => Expr::No(n),
+        Operand::Value { v, next, st: st1 } => apply2(
+            o.op,
+            v,
+            next,
+            expr_value(deep, s, t, p, o.second, e, a, m, st1),
+        ),
+    }
+}
+
+// A built-in function: each argument is read before the next is resolved.
+fn call_inbuilt(
+    deep: u64,
+    s: &[u8],
+    t: &[u16],
+    p: &[u64],
+    pos: usize,
+    op: u64,
+    count: u64,
+    e: Env,
+    a: &mut [u64],
+    m: &mut [u64],
+    st: State,
+) -> Expr
+    ensures { λ r. ⌜ resolved r (now (a .exit)) (now (m .exit)) ≡ callInbuilt (resolveExpr deep (now (s .entry)) (now (t .entry)) (now (p .entry)) e) (now (s .entry)) (now (t .entry)) e pos op count (now (a .entry)) (now (m .entry)) st ⌝ }
+{
+    let first = expr_value(deep, s, t, p, after(pos, 4), e, a, m, st);
+    if count != 2 {
+        return apply1(op, first);
+    }
+    match first {
+        Operand::No(n) => Expr::No(n),
+        Operand::Value { v, next, st: st1 } => apply2(
+            op,
+            v,
+            0,
+            expr_value(deep, s, t, p, next, e, a, m, st1),
+        ),
+    }
+}
+
+// n arguments, resolved only, into the slots of `args`.
+pub fn resolve_args(
+    deep: u64,
+    s: &[u8],
+    t: &[u16],
+    p: &[u64],
+    pos: usize,
+    n: u64,
+    e: Env,
+    a: &mut [u64],
+    m: &mut [u64],
+    args: &mut [u64],
+    st: State,
+) -> Args
+    ensures { λ r. ⌜ passed r (now (a .exit)) (now (m .exit)) (now (args .exit)) ≡ resolveArgs (resolveExpr deep (now (s .entry)) (now (t .entry)) (now (p .entry)) e) n 0 pos (now (a .entry)) (now (m .entry)) (now (args .entry)) st ⌝ }
+{
+    let mut at = pos;
+    let mut st = st;
+    for i in 0..n {
+        match resolve_expr(deep, s, t, p, at, e, a, m, st) {
+            Expr::No(k) => return Args::No(k),
+            Expr::Value { x, next, st: st1 } => {
+                put_arg(args, i, x);
+                at = next;
+                st = st1;
+            }
+        }
+    }
+    Args::Done { next: at, st }
+}
+
+fn user_op(
+    deep: u64,
+    s: &[u8],
+    t: &[u16],
+    p: &[u64],
+    pos: usize,
+    id: u64,
+    n: u64,
+    e: Env,
+    a: &mut [u64],
+    m: &mut [u64],
+    st: State,
+) -> Expr
+    ensures { λ r. ⌜ resolved r (now (a .exit)) (now (m .exit)) ≡ userOp (resolveExpr deep (now (s .entry)) (now (t .entry)) (now (p .entry)) e) (now (s .entry)) (now (t .entry)) e pos id n (now (a .entry)) (now (m .entry)) st ⌝ }
+{
+    let mut args = [0u64; 64];
+    match resolve_args(deep, s, t, p, after(pos, 4), n, e, a, m, &mut args, st) {
+        Args::No(k) => Expr::No(k),
+        Args::Done { next, st: st1 } => call_user_op(s, t, a, m, &args, n, id, next, e, st1),
+    }
+}
+
+fn resolve_call(
+    deep: u64,
+    s: &[u8],
+    t: &[u16],
+    p: &[u64],
+    pos: usize,
+    e: Env,
+    a: &mut [u64],
+    m: &mut [u64],
+    st: State,
+) -> Expr
+    ensures { λ r. ⌜ resolved r (now (a .exit)) (now (m .exit)) ≡ resolveCall (resolveExpr deep (now (s .entry)) (now (t .entry)) (now (p .entry)) e) (now (s .entry)) (now (t .entry)) (now (p .entry)) e pos (now (a .entry)) (now (m .entry)) st ⌝ }
+{
+    let name = u16_in(s, pos, 1);
+    let n = cells::byte(s, pos, 3);
+    let c = callee_of(s, t, name, n);
+    let kind = c.kind;
+    match kind {
+        0 => call_inbuilt(deep, s, t, p, pos, c.number, n, e, a, m, st),
+        1 => user_op(deep, s, t, p, pos, c.number, n, e, a, m, st),
+        2 => Expr::No(c.number),
+        _ => subpiece(s, t, p, a, m, pos, name, n, e, st),
+    }
+}
+
+pub fn resolve_expr(
+    deep: u64,
+    s: &[u8],
+    t: &[u16],
+    p: &[u64],
+    pos: usize,
+    e: Env,
+    a: &mut [u64],
+    m: &mut [u64],
+    st: State,
+) -> Expr
+    ensures { λ r. ⌜ resolved r (now (a .exit)) (now (m .exit)) ≡ resolveExpr deep (now (s .entry)) (now (t .entry)) (now (p .entry)) e pos (now (a .entry)) (now (m .entry)) st ⌝ }
+{
+    if deep == 0 {
+        return Expr::No(4);
+    }
+    let code = cells::byte(s, pos, 0);
+    if code < 3 {
+        return atom(code, s, t, p, m, pos, e, st);
+    }
+    if code == 5 {
+        return resolve_op(deep - 1, s, t, p, pos, e, a, m, st);
+    }
+    if code < 7 {
+        return part(deep - 1, code, s, t, p, pos, e, a, m, st);
+    }
+    if code == 7 {
+        return Expr::No(32);
+    }
+    resolve_call(deep - 1, s, t, p, pos, e, a, m, st)
+}

@@ -1,0 +1,6 @@
+mod LabelLaws
+mod BranchLaws
+mod SimpleLaws
+mod CopyLaws
+mod CallLaws
+mod StatementLaws

@@ -1,0 +1,185 @@
+-- One law for each way out of the statements and macro bodies.
+use mathlib.Core.Path.{_≡_, refl, sym, _∙_, ap}
+use mathlib.Core.List.{List}
+use Prim.Native.Nat.{ℕ, suc, _+_, _-_, _*_, _%_, _^_, _≤_, _<_}
+use native.Mathlib.Omega.{arith}
+use lib.ListN.{getD, replicate}
+use borrow.Author.Tests.{eq-eqb, ne-eqb, le-leb, lt-leb}
+use Rattle.cells.specs.Le.{le16}
+use Rattle.pcode.specs.declared.push.State.{State}
+use Rattle.pcode.specs.declared.push.Env.{Env}
+use Rattle.pcode.specs.Base.{if_then_else_, listed, thenL}
+use Rattle.expression.proofs.scope.ExprValue as exprValue
+use Rattle.expression.specs.declared.args.Args.{Args}
+use Rattle.expression.specs.Answers.{passed, onArgs, after}
+use Rattle.semantics.specs.declared.statements.Walk.{Walk}
+use Rattle.semantics.specs.declared.statements.Step.{Step}
+use Rattle.semantics.specs.declared.calls.Called.{Called}
+use Rattle.semantics.specs.Walks.{stepped, Walked, walked, besideP, onStep, stop}
+use Rattle.semantics.specs.Branches.{branch, condBranch, labelStatement}
+use Rattle.semantics.specs.Simple.{unimplemented, exportStatement, localStatement, localAssignment, build}
+use Rattle.semantics.specs.Stores.{storeStatement}
+use Rattle.semantics.specs.Copies.{copyStatement}
+use Rattle.semantics.specs.Calls.{calledOf, otherCall, bindParams, macroAt, macroArgs}
+use Rattle.semantics.specs.Statements.{simple, otherStatement, begun, begin, entered, returned, returnedTo, paramsAt, macroEnv, bodyAt, firstOrdinal, Enter, macroStatement, callNamed, callStatement, statementBy, statementBegun, resolveStatement, Statement, resolveAll, macroBody, enterMacro, resolveBody}
+
+module _ (code : ℕ) (s t p a m : List ℕ) (e : Env) (pos : ℕ) (w : Walk) (z : Step) where
+  pub code-unimplemented : (a1 m1 : List ℕ) → code ≡ 0 → stepped z a1 m1 ≡ unimplemented s t a m e pos w → stepped z a1 m1 ≡ simple code s t p a m e pos w
+  unfolding simple if_then_else_
+  code-unimplemented a1 m1 q h = rw q h
+
+  pub code-export : (a1 m1 : List ℕ) → code ≡ 1 → stepped z a1 m1 ≡ exportStatement s t p a m e pos w → stepped z a1 m1 ≡ simple code s t p a m e pos w
+  unfolding simple if_then_else_
+  code-export a1 m1 q h = rw q h
+
+  pub code-local : (m1 : List ℕ) → code ≡ 2 → listed z m1 ≡ localStatement s t m e pos w → stepped z a m1 ≡ simple code s t p a m e pos w
+  unfolding simple if_then_else_ thenL
+  code-local m1 q h = rw (q, ← h)
+
+  pub code-assignment : (a1 m1 : List ℕ) → code ≡ 3 → stepped z a1 m1 ≡ localAssignment s t p a m e pos w → stepped z a1 m1 ≡ simple code s t p a m e pos w
+  unfolding simple if_then_else_
+  code-assignment a1 m1 q h = rw q h
+
+  pub code-build : (a1 : List ℕ) → code ≡ 4 → listed z a1 ≡ build s t a pos w → stepped z a1 m ≡ simple code s t p a m e pos w
+  unfolding simple if_then_else_ thenL
+  code-build a1 q h = rw (q, ← h)
+
+  pub code-copy : (a1 m1 : List ℕ) → code ≡ 5 → stepped z a1 m1 ≡ copyStatement s t p a m e pos w → stepped z a1 m1 ≡ simple code s t p a m e pos w
+  unfolding simple if_then_else_
+  code-copy a1 m1 q h = rw q h
+
+  pub code-store : (a1 m1 : List ℕ) → (code ≡ 0 → ⊥) → (code ≡ 1 → ⊥) → (code ≡ 2 → ⊥) → (code ≡ 3 → ⊥) → (code ≡ 4 → ⊥) → (code ≡ 5 → ⊥) → stepped z a1 m1 ≡ storeStatement s t p a m e pos w →
+      stepped z a1 m1 ≡ simple code s t p a m e pos w
+  unfolding simple if_then_else_
+  code-store a1 m1 n0 n1 n2 n3 n4 n5 h = rw (ne-eqb code 0 n0, ne-eqb code 1 n1, ne-eqb code 2 n2, ne-eqb code 3 n3, ne-eqb code 4 n4, ne-eqb code 5 n5) h
+
+  pub code-branch : (p1 a1 m1 : List ℕ) → code ≡ 8 → walked z p1 a1 m1 ≡ branch s t p a m e pos w → walked z p1 a1 m1 ≡ otherStatement code s t p a m e pos w
+  unfolding otherStatement if_then_else_
+  code-branch p1 a1 m1 q h = rw q h
+
+  pub code-cond : (p1 a1 m1 : List ℕ) → code ≡ 9 → walked z p1 a1 m1 ≡ condBranch s t p a m e pos w → walked z p1 a1 m1 ≡ otherStatement code s t p a m e pos w
+  unfolding otherStatement if_then_else_
+  code-cond p1 a1 m1 q h = rw q h
+
+  pub code-label : (p1 a1 m1 : List ℕ) → code ≡ 10 → walked z p1 a1 m1 ≡ labelStatement s t p a m e pos w → walked z p1 a1 m1 ≡ otherStatement code s t p a m e pos w
+  unfolding otherStatement if_then_else_
+  code-label p1 a1 m1 q h = rw q h
+
+  pub code-simple : (a1 m1 : List ℕ) → (code ≡ 8 → ⊥) → (code ≡ 9 → ⊥) → (code ≡ 10 → ⊥) → stepped z a1 m1 ≡ simple code s t p a m e pos w → walked z p a1 m1 ≡ otherStatement code s t p a m e pos w
+  unfolding otherStatement if_then_else_ besideP
+  code-simple a1 m1 n8 n9 n10 h = rw (ne-eqb code 8 n8, ne-eqb code 9 n9, ne-eqb code 10 n10, ← h)
+
+-- ---- a statement begins
+pub begin-exported : (ordinal : ℕ) (w : Walk) → (w .export .kind ≡ 0 → ⊥) → Step.Stop 20 ordinal ≡ begin ordinal w
+unfolding begin if_then_else_
+begin-exported ordinal w h = rw (ne-eqb (w .export .kind) 0 h)
+
+pub begin-many : (ordinal : ℕ) (w : Walk) → w .export .kind ≡ 0 → 4096 ≤ w .statements → Step.Stop 10 ordinal ≡ begin ordinal w
+unfolding begin if_then_else_
+begin-many ordinal w h k = rw (eq-eqb (w .export .kind) 0 h, le-leb 4096 (w .statements) k)
+
+pub begin-next : (ordinal : ℕ) (w u : Walk) → w .export .kind ≡ 0 → w .statements < 4096 → u ≡ begun ordinal (w .statements + 1) w → Step.Next 0 u ≡ begin ordinal w
+unfolding begin if_then_else_
+begin-next ordinal w u h k q = rw (eq-eqb (w .export .kind) 0 h, lt-leb 4096 (w .statements) k, q)
+
+pub returned-stop : (next : ℕ) (r : Step) (refusal ordinal : ℕ) → r ≡ Step.Stop refusal ordinal → Step.Stop refusal ordinal ≡ returned next r
+unfolding returned
+returned-stop next r refusal ordinal q = rw q
+
+pub returned-next : (next : ℕ) (r : Step) (end : ℕ) (w : Walk) → r ≡ Step.Next end w → Step.Next next w ≡ returned next r
+unfolding returned
+returned-next next r end w q = rw q
+
+pub params-law : (deep : ℕ) → (17 - deep % 17) * 64 ≡ paramsAt deep
+unfolding paramsAt
+params-law deep = refl
+
+pub body-at-law : (at n r : ℕ) → r ≡ after at (1 + 2 * (n % 16)) → r ≡ bodyAt at n
+unfolding bodyAt
+body-at-law at n r h = h
+
+pub first-law : (t : List ℕ) (id r : ℕ) → r ≡ getD t (3200 + id % 128) 0 → r ≡ firstOrdinal t id
+unfolding firstOrdinal
+first-law t id r h = h
+
+-- ---- macros
+module _ (deep : ℕ) (s t p a m : List ℕ) (e : Env) (id : ℕ) (args : List ℕ) (n next : ℕ) (st : State) (w : Walk) where
+  pub enter-deep : (z : Step) → deep ≡ 0 → z ≡ stop 11 w → walked z p a m ≡ enterMacro deep s t p a m e id args n next st w
+  unfolding enterMacro
+  enter-deep z q h = rw (q, h)
+
+  entering : (deep ≡ 0 → ⊥) → enterMacro deep s t p a m e id args n next st w ≡ returnedTo next (macroBody (enterMacro (deep - 1) s t) deep s t (macroAt t id) (bindParams n s p (paramsAt deep) args (after (macroAt t id) 1)) a m e id n st w)
+  unfolding enterMacro
+  entering nz = let h : deep ≡ suc (deep - 1) = omega arith in
+      let g : enterMacro (suc (deep - 1)) s t p a m e id args n next st w ≡ returnedTo next (macroBody (enterMacro (deep - 1) s t) (suc (deep - 1)) s t (macroAt t id) (bindParams n s p (paramsAt (suc (deep - 1))) args (after (macroAt t id) 1)) a m e id n st w) = refl in
+      ap (λ d. enterMacro d s t p a m e id args n next st w) h ∙ (g ∙ ap (λ d. returnedTo next (macroBody (enterMacro (deep - 1) s t) d s t (macroAt t id) (bindParams n s p (paramsAt d) args (after (macroAt t id) 1)) a m e id n st w)) (sym h))
+
+  pub enter-body : (at params names : ℕ) (p1 : List ℕ) (scope start count first here : ℕ) (inner : Env) (v : Walk) (r : Step) (p2 a2 m2 : List ℕ) (z : Step) → (deep ≡ 0 → ⊥) → at ≡ macroAt t id → params ≡ paramsAt deep → names ≡ after at 1 →
+      p1 ≡ bindParams n s p params args names → scope ≡ (w .scopes + 1) % 2 ^ 64 → start ≡ bodyAt at n → (count ≡ le16 s (start + 0)) × (count < 65536) → inner ≡ macroEnv scope params n e → first ≡ firstOrdinal t id →
+      here ≡ after start 2 → v ≡ entered st scope w → walked r p2 a2 m2 ≡ resolveBody (deep - 1) s t p1 a m inner here count first v → z ≡ returned next r →
+      walked z p2 a2 m2 ≡ enterMacro deep s t p a m e id args n next st w
+  unfolding macroBody resolveBody returnedTo
+  enter-body at params names p1 scope start count first here inner v r p2 a2 m2 z nz e1 e2 e3 e4 e5 e6 e7 e8 e9 e10 e11 f h =
+      let g : walked r p2 a2 m2 ≡ resolveBody (deep - 1) s t p1 a m (macroEnv scope params n e) here count first (entered st scope w) = rw (e8, e11) at f in
+      rw (entering nz, ← e1, ← e2, ← e3, ← e4, ← e5, ← e6, ← e7 .0, ← e9, ← e10, ← g, h)
+
+module _ (enter : Enter) (s t p a m : List ℕ) (e : Env) (pos id n : ℕ) (w : Walk) (r : Args) (a1 m1 args : List ℕ) (f : passed r a1 m1 args ≡ macroArgs s t p a m (replicate 64 0) e pos id n (w .st)) where
+  pub macro-stop : (k : ℕ) (z : Step) → r ≡ Args.No k → z ≡ stop k w → walked z p a1 m1 ≡ macroStatement enter s t p a m e pos id n w
+  unfolding macroStatement onArgs
+  macro-stop k z q h = rw (← f, q, h)
+
+  pub macro-next : (next : ℕ) (st : State) (z : Step) (p2 a2 m2 : List ℕ) → r ≡ Args.Done next st → walked z p2 a2 m2 ≡ enter p a1 m1 e id args n next st w → walked z p2 a2 m2 ≡ macroStatement enter s t p a m e pos id n w
+  unfolding macroStatement onArgs
+  macro-next next st z p2 a2 m2 q h = rw (← f, q) h
+
+module _ (enter : Enter) (s t p a m : List ℕ) (e : Env) (pos : ℕ) (w : Walk) (n name : ℕ) (c : Called) (en : (n ≡ getD s (pos + 3) 0) × (n < 256)) (ea : (name ≡ le16 s (pos + 1)) × (name < 65536)) (ec : c ≡ calledOf s t name) (z : Step) where
+  pub call-macro : (p1 a1 m1 : List ℕ) → c .kind ≡ 2 → walked z p1 a1 m1 ≡ macroStatement enter s t p a m e pos (c .number) n w → walked z p1 a1 m1 ≡ callStatement enter s t p a m e pos w
+  unfolding callStatement callNamed if_then_else_
+  call-macro p1 a1 m1 q h = rw (← ea .0, ← ec, eq-eqb (c .kind) 2 q, ← en .0) h
+
+  pub call-other : (a1 m1 : List ℕ) → (c .kind ≡ 2 → ⊥) → stepped z a1 m1 ≡ otherCall c s t p a m e pos n w → walked z p a1 m1 ≡ callStatement enter s t p a m e pos w
+  unfolding callStatement callNamed if_then_else_ besideP
+  call-other a1 m1 q h = rw (← ea .0, ← ec, ne-eqb (c .kind) 2 q, ← en .0, ← h)
+
+module _ (enter : Enter) (s t : List ℕ) (e : Env) (pos ordinal : ℕ) (p a m : List ℕ) (w : Walk) (r : Step) (f : r ≡ begin ordinal w) where
+  pub statement-stop : (refusal o : ℕ) → r ≡ Step.Stop refusal o → walked (Step.Stop refusal o) p a m ≡ resolveStatement enter s t e pos ordinal p a m w
+  unfolding resolveStatement statementBegun
+  statement-stop refusal o q = rw (← f, q)
+
+  module _ (next : ℕ) (b : Walk) (q : r ≡ Step.Next next b) (code : ℕ) (ec : (code ≡ getD s (pos + 0) 0) × (code < 256)) (z : Step) (p1 a1 m1 : List ℕ) where
+    pub statement-call : code ≡ 7 → walked z p1 a1 m1 ≡ callStatement enter s t p a m e pos b → walked z p1 a1 m1 ≡ resolveStatement enter s t e pos ordinal p a m w
+    unfolding resolveStatement statementBegun statementBy if_then_else_
+    statement-call k h = rw (← f, q, ← ec .0, eq-eqb code 7 k) h
+
+    pub statement-other : (code ≡ 7 → ⊥) → walked z p1 a1 m1 ≡ otherStatement code s t p a m e pos b → walked z p1 a1 m1 ≡ resolveStatement enter s t e pos ordinal p a m w
+    unfolding resolveStatement statementBegun statementBy if_then_else_
+    statement-other k h = rw (← f, q, ← ec .0, ne-eqb code 7 k) h
+
+-- ---- bodies; what is left to resolve gives the whole, B
+pub body-start : (deep : ℕ) (s t p a m : List ℕ) (e : Env) (pos n ordinal : ℕ) (w : Walk) → resolveAll (resolveStatement (enterMacro deep s t) s t e) (n - 0) 0 ordinal pos p a m w ≡ resolveBody deep s t p a m e pos n ordinal w
+unfolding resolveBody
+body-start deep s t p a m e pos n ordinal w = let z : n - 0 ≡ n = omega arith in rw z
+
+module _ (resolve : Statement) (n i ordinal pos : ℕ) (p a m : List ℕ) (w : Walk) (B : Walked) (inv : resolveAll resolve (n - i) i ordinal pos p a m w ≡ B) where
+  pub body-end : n ≤ i → walked (Step.Next pos w) p a m ≡ B
+  unfolding resolveAll
+  body-end h = let z : n - i ≡ 0 = omega arith in rw z at inv
+
+  module _ (h : i < n) (o : ℕ) (eo : o ≡ (ordinal + i) % 2 ^ 64) (r : Step) (p1 a1 m1 : List ℕ) (f : walked r p1 a1 m1 ≡ resolve pos o p a m w) where
+    turn : onStep (walked r p1 a1 m1) (λ next w1 q b u. resolveAll resolve (n - (i + 1)) (suc i) ordinal next q b u w1) ≡ B
+    unfolding resolveAll
+    turn = let z : n - i ≡ suc (n - (i + 1)) = omega arith in rw (f, eo) (rw z at inv)
+
+    pub body-stop : (refusal k : ℕ) → r ≡ Step.Stop refusal k → walked (Step.Stop refusal k) p1 a1 m1 ≡ B
+    unfolding onStep
+    body-stop refusal k q = rw q at turn
+
+    pub body-next : (next : ℕ) (w1 : Walk) → r ≡ Step.Next next w1 → resolveAll resolve (n - (i + 1)) (i + 1) ordinal next p1 a1 m1 w1 ≡ B
+    unfolding onStep
+    body-next next w1 q = let o1 : i + 1 ≡ suc i = omega arith in rw o1 (rw (q, o1) at turn)
+
+pub ruleset code-laws = (code-unimplemented, code-export, code-local, code-assignment, code-build, code-copy, code-store, code-branch, code-cond, code-label, code-simple)
+
+pub ruleset begin-laws = (begin-exported, begin-many, begin-next, returned-stop, returned-next, params-law, body-at-law, first-law)
+
+pub ruleset statement-laws = (enter-deep, enter-body, macro-stop, macro-next, call-macro, call-other, statement-stop, statement-call, statement-other, body-start, body-end, body-stop, body-next)

@@ -1,0 +1,263 @@
+// Calls that enter no macro: the delay slot and user ops; and what a macro call is given.
+use crate::statements::Step;
+use crate::statements::Walk;
+use crate::walk::pushed_then;
+use crate::walk::stop;
+use expression::args::Args;
+use expression::args::arg_at;
+use expression::calls::only_integer;
+use expression::expr::after;
+use expression::expr::resolve_args;
+use expression::read::read_operand;
+use expression::scope::Slot;
+use expression::scope::global;
+use expression::scope::param_place;
+use expression::scope::put_slot;
+use expression::scope::slot_at;
+use expression::scope::u16_in;
+use pcode::push::Env;
+use pcode::push::Pushed;
+use pcode::push::Read;
+use pcode::push::State;
+use pcode::push::push;
+use pcode::value::absent;
+use pcode::value::no_output;
+use pcode::value::put;
+use pcode::value::put_value;
+use pcode::value::value_at;
+ghost use mathlib.Core.Path.{_≡_};
+ghost use Rattle.pcode.specs.Base.{listed};
+ghost use Rattle.expression.specs.Answers.{passed};
+ghost use Rattle.semantics.specs.Walks.{stepped};
+ghost use Rattle.semantics.specs.Calls.{symbolOf, calledOf, delaySlot, argsRead, readArgs, writeInputs, pushUserOp, userOpArgs, userOpStatement, otherCall, bindParam, bindParams, macroAt, counted, macroArgs};
+
+// What a call statement calls: 0 the delay slot, 1 a user op, 2 a macro, 3 a refusal.
+pub struct Called {
+    pub kind: u64,
+    pub number: u64,
+}
+
+fn symbol_of(g: u64) -> Called
+    ensures { λ r. ⌜ r ≡ symbolOf g ⌝ }
+{
+    if g == 0 {
+        return Called {
+            kind: 3,
+            number: 22,
+        };
+    }
+    if (g - 1) % 8 == 4 {
+        return Called {
+            kind: 1,
+            number: (g - 1) / 8,
+        };
+    }
+    if (g - 1) % 8 == 5 {
+        return Called {
+            kind: 2,
+            number: (g - 1) / 8,
+        };
+    }
+    Called {
+        kind: 3,
+        number: 23,
+    }
+}
+
+pub fn called_of(s: &[u8], t: &[u16], name: u64) -> Called
+    ensures { λ r. ⌜ r ≡ calledOf (now (s .entry)) (now (t .entry)) name ⌝ }
+{
+    if name == cells::u16_at(s, 32) {
+        return Called { kind: 0, number: 0 };
+    }
+    symbol_of(global(t, name))
+}
+
+fn delay_slot(s: &[u8], a: &mut [u64], pos: usize, n: u64, w: Walk) -> Step
+    ensures { λ r. ⌜ listed r (now (a .exit)) ≡ delaySlot (now (s .entry)) (now (a .entry)) pos n w ⌝ }
+{
+    if only_integer(s, pos, n) == 1 {
+        return pushed_then(
+            push(a, 4, 0, 0, 0, absent(), absent(), absent(), w.st),
+            after(pos, 13),
+            w,
+        );
+    }
+    stop(w, 25)
+}
+
+// Reads n arguments in place: each slot's value becomes an operand.
+fn read_args(
+    s: &[u8],
+    t: &[u16],
+    a: &mut [u64],
+    m: &mut [u64],
+    args: &mut [u64],
+    n: u64,
+    e: Env,
+    st: State,
+) -> Pushed
+    ensures { λ r. ⌜ argsRead r (now (a .exit)) (now (m .exit)) (now (args .exit)) ≡ readArgs n 0 (now (s .entry)) (now (t .entry)) (now (a .entry)) (now (m .entry)) (now (args .entry)) e st ⌝ }
+{
+    let mut st = st;
+    for i in 0..n {
+        match read_operand(s, t, a, m, e, arg_at(args, i), st) {
+            Read::No(k) => return Pushed::No(k),
+            Read::Value { v, st: st1 } => {
+                put_value(args, param_place(0, i as usize), 4, v);
+                st = st1;
+            }
+        }
+    }
+    Pushed::Done(st)
+}
+
+// The operands that n arguments became, as the inputs of the action at a position.
+fn write_inputs(a: &mut [u64], at: usize, args: &[u64], n: u64)
+    ensures { λ _. ⌜ now (a .exit) ≡ writeInputs n (now (a .entry)) at (now (args .entry)) ⌝ }
+{
+    for i in 0..n {
+        let v = value_at(args, param_place(0, i as usize), 4);
+        put_value(a, at, 6 + 2 * (i % 8) as usize, v);
+    }
+}
+
+fn push_user_op(a: &mut [u64], args: &[u64], id: u64, n: u64, st: State) -> Pushed
+    ensures { λ r. ⌜ listed r (now (a .exit)) ≡ pushUserOp (now (a .entry)) (now (args .entry)) id n st ⌝ }
+{
+    match push(a, 0, 63, id, n, no_output(), absent(), absent(), st) {
+        Pushed::No(k) => Pushed::No(k),
+        Pushed::Done(st1) => {
+            write_inputs(a, st.end, args, n);
+            Pushed::Done(st1)
+        }
+    }
+}
+
+fn user_op_args(
+    s: &[u8],
+    t: &[u16],
+    a: &mut [u64],
+    m: &mut [u64],
+    args: &mut [u64],
+    id: u64,
+    n: u64,
+    e: Env,
+    st: State,
+) -> Pushed
+    ensures { λ r. ⌜ argsRead r (now (a .exit)) (now (m .exit)) (now (args .exit)) ≡ userOpArgs (now (s .entry)) (now (t .entry)) (now (a .entry)) (now (m .entry)) (now (args .entry)) id n e st ⌝ }
+{
+    match read_args(s, t, a, m, args, n, e, st) {
+        Pushed::No(k) => Pushed::No(k),
+        Pushed::Done(st1) => push_user_op(a, args, id, n, st1),
+    }
+}
+
+fn user_op_statement(
+    s: &[u8],
+    t: &[u16],
+    p: &[u64],
+    a: &mut [u64],
+    m: &mut [u64],
+    e: Env,
+    pos: usize,
+    id: u64,
+    n: u64,
+    w: Walk,
+) -> Step
+    ensures { λ r. ⌜ stepped r (now (a .exit)) (now (m .exit)) ≡ userOpStatement (now (s .entry)) (now (t .entry)) (now (p .entry)) (now (a .entry)) (now (m .entry)) e pos id n w ⌝ }
+{
+    let mut args = [0u64; 64];
+    match resolve_args(32, s, t, p, after(pos, 4), n, e, a, m, &mut args, w.st) {
+        Args::No(k) => stop(w, k),
+        Args::Done { next, st } => pushed_then(
+            user_op_args(s, t, a, m, &mut args, id, n, e, st),
+            next,
+            w,
+        ),
+    }
+}
+
+// A call of what is no macro.
+pub fn other_call(
+    c: Called,
+    s: &[u8],
+    t: &[u16],
+    p: &[u64],
+    a: &mut [u64],
+    m: &mut [u64],
+    e: Env,
+    pos: usize,
+    n: u64,
+    w: Walk,
+) -> Step
+    ensures { λ r. ⌜ stepped r (now (a .exit)) (now (m .exit)) ≡ otherCall c (now (s .entry)) (now (t .entry)) (now (p .entry)) (now (a .entry)) (now (m .entry)) e pos n w ⌝ }
+{
+    let kind = c.kind;
+    match kind {
+        0 => delay_slot(s, a, pos, n, w),
+        1 => user_op_statement(s, t, p, a, m, e, pos, c.number, n, w),
+        _ => stop(w, c.number),
+    }
+}
+
+fn bind_param(p: &mut [u64], at: usize, name: u64, k: Slot)
+    ensures { λ _. ⌜ now (p .exit) ≡ bindParam (now (p .entry)) at name k ⌝ }
+{
+    put(p, at, 0, name);
+    put_slot(p, at, k);
+}
+
+// Binds n arguments to a macro's parameters, whose names stand from a position on.
+pub fn bind_params(s: &[u8], p: &mut [u64], params: usize, args: &[u64], names: usize, n: usize)
+    ensures { λ _. ⌜ now (p .exit) ≡ bindParams n (now (s .entry)) (now (p .entry)) params (now (args .entry)) names ⌝ }
+{
+    for i in 0..n {
+        let name = u16_in(s, names, i % 8 * 2);
+        bind_param(
+            p,
+            param_place(params, i),
+            name,
+            slot_at(args, param_place(0, i)),
+        );
+    }
+}
+
+// Where macro number `id` stands.
+pub fn macro_at(t: &[u16], id: u64) -> usize
+    ensures { λ r. ⌜ r ≡ macroAt (now (t .entry)) id ⌝ }
+{
+    cells::get_u16(t, 3072 + (id % 128) as usize) as usize
+}
+
+// As many arguments as the macro has parameters.
+fn counted(s: &[u8], t: &[u16], id: u64, n: u64, next: usize, st: State) -> Args
+    ensures { λ r. ⌜ r ≡ counted (now (s .entry)) (now (t .entry)) id n next st ⌝ }
+{
+    if cells::byte(s, macro_at(t, id), 0) == n {
+        return Args::Done { next, st };
+    }
+    Args::No(26)
+}
+
+// The arguments of a macro call.
+pub fn macro_args(
+    s: &[u8],
+    t: &[u16],
+    p: &[u64],
+    a: &mut [u64],
+    m: &mut [u64],
+    args: &mut [u64],
+    e: Env,
+    pos: usize,
+    id: u64,
+    n: u64,
+    st: State,
+) -> Args
+    ensures { λ r. ⌜ passed r (now (a .exit)) (now (m .exit)) (now (args .exit)) ≡ macroArgs (now (s .entry)) (now (t .entry)) (now (p .entry)) (now (a .entry)) (now (m .entry)) (now (args .entry)) e pos id n st ⌝ }
+{
+    match resolve_args(32, s, t, p, after(pos, 4), n, e, a, m, args, st) {
+        Args::No(k) => Args::No(k),
+        Args::Done { next, st: st1 } => counted(s, t, id, n, next, st1),
+    }
+}

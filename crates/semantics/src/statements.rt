@@ -1,0 +1,365 @@
+// Statements and macro bodies, which resolve each other: a macro call one level deeper.
+use crate::branches::branch;
+use crate::branches::cond_branch;
+use crate::branches::label_statement;
+use crate::calls::bind_params;
+use crate::calls::called_of;
+use crate::calls::macro_args;
+use crate::calls::macro_at;
+use crate::calls::other_call;
+use crate::copies::copy_statement;
+use crate::simple::build;
+use crate::simple::export_statement;
+use crate::simple::local_assignment;
+use crate::simple::local_statement;
+use crate::simple::unimplemented;
+use crate::stores::store_statement;
+use crate::walk::stop;
+use expression::args::Args;
+use expression::expr::after;
+use expression::scope::u16_in;
+use pcode::push::Env;
+use pcode::push::State;
+use pcode::sizes::Sizing;
+use pcode::value::Value;
+ghost use mathlib.Core.Path.{_≡_};
+ghost use Rattle.semantics.specs.Walks.{stepped, walked};
+ghost use Rattle.semantics.specs.Statements.{simple, otherStatement, begun, begin, entered, returned, paramsAt, macroEnv, bodyAt, firstOrdinal, callStatement, macroStatement, enterMacro, resolveStatement, resolveBody};
+
+// The export: 0 none, 1 value, 2 RAM, 3 register; its value; its access size.
+pub struct Export {
+    pub kind: u64,
+    pub v: Value,
+    pub size: u64,
+}
+
+// The walk's state above that of expressions: labels given, labels placed, statements begun, macro calls entered.
+pub struct Walk {
+    pub st: State,
+    pub labels: u64,
+    pub placed: u64,
+    pub statements: u64,
+    pub scopes: u64,
+    pub export: Export,
+}
+
+pub enum Step {
+    Next { next: usize, w: Walk },
+    Stop { refusal: u64, ordinal: u64 },
+}
+
+fn simple(
+    code: u64,
+    s: &[u8],
+    t: &[u16],
+    p: &[u64],
+    a: &mut [u64],
+    m: &mut [u64],
+    e: Env,
+    pos: usize,
+    w: Walk,
+) -> Step
+    ensures { λ r. ⌜ stepped r (now (a .exit)) (now (m .exit)) ≡ simple code (now (s .entry)) (now (t .entry)) (now (p .entry)) (now (a .entry)) (now (m .entry)) e pos w ⌝ }
+{
+    match code {
+        0 => unimplemented(s, t, a, m, e, pos, w),
+        1 => export_statement(s, t, p, a, m, e, pos, w),
+        2 => local_statement(s, t, m, e, pos, w),
+        3 => local_assignment(s, t, p, a, m, e, pos, w),
+        4 => build(s, t, a, pos, w),
+        5 => copy_statement(s, t, p, a, m, e, pos, w),
+        _ => store_statement(s, t, p, a, m, e, pos, w),
+    }
+}
+
+// A statement that is no call.
+fn other_statement(
+    code: u64,
+    s: &[u8],
+    t: &[u16],
+    p: &mut [u64],
+    a: &mut [u64],
+    m: &mut [u64],
+    e: Env,
+    pos: usize,
+    w: Walk,
+) -> Step
+    ensures { λ r. ⌜ walked r (now (p .exit)) (now (a .exit)) (now (m .exit)) ≡ otherStatement code (now (s .entry)) (now (t .entry)) (now (p .entry)) (now (a .entry)) (now (m .entry)) e pos w ⌝ }
+{
+    match code {
+        8 => branch(s, t, p, a, m, e, pos, w),
+        9 => cond_branch(s, t, p, a, m, e, pos, w),
+        10 => label_statement(s, t, p, a, m, e, pos, w),
+        _ => simple(code, s, t, p, a, m, e, pos, w),
+    }
+}
+
+fn begun(w: Walk, ordinal: u64, statements: u64) -> Walk
+    ensures { λ r. ⌜ r ≡ begun ordinal statements w ⌝ }
+{
+    let export = w.export;
+    let st = w.st;
+    let z = st.sizing;
+    Walk {
+        st: State {
+            end: st.end,
+            temporaries: st.temporaries,
+            sizing: Sizing {
+                begun: ordinal,
+                errors: z.errors,
+                first: z.first,
+            },
+        },
+        labels: w.labels,
+        placed: w.placed,
+        statements,
+        scopes: w.scopes,
+        export,
+    }
+}
+
+// A statement begins: it has its ordinal, may not follow an export, and is counted up to 4,096.
+fn begin(w: Walk, ordinal: u64) -> Step
+    ensures { λ r. ⌜ r ≡ begin ordinal w ⌝ }
+{
+    if w.export.kind != 0 {
+        return Step::Stop {
+            refusal: 20,
+            ordinal,
+        };
+    }
+    if 4096 <= w.statements {
+        return Step::Stop {
+            refusal: 10,
+            ordinal,
+        };
+    }
+    Step::Next {
+        next: 0,
+        w: begun(w, ordinal, w.statements + 1),
+    }
+}
+
+fn entered(w: Walk, st: State, scopes: u64) -> Walk
+    ensures { λ r. ⌜ r ≡ entered st scopes w ⌝ }
+{
+    let export = w.export;
+    Walk {
+        st,
+        labels: w.labels,
+        placed: w.placed,
+        statements: w.statements,
+        scopes,
+        export,
+    }
+}
+
+// Goes on behind the call after a macro's body.
+fn returned(r: Step, next: usize) -> Step
+    ensures { λ x. ⌜ x ≡ returned next r ⌝ }
+{
+    match r {
+        Step::Stop { refusal, ordinal } => Step::Stop { refusal, ordinal },
+        Step::Next { next: _, w } => Step::Next { next, w },
+    }
+}
+
+// Where the parameters of a macro stand that is entered with so many levels left.
+fn params_at(deep: u64) -> usize
+    ensures { λ r. ⌜ r ≡ paramsAt deep ⌝ }
+{
+    (17 - deep % 17) as usize * 64
+}
+
+fn macro_env(e: Env, scope: u64, params: usize, count: u64) -> Env
+    ensures { λ r. ⌜ r ≡ macroEnv scope params count e ⌝ }
+{
+    Env {
+        pointer: e.pointer,
+        scope,
+        params,
+        count: count as usize,
+    }
+}
+
+// Where the body of a macro with n parameters begins, behind their names.
+fn body_at(at: usize, n: u64) -> usize
+    ensures { λ r. ⌜ r ≡ bodyAt at n ⌝ }
+{
+    after(at, 1 + 2 * (n % 16) as usize)
+}
+
+// The ordinal of the first statement of macro number `id`.
+fn first_ordinal(t: &[u16], id: u64) -> u64
+    ensures { λ r. ⌜ r ≡ firstOrdinal (now (t .entry)) id ⌝ }
+{
+    cells::get_u16(t, 3200 + (id % 128) as usize) as u64
+}
+
+fn enter(
+    deep: u64,
+    s: &[u8],
+    t: &[u16],
+    p: &mut [u64],
+    a: &mut [u64],
+    m: &mut [u64],
+    e: Env,
+    id: u64,
+    args: &[u64],
+    n: u64,
+    next: usize,
+    st: State,
+    w: Walk,
+) -> Step
+    ensures { λ r. ⌜ walked r (now (p .exit)) (now (a .exit)) (now (m .exit)) ≡ enterMacro deep (now (s .entry)) (now (t .entry)) (now (p .entry)) (now (a .entry)) (now (m .entry)) e id (now (args .entry)) n next st w ⌝ }
+{
+    if deep == 0 {
+        return stop(w, 11);
+    }
+    let at = macro_at(t, id);
+    let params = params_at(deep);
+    bind_params(s, p, params, args, after(at, 1), n as usize);
+    let scope = std::num::wrapping_add_u64(w.scopes, 1);
+    let start = body_at(at, n);
+    let count = u16_in(s, start, 0);
+    let inner = macro_env(e, scope, params, n);
+    let first = first_ordinal(t, id);
+    returned(
+        body(
+            deep - 1,
+            s,
+            t,
+            p,
+            a,
+            m,
+            inner,
+            after(start, 2),
+            count,
+            first,
+            entered(w, st, scope),
+        ),
+        next,
+    )
+}
+
+fn macro_statement(
+    deep: u64,
+    s: &[u8],
+    t: &[u16],
+    p: &mut [u64],
+    a: &mut [u64],
+    m: &mut [u64],
+    e: Env,
+    pos: usize,
+    id: u64,
+    n: u64,
+    w: Walk,
+) -> Step
+    ensures { λ r. ⌜ walked r (now (p .exit)) (now (a .exit)) (now (m .exit)) ≡ macroStatement (enterMacro deep (now (s .entry)) (now (t .entry))) (now (s .entry)) (now (t .entry)) (now (p .entry)) (now (a .entry)) (now (m .entry)) e pos id n w ⌝ }
+{
+    let mut args = [0u64; 64];
+    match macro_args(s, t, p, a, m, &mut args, e, pos, id, n, w.st) {
+        Args::No(k) => stop(w, k),
+        Args::Done { next, st } => enter(deep, s, t, p, a, m, e, id, &args, n, next, st, w),
+    }
+}
+
+fn call_statement(
+    deep: u64,
+    s: &[u8],
+    t: &[u16],
+    p: &mut [u64],
+    a: &mut [u64],
+    m: &mut [u64],
+    e: Env,
+    pos: usize,
+    w: Walk,
+) -> Step
+    ensures { λ r. ⌜ walked r (now (p .exit)) (now (a .exit)) (now (m .exit)) ≡ callStatement (enterMacro deep (now (s .entry)) (now (t .entry))) (now (s .entry)) (now (t .entry)) (now (p .entry)) (now (a .entry)) (now (m .entry)) e pos w ⌝ }
+{
+    let n = cells::byte(s, pos, 3);
+    let c = called_of(s, t, u16_in(s, pos, 1));
+    if c.kind == 2 {
+        return macro_statement(deep, s, t, p, a, m, e, pos, c.number, n, w);
+    }
+    other_call(c, s, t, p, a, m, e, pos, n, w)
+}
+
+fn statement(
+    deep: u64,
+    s: &[u8],
+    t: &[u16],
+    p: &mut [u64],
+    a: &mut [u64],
+    m: &mut [u64],
+    e: Env,
+    pos: usize,
+    ordinal: u64,
+    w: Walk,
+) -> Step
+    ensures { λ r. ⌜ walked r (now (p .exit)) (now (a .exit)) (now (m .exit)) ≡ resolveStatement (enterMacro deep (now (s .entry)) (now (t .entry))) (now (s .entry)) (now (t .entry)) e pos ordinal (now (p .entry)) (now (a .entry)) (now (m .entry)) w ⌝ }
+{
+    match begin(w, ordinal) {
+        Step::Stop {
+            refusal,
+            ordinal: o,
+        } => Step::Stop {
+            refusal,
+            ordinal: o,
+        },
+        Step::Next { next: _, w: b } => {
+            let code = cells::byte(s, pos, 0);
+            if code == 7 {
+                return call_statement(deep, s, t, p, a, m, e, pos, b);
+            }
+            other_statement(code, s, t, p, a, m, e, pos, b)
+        }
+    }
+}
+
+// n statements from a position on, the first with that ordinal; macro calls so deep at most.
+pub fn body(
+    deep: u64,
+    s: &[u8],
+    t: &[u16],
+    p: &mut [u64],
+    a: &mut [u64],
+    m: &mut [u64],
+    e: Env,
+    pos: usize,
+    n: u64,
+    ordinal: u64,
+    w: Walk,
+) -> Step
+    ensures { λ r. ⌜ walked r (now (p .exit)) (now (a .exit)) (now (m .exit)) ≡ resolveBody deep (now (s .entry)) (now (t .entry)) (now (p .entry)) (now (a .entry)) (now (m .entry)) e pos n ordinal w ⌝ }
+{
+    let mut at = pos;
+    let mut w = w;
+    for i in 0..n {
+        match statement(
+            deep,
+            s,
+            t,
+            p,
+            a,
+            m,
+            e,
+            at,
+            std::num::wrapping_add_u64(ordinal, i),
+            w,
+        ) {
+            Step::Stop {
+                refusal,
+                ordinal: o,
+            } => return Step::Stop {
+                refusal,
+                ordinal: o,
+            },
+            Step::Next { next, w: w1 } => {
+                at = next;
+                w = w1;
+            }
+        }
+    }
+    Step::Next { next: at, w }
+}
