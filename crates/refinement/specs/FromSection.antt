@@ -15,7 +15,7 @@ use Rattle.definition.specs.Sizes as d
 use Rattle.definition.specs.ActionList.{orNone}
 use Rattle.cells.specs.Le.{le16}
 use Rattle.pcode.specs.Sizes.{entry, listSize, exportSizeOf}
-use Rattle.section.specs.Holds.{absentAt, registerAt, tableAt, fieldAt, subtableAt, Holds}
+use Rattle.section_refinement.specs.Holds.{absentAt, registerAt, tableAt, fieldAt, subtableAt, Holds}
 use Rattle.guarantee.specs.Layout.{SmallSection}
 use Rattle.refinement.specs.Encoding.{SizesHold}
 

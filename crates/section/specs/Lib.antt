@@ -8,4 +8,3 @@ pub mod Lists
 pub mod Stream
 pub mod Blocks
 pub mod Inbuilts
-pub mod Holds

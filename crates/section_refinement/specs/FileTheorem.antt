@@ -15,11 +15,11 @@ use Rattle.definition.specs.Refusals.{Refusal, refusalNumber, badLength, blockC
 use Rattle.definition.specs.Ast.{Section}
 use Rattle.definition.specs.SectionFile.{Parsed, parsed, refused, on, pure, require, checksOut, bytes, payloads, wholeBlocks, streamOf}
 use Rattle.definition.specs.SectionFile as d
 use Rattle.section.specs.Stream.{readStream}
 use Rattle.section.specs.Blocks.{refusalOf, joined}
-use Rattle.section.specs.Holds.{Holds}
-use Rattle.section.proofs.Agree.{refusal-bad}
-use Rattle.section.proofs.StreamTheorem.{read-stream-refusal, read-stream-steps, holds}
+use Rattle.section_refinement.specs.Holds.{Holds}
+use Rattle.section_refinement.specs.Agree.{refusal-bad}
+use Rattle.section_refinement.specs.StreamTheorem.{read-stream-refusal, read-stream-steps, holds}
 
 -- the table before anything is read
 unfoldable pub noTable : List ℕ

@@ -16,19 +16,19 @@ use Rattle.definition.specs.Ast.{Space, Register, BitRange, Table, Macro, Field
 use Rattle.definition.specs.SectionFile.{Parsed, parsed, refused, on, Read, pure, require, listOf, nothingLeft}
 use Rattle.definition.specs.SectionFile as d
 use Rattle.cells.specs.Le.{le16}
 use Rattle.section.specs.declared.cursor.Cursor.{Cursor}
 use Rattle.section.specs.Cursors.{cursor, refuse, run}
 use Rattle.section.specs.Statements.{body}
 use Rattle.section.specs.Names.{Reading, reading, nameAt, names}
 use Rattle.section.specs.Headers.{header}
 use Rattle.section.specs.Lists.{stamp, entry, list, lists}
 use Rattle.section.specs.Stream.{zeros, tail, statements}
-use Rattle.section.specs.Holds.{absentAt, Limits, Named, spaceAt, registerAt, bitRangeAt, tableAt, nameOnly, fieldAt, subtableAt, MacroAt, StatementsAt}
-use Rattle.section.proofs.Agree.{Agrees, went, stopped, Stuck, Any, refusal-bad, stuck-refuse}
-use Rattle.section.proofs.AgreeCode.{body-agrees, stuck-body}
-use Rattle.section.proofs.AgreeNames.{headerAt, Fills, goes, stops, Stays, stays-both, stays-run, stays-name, fills-bind, fills-from, fills-finish, fills-weaken, place-fits, takenOf, NamesHeld, names-fill}
-use Rattle.section.proofs.AgreeLists.{Base, Taken, ListHeld, list-fill, stays-list, taken-kept, stays-entry}
-use Rattle.section.proofs.AgreeEntries.{base-global, base-local, space-agrees, register-agrees, bit-range-agrees, table-agrees, user-op-agrees, other-agrees, field-agrees, subtable-agrees, MacrosHeld, macros-fill}
+use Rattle.section_refinement.specs.Holds.{absentAt, Limits, Named, spaceAt, registerAt, bitRangeAt, tableAt, nameOnly, fieldAt, subtableAt, MacroAt, StatementsAt}
+use Rattle.section_refinement.specs.Agree.{Agrees, went, stopped, Stuck, Any, refusal-bad, stuck-refuse}
+use Rattle.section_refinement.specs.AgreeCode.{body-agrees, stuck-body}
+use Rattle.section_refinement.specs.AgreeNames.{headerAt, Fills, goes, stops, Stays, stays-both, stays-run, stays-name, fills-bind, fills-from, fills-finish, fills-weaken, place-fits, takenOf, NamesHeld, names-fill}
+use Rattle.section_refinement.specs.AgreeLists.{Base, Taken, ListHeld, list-fill, stays-list, taken-kept, stays-entry}
+use Rattle.section_refinement.specs.AgreeEntries.{base-global, base-local, space-agrees, register-agrees, bit-range-agrees, table-agrees, user-op-agrees, other-agrees, field-agrees, subtable-agrees, MacrosHeld, macros-fill}
 
 -- The tail.
 

@@ -17,18 +17,18 @@ use Rattle.definition.specs.SectionFile.{Parsed, parsed, refused, on}
 use Rattle.definition.specs.SectionFile as d
 use Rattle.definition.specs.Scope.{SymbolKind, symbolNumber, Symbol, symbols, find, globals}
 use Rattle.cells.specs.Le.{le16}
 use Rattle.section.specs.Cursors.{cursor}
 use Rattle.section.specs.Names.{Reading, reading, names}
 use Rattle.section.specs.Headers.{header}
 use Rattle.section.specs.Lists.{stamp, lists}
 use Rattle.section.specs.Stream.{statements, Answer, answer, answerOf, readStream}
 use Rattle.section.specs.Blocks.{refusalOf}
-use Rattle.section.specs.Holds.{absentAt, Limits, Named, Listed, spaceAt, registerAt, bitRangeAt, tableAt, nameOnly, fieldAt, subtableAt, symbolWord, localWord, bodies, MacroAt, StatementsAt, Holds}
-use Rattle.section.proofs.Agree.{Agrees, went, stopped, refusal-bad}
-use Rattle.section.proofs.AgreeNames.{headerAt, header-agrees, Fills, goes, stops, NamesHeld}
-use Rattle.section.proofs.AgreeLists.{ListHeld, marked, stampOf}
-use Rattle.section.proofs.AgreeEntries.{MacrosHeld, stamp-global, stamp-local}
-use Rattle.section.proofs.AgreeStream.{Steps, stream-fills, spaceName, registerName, bitRangeName, tableName, macroName, ownName, fieldName, subtableName, map-own}
+use Rattle.section_refinement.specs.Holds.{absentAt, Limits, Named, Listed, spaceAt, registerAt, bitRangeAt, tableAt, nameOnly, fieldAt, subtableAt, symbolWord, localWord, bodies, MacroAt, StatementsAt, Holds}
+use Rattle.section_refinement.specs.Agree.{Agrees, went, stopped, refusal-bad}
+use Rattle.section_refinement.specs.AgreeNames.{headerAt, header-agrees, Fills, goes, stops, NamesHeld}
+use Rattle.section_refinement.specs.AgreeLists.{ListHeld, marked, stampOf}
+use Rattle.section_refinement.specs.AgreeEntries.{MacrosHeld, stamp-global, stamp-local}
+use Rattle.section_refinement.specs.AgreeStream.{Steps, stream-fills, spaceName, registerName, bitRangeName, tableName, macroName, ownName, fieldName, subtableName, map-own}
 
 -- an answer and the definition's reading: both accept, or both refuse with one number
 data Answered (s t0 : List ℕ) (x : Parsed Section) (a : Answer) : Type 0 where

@@ -15,13 +15,13 @@ use Rattle.definition.specs.Refusals.{Refusal, refusalNumber, malformed, outsid
 use Rattle.definition.specs.SectionFile.{Parsed, parsed, refused, on, Read, pure, require, littleEndian, upTo, naming, orAbsent, listOf, Header}
 use Rattle.definition.specs.SectionFile as d
 use Rattle.cells.specs.Le.{le16}
 use Rattle.section.specs.declared.cursor.Cursor.{Cursor}
 use Rattle.section.specs.Cursors.{cursor, number, u8, u16, u16or, skip, run}
 use Rattle.section.specs.Cursors as w
 use Rattle.section.specs.Headers.{globalCounts, counts, roles, header}
 use Rattle.section.specs.Names.{Reading, reading, agree, restAlike, alike, known, letters, spelling, nameAt, names}
-use Rattle.section.specs.Holds.{absentAt, Limits, Named, spelledAt}
-use Rattle.section.proofs.Agree.{Agrees, went, stopped, Stuck, stuck-both, bind, finish, weaken, Any, Number, NumberOr, Tests, le, le-16, u8-at, u8-cut, up-to, naming-below, stuck-u8, stuck-u16, stuck-u16or, stuck-skip, stuck-refuse, u16-agrees, u8-agrees, u16or-agrees, skip-agrees, refusal-bad}
+use Rattle.section_refinement.specs.Holds.{absentAt, Limits, Named, spelledAt}
+use Rattle.section_refinement.specs.Agree.{Agrees, went, stopped, Stuck, stuck-both, bind, finish, weaken, Any, Number, NumberOr, Tests, le, le-16, u8-at, u8-cut, up-to, naming-below, stuck-u8, stuck-u16, stuck-u16or, stuck-skip, stuck-refuse, u16-agrees, u8-agrees, u16or-agrees, skip-agrees, refusal-bad}
 
 -- The header, each u16 at its place.
 

@@ -16,19 +16,19 @@ use Rattle.definition.specs.Ast.{SpaceKind, Space, Register, BitRange, Table, M
 use Rattle.definition.specs.SectionFile.{Parsed, parsed, refused, on, Read, pure, require, listOf, upTo, naming, littleEndian}
 use Rattle.definition.specs.SectionFile as d
 use Rattle.cells.specs.Le.{le16}
 use Rattle.section.specs.declared.cursor.Cursor.{Cursor}
 use Rattle.section.specs.Cursors.{cursor, u8, u16, u16or, run}
 use Rattle.section.specs.Cursors as w
 use Rattle.section.specs.Expressions.{counted}
 use Rattle.section.specs.Statements.{body}
 use Rattle.section.specs.Names.{Reading, reading}
 use Rattle.section.specs.Lists.{slot, stamp, whichOf, afterName, after, params, macroHead, noted, macro, named, restOf, entry, list}
-use Rattle.section.specs.Holds.{absentAt, spaceKind, spaceAt, registerAt, bitRangeAt, tableAt, nameOnly, fieldAt, subtableAt, bodies, MacroAt}
-use Rattle.section.proofs.Agree.{Agrees, went, stopped, Stuck, stuck-both, bind, finish, weaken, Any, Number, NumberOr, le, le-16, naming-below, u16-agrees, stuck-u8, stuck-u16, stuck-u16or, refusal-bad}
-use Rattle.section.proofs.AgreeCode.{Reads, OneOf, one-of-agrees, name-read, limit-read, size-or-read, count-read, list-agrees, body-agrees, stuck-body, stuck-counted}
-use Rattle.section.proofs.Forward.{headOf, head-takes, list-takes, statement-takes}
-use Rattle.section.proofs.AgreeNames.{Fills, goes, stops, Stays, stays-both, stays-run, fills-bind, fills-from, fills-finish, fills-weaken, place-fits}
-use Rattle.section.proofs.AgreeLists.{Base, Own, Taken, marked, named-then, stays-entry, stays-rest, taken-more, taken-again, taken-kept, marked-none, marks-more}
+use Rattle.section_refinement.specs.Holds.{absentAt, spaceKind, spaceAt, registerAt, bitRangeAt, tableAt, nameOnly, fieldAt, subtableAt, bodies, MacroAt}
+use Rattle.section_refinement.specs.Agree.{Agrees, went, stopped, Stuck, stuck-both, bind, finish, weaken, Any, Number, NumberOr, le, le-16, naming-below, u16-agrees, stuck-u8, stuck-u16, stuck-u16or, refusal-bad}
+use Rattle.section_refinement.specs.AgreeCode.{Reads, OneOf, one-of-agrees, name-read, limit-read, size-or-read, count-read, list-agrees, body-agrees, stuck-body, stuck-counted}
+use Rattle.section_refinement.specs.Forward.{headOf, head-takes, list-takes, statement-takes}
+use Rattle.section_refinement.specs.AgreeNames.{Fills, goes, stops, Stays, stays-both, stays-run, fills-bind, fills-from, fills-finish, fills-weaken, place-fits}
+use Rattle.section_refinement.specs.AgreeLists.{Base, Own, Taken, marked, named-then, stays-entry, stays-rest, taken-more, taken-again, taken-kept, marked-none, marks-more}
 
 -- Where the lists mark their names, and with what.
 

@@ -1,0 +1,1 @@
+// Theorems alone: what `section` computes is the definition's section and refusal.
