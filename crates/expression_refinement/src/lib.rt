@@ -1,0 +1,1 @@
+// The words of expressions are the definition's: theorems in specs/. There is no code.
