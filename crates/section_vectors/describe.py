@@ -50,10 +50,22 @@ class Section:
 vectors = []
 
 
+def runs_of(stream):
+    """The stretches of a stream that are not zero, gaps of a few zeros included, each of 255 bytes at most."""
+    found = []
+    for p, b in enumerate(stream):
+        if b == 0:
+            continue
+        if found and p - found[-1][1] < 6 and p - found[-1][0] < 255:
+            found[-1][1] = p + 1
+        else:
+            found.append([p, p + 1])
+    return [(p, stream[p:end]) for p, end in found]
+
+
 def file(label, refusal, stream, length=None, checks=1, last=0):
     length = length if length is not None else max(1, -(-len(stream) // 510)) * 512
-    runs = [(p, stream[p:p + 255]) for p in range(0, len(stream), 255)]
-    runs = [(p, b) for p, b in runs if any(b)]
+    runs = runs_of(stream)
     body = b"".join(struct.pack("<IB", p, len(b)) + b for p, b in runs)
     text = label.encode()
     vectors.append((label, refusal, bytes([len(text)]) + text + struct.pack("<IH", length, len(runs)) + body + bytes([checks, last])))
@@ -110,8 +122,7 @@ section("the four names are one", 0, roles=[15, 15, 15, 15])
 section("a role is absent", 5, roles=[NONE, 12, 13, 14])
 
 # the names
-many = [b"%04d" % i for i in range(1024)]
-section("1,024 names", 0, names=many)
+many = [bytes([48 + i // 32, 48 + i % 32]) for i in range(1024)]
 section("a spelling twice", 6, names=[b"n%d" % i for i in range(15)] + [b"n0"])
 section("the same letters, one more", 0, names=[b"n%d" % i for i in range(15)] + [b"n0n"])
 section("name of 24", 0, names=[b"a" * 24] + [b"n%d" % i for i in range(1, 16)])
@@ -125,7 +136,7 @@ section("space kind 2", 0, spaces=[u16(0) + b"\x02" + u16(8)])
 section("space kind 3", 3, spaces=[u16(0) + b"\x03" + u16(8)])
 section("space of 1,024", 0, spaces=[u16(0) + b"\0" + u16(1024)])
 section("space of 1,025", 4, spaces=[u16(0) + b"\0" + u16(1025)])
-section("eight spaces", 0, names=many, spaces=[u16(20 + i) + b"\0" + u16(8) for i in range(8)])
+section("eight spaces", 0, names=[b"m%d" % i for i in range(28)], spaces=[u16(20 + i) + b"\0" + u16(8) for i in range(8)])
 section("register of 1,025", 4, registers=[u16(1) + u16(1025), u16(2) + u16(4)])
 section("register without a size", 4, registers=[u16(1) + u16(NONE), u16(2) + u16(4)])
 section("register without a name", 5, registers=[u16(NONE) + u16(4), u16(2) + u16(4)])
@@ -152,6 +163,21 @@ section("field named as a global", 0, fields=[u16(0) + u16(NONE)])
 section("field of 1,025", 4, fields=[u16(9) + u16(1025)])
 section("subtable named as a field", 6, subtables=[u16(9) + u16(0)])
 section("subtable of table 1 of one", 5, subtables=[u16(10) + u16(1)])
+
+# every count at its limit: the long lists one by one, the others together
+def at_limit(key, entries, **parts):
+    section(f"count of {key} at its limit", 0, names=many, **{key: entries}, **parts)
+
+
+none = dict(spaces=[], registers=[], bit_ranges=[], tables=[], user_ops=[], macros=[], others=[], subtables=[], default_space=NONE)
+at_limit("registers", [u16(i) + u16(4) for i in range(1024)], **{k: v for k, v in none.items() if k != "registers"})
+section("1,024 bit ranges, the second named as the first", 6, bit_ranges=[u16(3) + u16(0) + u16(0) + u16(8)] * 2, counts={"bit_ranges": 1024})
+at_limit("others", [u16(i) for i in range(1024)], **{k: v for k, v in none.items() if k != "others"})
+section("count of statements at its limit", 0, statements=[b"\0"] * 1024)
+section("the other counts at their limits", 0, names=many, registers=[], bit_ranges=[], others=[],
+        spaces=[u16(i) + b"\0" + u16(8) for i in range(8)], tables=[u16(8 + i) + u16(8) for i in range(256)],
+        user_ops=[u16(264 + i) for i in range(256)], macros=[u16(520 + i) + b"\0" + u16(0) for i in range(128)],
+        fields=[u16(i) + u16(4) for i in range(64)], subtables=[u16(64 + i) + u16(i) for i in range(32)])
 
 # statements and expressions
 statement("statement code 11", 3, b"\x0b")
@@ -186,19 +212,51 @@ expression("nesting 32", 0, nested(32))
 expression("nesting 33", 4, nested(33))
 expression("an unknown code at depth 33", 3, b"\x03" * 32 + b"\x09")
 
-# cuts: a stream of a whole block whose last field goes over its end
-full = Section(statements=[b"\x00"]).stream()
-room = 510 - len(full)
+# cuts: names of a length that puts the end of the block into each kind of field
+def names_of(total):
+    """Names whose bytes, with their lengths, come to that total: 16 of zeros alone, then longer ones."""
+    names = [bytes(n) for n in range(1, 17)]
+    rest = total - sum(len(n) + 1 for n in names)
+    longer = []
+    while rest > 26:
+        longer.append(24)
+        rest -= 25
+    longer += [11, 13] if rest == 26 else [rest - 1]
+    return names + [bytes([i + 1]) + bytes(n - 1) for i, n in enumerate(longer)]
 
 
-def cut(label, ending, at):
-    pad = Section(statements=[b"\0"] * (room + 1 - at) + [ending])
-    data = pad.stream()
-    file(label, 3, data[:510], length=512)
-
-
-for label, code in [("a statement's name", b"\x04" + u16(1)), ("an integer", b"\x01\x01" + b"\x07" * 8), ("an operator", b"\x01\x05" + X), ("a part", b"\x01\x03"), ("a size", b"\x01\x03" + X + b"\x04")]:
-    cut(f"cut in {label}", code, len(code) - 1 if label != "a part" else len(code))
+lists = [
+    ("a space's name", u16(0)), ("a space's kind", b"\0"), ("a space's size", u16(8)), ("a register's name", u16(1)), ("a register's size", u16(4)),
+    ("a bit range's name", u16(3)), ("a bit range's register", u16(0)), ("a first bit", u16(0)), ("a bit count", u16(8)),
+    ("a table's name", u16(4)), ("an export size", u16(8)), ("a user op's name", u16(5)), ("a macro's name", u16(6)), ("a parameter count", b"\x01"),
+    ("a parameter", u16(7)), ("a macro's statement count", u16(1)), ("a macro's statement", b"\0"), ("another symbol's name", u16(8)),
+    ("a field's name", u16(9)), ("a field's size", u16(4)), ("a subtable's name", u16(10)), ("a subtable's table", u16(0)),
+]
+codes = [
+    ("a local's code", b"\x02"), ("a local's name", u16(1)), ("a local's size", u16(4)), ("an assignment's code", b"\x03"), ("an assignment's name", u16(1)),
+    ("an assignment's size", u16(4)), ("an integer's code", b"\x01"), ("an integer", b"\x07" * 8), ("a build's code", b"\x04"), ("a build's name", u16(4)),
+    ("a copy's code", b"\x05"), ("an address's code", b"\x02"), ("an address's size", u16(8)), ("an address's name", u16(1)), ("a truncation's code", b"\x03"),
+    ("a name's code", b"\x00"), ("a name", u16(1)), ("a truncation's size", u16(4)), ("a store's code", b"\x06"), ("a store's space", u16(0)),
+    ("a store's size", u16(4)), ("a slice's code", b"\x04" + X), ("a slice's first bit", u16(1)), ("a slice's bit count", u16(2)), ("an operator's first part", b"\x05" + X),
+    ("an operator", b"\x05"), ("an operator's second part", X), ("a call's code", b"\x07"), ("a call's name", u16(5)), ("an argument count", b"\x02"),
+    ("a dereference's code", b"\x06"), ("a dereference's space", u16(0)), ("a dereference's size", u16(4)), ("a dereference's pointer", X),
+    ("a constant pool's code", b"\x07"), ("a constant pool's count", b"\x01"), ("a constant pool's part", X), ("a branch's code", b"\x08"),
+    ("a destination's code", b"\x00"), ("a jump label's code", b"\x01"), ("a jump label's integer", b"\x09" * 8), ("a jump label's size", u16(8)), ("a hint", b"\x01"),
+    ("a conditional branch's code", b"\x09"), ("a condition's code", b"\x08"), ("a function's name", u16(5)), ("a function's argument count", b"\x00"),
+    ("a destination label's code", b"\x02"), ("a destination label", u16(1)), ("its hint", b"\x01"), ("a label's code", b"\x0a"), ("a label", u16(1)),
+]
+entries, statements = b"".join(b for _, b in lists), b"".join(b for _, b in codes)
+offset = 0
+again = ["a condition's code", "a function's name", "a function's argument count", "a destination label's code", "a destination label", "its hint"]
+for label, field in lists + codes:
+    inside = offset + len(field) // 2
+    names = names_of(510 - 34 - inside)
+    head = Section(names=names, registers=[b""], statements=[b""] * 9).stream()[:34] + b"".join(name(n) for n in names)
+    if label not in again:  # kinds of field that are cut elsewhere
+        file(f"cut in {label}", 3, (head + entries + statements)[:510], length=512)
+    offset += len(field)
+whole = Section(names=names, registers=[b""], statements=[b""] * 9).stream()[:34] + b"".join(name(n) for n in names) + entries + statements
+file("nothing cut", 0, whole)
 file("cut in the names", 3, Section(names=[b"abcdefghijklmnopqrstuvwx"[:20] + b"%04d" % i for i in range(64)]).stream()[:510], length=512)
 
 with open("stdin", "wb") as out:
