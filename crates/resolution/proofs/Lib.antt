@@ -1,0 +1,3 @@
+mod AnswerLaws
+mod FinishLaws
+mod FileLaws

@@ -1,0 +1,76 @@
+use borrow.Author.Needs.{needs}
+use Rattle.resolution.proofs.walk_section.Statement.{statement}
+use Rattle.resolution.proofs.walk_section.Tie as tie
+use Rattle.resolution.proofs.walk_section.Reads as reads
+use Rattle.resolution.proofs.walk_section.Lts as lts
+use Rattle.cells.proofs.get_u16.Reads as get-u16-reads
+use Rattle.cells.proofs.u16_at.Reads as u16-at-reads
+use Rattle.resolution.proofs.at_start.Reads as at-start-reads
+use Rattle.resolution.proofs.start_env.Reads as start-env-reads
+use Rattle.semantics.proofs.statements.body.Reads as body-reads
+use Rattle.resolution.proofs.FileLaws.{file-laws}
+
+-- src/lib.rt:78:15
+get-u16-requires : tie.Need-get-u16-requires
+get-u16-requires c κs = search (file-laws, needs)
+
+-- src/lib.rt:78:15
+cast-pos : tie.Need-cast-pos
+cast-pos c = search (file-laws, needs)
+
+-- src/lib.rt:79:9
+u16-at-requires : tie.Need-u16-at-requires
+u16-at-requires c κs = search (file-laws, needs)
+
+-- src/lib.rt:80:19
+get-u16-requires-2 : tie.Need-get-u16-requires-2
+get-u16-requires-2 c κs = search (file-laws, needs)
+
+-- src/lib.rt:80:19
+cast-ordinal : tie.Need-cast-ordinal
+cast-ordinal c = search (file-laws, needs)
+
+-- src/lib.rt:81:9
+start-env-requires : tie.Need-start-env-requires
+start-env-requires c κs = search (file-laws, needs)
+
+-- src/lib.rt:82:9
+at-start-requires : tie.Need-at-start-requires
+at-start-requires c κs = search (file-laws, needs)
+
+-- src/lib.rt:83:43
+slice-aggregate-body : tie.Need-slice-aggregate-body
+slice-aggregate-body c = search (file-laws, needs)
+
+-- src/lib.rt:83:5
+body-requires : tie.Need-body-requires
+body-requires c κs = search (file-laws, needs)
+
+-- src/lib.rt:74:1
+same-length : tie.Need-same-length
+same-length c = search (file-laws, needs)
+
+-- src/lib.rt:74:1
+same-length-2 : tie.Need-same-length-2
+same-length-2 c = search (file-laws, needs)
+
+-- src/lib.rt:74:1
+returns : tie.Need-returns
+returns c = search (file-laws, needs)
+
+pub walk-section-spec : {M : Type 1} → statement M
+walk-section-spec =
+    tie.close
+    (tie.spec
+    get-u16-requires
+    cast-pos
+    u16-at-requires
+    get-u16-requires-2
+    cast-ordinal
+    start-env-requires
+    at-start-requires
+    slice-aggregate-body
+    body-requires
+    same-length
+    same-length-2
+    returns)

@@ -1,0 +1,155 @@
+// A section file resolved into lent lists: the file is read, its statements are walked, the end is run. After a refusal both
+// lists are zero.
+use answer::Answer;
+use answer::refused;
+use finish::finish;
+use pcode::push::Env;
+use pcode::push::State;
+use pcode::sizes::Sizing;
+use pcode::value::absent;
+use pcode::value::place;
+use semantics::statements::Export;
+use semantics::statements::Step;
+use semantics::statements::Walk;
+ghost use mathlib.Core.Path.{_≡_};
+ghost use Prim.Native.Nat.{_*_, _/_, _≤_};
+ghost use lib.ListN.{length, take};
+ghost use Rattle.section.specs.Blocks.{joined};
+ghost use Rattle.semantics.specs.Walks.{stepped};
+ghost use Rattle.resolution.specs.Answers.{resolvedTo};
+ghost use Rattle.resolution.specs.Files.{pointerSize, atStart, startEnv, walkSection, resolveSection, resolveStream, resolveFile};
+
+pub mod answer;
+pub mod finish;
+
+// The size of the default space's pointers, 8 where there is none.
+fn pointer_size(s: &[u8], t: &[u16]) -> u64
+    ensures { λ r. ⌜ r ≡ pointerSize (now (s .entry)) (now (t .entry)) ⌝ }
+{
+    let i = cells::u16_at(s, 24);
+    if i == 65535 {
+        return 8;
+    }
+    cells::u16_at(s, pcode::sizes::entry(t, 0, i * 5 + 3))
+}
+
+// Actions begin behind room for the Builds of all subtables.
+fn at_start(subtables: usize) -> Walk
+    ensures { λ r. ⌜ r ≡ atStart subtables ⌝ }
+{
+    Walk {
+        st: State {
+            end: place(0, subtables),
+            temporaries: 0,
+            sizing: Sizing {
+                begun: 65535,
+                errors: 0,
+                first: 65535,
+            },
+        },
+        labels: 0,
+        placed: 0,
+        statements: 0,
+        scopes: 0,
+        export: Export {
+            kind: 0,
+            v: absent(),
+            size: 0,
+        },
+    }
+}
+
+fn start_env(ptr: u64) -> Env
+    ensures { λ r. ⌜ r ≡ startEnv ptr ⌝ }
+{
+    Env {
+        pointer: ptr,
+        scope: 0,
+        params: 0,
+        count: 0,
+    }
+}
+
+// The section's own statements, with macro calls 16 deep at most.
+fn walk_section(
+    s: &[u8],
+    t: &[u16],
+    a: &mut [u64],
+    m: &mut [u64],
+    subtables: usize,
+    ptr: u64,
+) -> Step
+    ensures { λ r. ⌜ stepped r (now (a .exit)) (now (m .exit)) ≡ walkSection (now (s .entry)) (now (t .entry)) (now (a .entry)) (now (m .entry)) subtables ptr ⌝ }
+{
+    let mut p = [0u64; 1344];
+    let pos = cells::get_u16(t, 3337) as usize;
+    let n = cells::u16_at(s, 22);
+    let ordinal = cells::get_u16(t, 3338) as u64;
+    let e = start_env(ptr);
+    let w = at_start(subtables);
+    semantics::statements::body(16, s, t, &mut p, a, m, e, pos, n, ordinal, w)
+}
+
+fn resolve_section(s: &[u8], t: &[u16], a: &mut [u64], m: &mut [u64]) -> Answer
+    ensures { λ r. ⌜ resolvedTo r (now (a .exit)) (now (m .exit)) ≡ resolveSection (now (s .entry)) (now (t .entry)) (now (a .entry)) (now (m .entry)) ⌝ }
+{
+    let subtables = cells::u16_at(s, 20) as usize;
+    if a.len() / 24 < subtables {
+        return refused(a, m, 12, 65535, 0);
+    }
+    let ptr = pointer_size(s, t);
+    match walk_section(s, t, a, m, subtables, ptr) {
+        Step::Stop { refusal, ordinal } => refused(a, m, refusal, ordinal, 0),
+        Step::Next { next: _, w } => finish(s, t, a, m, ptr, w),
+    }
+}
+
+// The same, where the table is an array.
+fn resolve_table(s: &[u8], t: &[u16; 3344], a: &mut [u64], m: &mut [u64]) -> Answer
+    ensures { λ r. ⌜ resolvedTo r (now (a .exit)) (now (m .exit)) ≡ resolveSection (now (s .entry)) (now (t .entry)) (now (a .entry)) (now (m .entry)) ⌝ }
+{
+    resolve_section(s, t, a, m)
+}
+
+fn resolve_stream(s: &[u8], a: &mut [u64], m: &mut [u64]) -> Answer
+    ensures { λ r. ⌜ resolvedTo r (now (a .exit)) (now (m .exit)) ≡ resolveStream (now (s .entry)) (now (a .entry)) (now (m .entry)) ⌝ }
+{
+    let mut t = [0u16; 3344];
+    let bad = section::read_stream(s, &mut t);
+    if bad != 0 {
+        return refused(a, m, bad, 65535, 0);
+    }
+    resolve_table(s, &t, a, m)
+}
+
+// The stream is the first n bytes.
+fn resolve_front(bytes: &[u8], n: usize, a: &mut [u64], m: &mut [u64]) -> Answer
+    requires { ⌜ n ≤ length (now bytes) ⌝ }
+    ensures { λ r. ⌜ resolvedTo r (now (a .exit)) (now (m .exit)) ≡ resolveStream (take n (now (bytes .entry))) (now (a .entry)) (now (m .entry)) ⌝ }
+{
+    resolve_stream(&bytes[..n], a, m)
+}
+
+// A file of several blocks, whose payloads are joined.
+fn resolve_blocks(file: &[u8], a: &mut [u64], m: &mut [u64]) -> Answer
+    requires { ⌜ length (now file) / 512 * 510 ≤ 65280 ⌝ }
+    ensures { λ r. ⌜ resolvedTo r (now (a .exit)) (now (m .exit)) ≡ resolveStream (joined (length (now (file .entry)) / 512) (now (file .entry))) (now (a .entry)) (now (m .entry)) ⌝ }
+{
+    let mut buf = [0u8; 65280];
+    section::blocks::join(file, &mut buf);
+    let n = file.len() / 512 * 510;
+    resolve_front(&buf, n, a, m)
+}
+
+pub fn resolve_words(file: &[u8], actions: &mut [u64], temporaries: &mut [u64]) -> Answer
+    ensures { λ r. ⌜ resolvedTo r (now (actions .exit)) (now (temporaries .exit)) ≡ resolveFile (now (file .entry)) (now (actions .entry)) (now (temporaries .entry)) ⌝ }
+{
+    let bad = section::blocks::check_blocks(file);
+    if bad != 0 {
+        return refused(actions, temporaries, bad, 65535, 0);
+    }
+    if file.len() == 512 {
+        return resolve_front(file, 510, actions, temporaries);
+    }
+    resolve_blocks(file, actions, temporaries)
+}
