@@ -55,7 +55,7 @@ kind-of (suc (suc n)) = let p : suc (suc n) ≡ 2 + n = omega arith in subst (Is
 -- what the words find is what the definition's walk finds
 pub data Finds (st : State) : Space → Outcome SpaceKind → Type 0 where
   found : (k : SpaceKind) (n : ℕ) → IsKind k n → Finds st (Space.Kind n) (done k st)
-  lost : (r : Refusal) (n : ℕ) (ordinal : Option ℕ) (errors : ℕ) → n ≡ refusalNumber r → Finds st (Space.No n) (stopped r ordinal errors)
+  lost : (r : Refusal) (n : ℕ) → n ≡ refusalNumber r → Finds st (Space.No n) (stopped r (st .sizing .begun) 0)
 
 or-size : (a b : Option ℕ) → Small a → orSize (orNone a) (orNone b) ≡ orNone (a or b)
 unfolding orSize orNone orElse _or_ if_then_else_
@@ -89,23 +89,23 @@ module _ (s t : List ℕ) (e : Env) (holds : Holds s t (e .section)) (st : State
 
   named-finds : (name : ℕ) (y : Option Symbol) → find name (globals (e .section)) ≡ y
       → Finds st (spaceOf s t (symbolWord y)) (on e (on e (expect undefined y e st) (λ y. λ e st. on e (require (isSymbol SymbolKind.Space y) wrongKind e st) λ _. λ e st. done (y .id) st)) λ id. λ e st. d.spaceKind (getElem? (e .section .spaces) id) undefined e st)
-  named-finds name none q = unfold spaceOf symbolWord if_then_else_ expect on in lost undefined 22 _ _ (unfold refusalNumber in refl)
+  named-finds name none q = unfold spaceOf symbolWord if_then_else_ expect on in lost undefined 22 (unfold refusalNumber in refl)
   named-finds name (some y) q = by-kind (y .kind) (y .id) (symbol-placed (e .section) name y q)
     where
       by-kind : (k : SymbolKind) (i : ℕ) → Placed (e .section) k i
           → Finds st (spaceOf s t (symbolWord (some (record { kind = k; id = i })))) (on e (on e (expect undefined (some (record { kind = k; id = i })) e st) (λ y. λ e st. on e (require (isSymbol SymbolKind.Space y) wrongKind e st) λ _. λ e st. done (y .id) st)) λ id. λ e st. d.spaceKind (getElem? (e .section .spaces) id) undefined e st)
       by-kind SymbolKind.Space i h = unfold spaceOf symbolWord if_then_else_ expect on require isSymbol symbolNumber in rw (word-nonzero 0 i, word-kind 0 i (omega arith), word-place 0 i (omega arith)) (space-finds i h undefined)
-      by-kind SymbolKind.Register i h = unfold spaceOf symbolWord if_then_else_ expect on require isSymbol symbolNumber in rw (word-nonzero 1 i, word-kind 1 i (omega arith)) (lost wrongKind 23 _ _ (unfold refusalNumber in refl))
-      by-kind SymbolKind.BitRange i h = unfold spaceOf symbolWord if_then_else_ expect on require isSymbol symbolNumber in rw (word-nonzero 2 i, word-kind 2 i (omega arith)) (lost wrongKind 23 _ _ (unfold refusalNumber in refl))
-      by-kind SymbolKind.Table i h = unfold spaceOf symbolWord if_then_else_ expect on require isSymbol symbolNumber in rw (word-nonzero 3 i, word-kind 3 i (omega arith)) (lost wrongKind 23 _ _ (unfold refusalNumber in refl))
-      by-kind SymbolKind.UserOp i h = unfold spaceOf symbolWord if_then_else_ expect on require isSymbol symbolNumber in rw (word-nonzero 4 i, word-kind 4 i (omega arith)) (lost wrongKind 23 _ _ (unfold refusalNumber in refl))
-      by-kind SymbolKind.Macro i h = unfold spaceOf symbolWord if_then_else_ expect on require isSymbol symbolNumber in rw (word-nonzero 5 i, word-kind 5 i (omega arith)) (lost wrongKind 23 _ _ (unfold refusalNumber in refl))
-      by-kind SymbolKind.Other i h = unfold spaceOf symbolWord if_then_else_ expect on require isSymbol symbolNumber in rw (word-nonzero 6 i, word-kind 6 i (omega arith)) (lost wrongKind 23 _ _ (unfold refusalNumber in refl))
+      by-kind SymbolKind.Register i h = unfold spaceOf symbolWord if_then_else_ expect on require isSymbol symbolNumber in rw (word-nonzero 1 i, word-kind 1 i (omega arith)) (lost wrongKind 23 (unfold refusalNumber in refl))
+      by-kind SymbolKind.BitRange i h = unfold spaceOf symbolWord if_then_else_ expect on require isSymbol symbolNumber in rw (word-nonzero 2 i, word-kind 2 i (omega arith)) (lost wrongKind 23 (unfold refusalNumber in refl))
+      by-kind SymbolKind.Table i h = unfold spaceOf symbolWord if_then_else_ expect on require isSymbol symbolNumber in rw (word-nonzero 3 i, word-kind 3 i (omega arith)) (lost wrongKind 23 (unfold refusalNumber in refl))
+      by-kind SymbolKind.UserOp i h = unfold spaceOf symbolWord if_then_else_ expect on require isSymbol symbolNumber in rw (word-nonzero 4 i, word-kind 4 i (omega arith)) (lost wrongKind 23 (unfold refusalNumber in refl))
+      by-kind SymbolKind.Macro i h = unfold spaceOf symbolWord if_then_else_ expect on require isSymbol symbolNumber in rw (word-nonzero 5 i, word-kind 5 i (omega arith)) (lost wrongKind 23 (unfold refusalNumber in refl))
+      by-kind SymbolKind.Other i h = unfold spaceOf symbolWord if_then_else_ expect on require isSymbol symbolNumber in rw (word-nonzero 6 i, word-kind 6 i (omega arith)) (lost wrongKind 23 (unfold refusalNumber in refl))
 
   default-finds : (b : Bool) → eqb (le16 s 24) 65535 ≡ b → absentAt s 24 ≡ (definition.if_then_else_ b none (some (le16 s 24)))
       → Finds st (if b then Space.No 39 else kindOfSpace s t (le16 s 24)) (d.spaceKind (andThen (definition.if_then_else_ b none (some (le16 s 24))) (getElem? (e .section .spaces))) noDefaultSpace e st)
   unfolding if_then_else_ base-opens d.spaceKind
-  default-finds true q h = lost noDefaultSpace 39 _ _ (unfold refusalNumber in refl)
+  default-finds true q h = lost noDefaultSpace 39 (unfold refusalNumber in refl)
   default-finds false q h =
       let g : absentAt s 24 ≡ some (le16 s 24) = h in
       let k : le16 s 24 < le16 s 4 = holds .limits .defaultSpace (le16 s 24) g in
@@ -138,28 +138,28 @@ module _ (s t : List ℕ) (e : Env) (front tail marks rest : List ℕ) (we : Wor
   abbrev Answers : State → ExprOut → Outcome ExprValue → Type 0
   Answers st x o = Means s t e front tail marks rest we below spare room next st x o
 
-  refused : (st : State) (n : ℕ) (r : Refusal) (ordinal : Option ℕ) (errors : ℕ) → n ≡ refusalNumber r → Answers st (resolved (Expr.No n) (A st) (M st)) (stopped r ordinal errors)
+  refused : (st : State) (n : ℕ) (r : Refusal) → n ≡ refusalNumber r → Answers st (resolved (Expr.No n) (A st) (M st)) (stopped r (st .sizing .begun) 0)
   unfolding seenExpr
-  refused st n r ordinal errors h = refines-stopped (e .section) front tail marks rest spare st _ (SoundX (e .section)) n r ordinal errors h
+  refused st n r h = refines-stopped (e .section) front tail marks rest spare st _ (SoundX (e .section)) n r h
 
   in-const : (st : State) → Stood (e .section) tail marks rest spare st → (size : Option ℕ) (x : ExprValue) → Small size → SoundX (e .section) (count st) x
       → Answers st (resolved (inConstSpace (encX x) (orNone size) next (W st)) (A st) (M st)) (d.inConstSpace size x e st)
   unfolding inConstSpace encX d.inConstSpace
   in-const st f size (ExprValue.Local v) l h = rw (or-size size (v .size) l) (unfold encX in means-done s t e front tail marks rest we below spare room next st f (ExprValue.Local (record { kind = v .kind; number = v .number; offset = v .offset; size = size or v .size })) (record { number = h .number; offset = h .offset; size = or-small size (v .size) l (h .size) }))
   in-const st f size (ExprValue.Const n z) l h = rw (or-size size z l) (unfold encX in means-done s t e front tail marks rest we below spare room next st f (ExprValue.Const n (size or z)) (or-small size z l h))
-  in-const st f size (ExprValue.Unbound v) l h = refused st 38 _ _ _ (unfold refusalNumber in refl)
-  in-const st f size (ExprValue.Apply op n vs) l h = refused st 38 _ _ _ (unfold refusalNumber in refl)
-  in-const st f size (ExprValue.RamRef v z) l h = refused st 38 _ _ _ (unfold refusalNumber in refl)
-  in-const st f size (ExprValue.RegisterRef v z) l h = refused st 38 _ _ _ (unfold refusalNumber in refl)
-  in-const st f size (ExprValue.AddressOf v z) l h = refused st 38 _ _ _ (unfold refusalNumber in refl)
-  in-const st f size (ExprValue.BitRange v from bits) l h = refused st 38 _ _ _ (unfold refusalNumber in refl)
+  in-const st f size (ExprValue.Unbound v) l h = refused st 38 _ (unfold refusalNumber in refl)
+  in-const st f size (ExprValue.Apply op n vs) l h = refused st 38 _ (unfold refusalNumber in refl)
+  in-const st f size (ExprValue.RamRef v z) l h = refused st 38 _ (unfold refusalNumber in refl)
+  in-const st f size (ExprValue.RegisterRef v z) l h = refused st 38 _ (unfold refusalNumber in refl)
+  in-const st f size (ExprValue.AddressOf v z) l h = refused st 38 _ (unfold refusalNumber in refl)
+  in-const st f size (ExprValue.BitRange v from bits) l h = refused st 38 _ (unfold refusalNumber in refl)
 
   refers : (st : State) → Stood (e .section) tail marks rest spare st → (k : SpaceKind) (n : ℕ) → IsKind k n → (size : Option ℕ) (v : Value) → Small size → Sound (e .section) (count st) v
       → Answers st (resolved (referenceTo n (orNone size) next (encV v) (W st)) (A st) (M st)) (d.reference k v (orElse 0 size) e st)
   unfolding referenceTo d.reference if_then_else_
   refers st f SpaceKind.RamSpace n ram size v l h = rw (or-zero size l) (unfold encX in means-done s t e front tail marks rest we below spare room next st f (ExprValue.RamRef v (orElse 0 size)) (h, l))
   refers st f SpaceKind.RegisterSpace n register size v l h = rw (or-zero size l) (unfold encX in means-done s t e front tail marks rest we below spare room next st f (ExprValue.RegisterRef v (orElse 0 size)) (h, l))
-  refers st f SpaceKind.OtherSpace n (other m) size v l h = rw (ne-eqb (2 + m) 0 (λ q. omega arith), ne-eqb (2 + m) 1 (λ q. omega arith)) (refused st 40 _ _ _ (unfold refusalNumber in refl))
+  refers st f SpaceKind.OtherSpace n (other m) size v l h = rw (ne-eqb (2 + m) 0 (λ q. omega arith), ne-eqb (2 + m) 1 (λ q. omega arith)) (refused st 40 _ (unfold refusalNumber in refl))
 
   referred : (st : State) → Stood (e .section) tail marks rest spare st → (k : SpaceKind) (n : ℕ) → IsKind k n → (size : Option ℕ) (x : ExprValue) → Small size → SoundX (e .section) (count st) x
       → Answers st (exprOf (readOperand s t (A st) (M st) we (encX x) (W st)) (reference n (orNone size) next)) (on e (d.readValue x none e st) (λ pointer. d.reference k pointer (orElse 0 size)))
@@ -186,7 +186,7 @@ module _ (s t : List ℕ) (e : Env) (front tail marks rest : List ℕ) (we : Wor
     where
       go : (y : Space) (o : Outcome SpaceKind) → Finds st y o → Answers st (inSpace y s t (A st) (M st) we (orNone size) (encX x) next (W st)) (on e o (λ kind. λ e st. on e (d.readValue x none e st) λ pointer. d.reference kind pointer (orElse 0 size)))
       go y o (found k n i) = unfold inSpace on in referred st f k n i size x l h
-      go y o (lost r n ordinal errors q) = unfold inSpace on in refused st n r ordinal errors q
+      go y o (lost r n q) = unfold inSpace on in refused st n r q
 
   -- the place that a pointer, already resolved, refers to
   pub address : (st : State) → Stood (e .section) tail marks rest spare st → (space size : Option ℕ) (x : ExprValue) → ((y : ℕ) → space ≡ some y → y < 1024) → Small size → SoundX (e .section) (count st) x

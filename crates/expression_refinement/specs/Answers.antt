@@ -39,6 +39,21 @@ unfoldable pub seenArgs : ArgsOut → Seen (List ℕ × ℕ)
 seenArgs (passed (Args.Done next st) a m args) = yes (args, next) st a m
 seenArgs (passed (Args.No n) a m args) = no n
 
+-- a refusal is at the statement that has begun, and counts no errors
+abbrev pub Halts : {A : Type 0} → State → Outcome A → Type 0
+Halts from o = (r : Refusal) (ordinal : Option ℕ) (errors : ℕ) → o ≡ stopped r ordinal errors → (ordinal ≡ from .sizing .begun) × (errors ≡ 0)
+
+pub halts-done : {A : Type 0} (from : State) (a : A) (st : State) → Halts from (done a st)
+halts-done from a st r ordinal errors q = let z : _≡_ {A = ℕ} 0 1 = cc in absurd (omega arith)
+
+pub halts-here : {A : Type 0} (from : State) (r : Refusal) → Halts {A = A} from (stopped r (from .sizing .begun) 0)
+halts-here from r k ordinal errors q = (cc, cc)
+
+pub halts-on : {A C : Type 0} (e : Env) (from : State) (o : Outcome A) (k : A → Walk C) → Halts from o → ((a : A) (st : State) → o ≡ done a st → (st .sizing .begun ≡ from .sizing .begun) × Halts st (k a e st)) → Halts from (on e o k)
+unfolding on
+halts-on e from (done a st) k h f = λ r ordinal errors q. let g = f a st refl in let i = g .1 r ordinal errors q in (i .0 ∙ g .0, i .1)
+halts-on e from (stopped r ordinal errors) k h f = λ c o n q. h c o n cc
+
 module _ (sec : Section) (front tail marks rest : List ℕ) where
   abbrev pub acts : State → List ℕ
   acts st = actionsIn front tail (st .actions)
@@ -58,6 +73,7 @@ module _ (sec : Section) (front tail marks rest : List ℕ) where
   pub record Refines {A B : Type 0} (spare : ℕ) (from : State) (enc : A → B) (P : ℕ → A → Type 0) (x : Seen B) (o : Outcome A) : Type 0 where
     pub same : x ≡ outcome front tail marks rest enc o
     pub goes : (a : A) (st : State) → o ≡ done a st → Reached spare from st × P (count st) a
+    pub stops : Halts from o
 
   -- done, in this state or a later one
   pub refines-at : {A B : Type 0} (spare : ℕ) (from st : State) (enc : A → B) (P : ℕ → A → Type 0) (a : A) (b : B) → Reached spare from st → P (count st) a → b ≡ enc a
@@ -66,24 +82,26 @@ module _ (sec : Section) (front tail marks rest : List ℕ) where
   refines-at spare from st enc P a b f g h = record {
     same = rw h;
     goes = λ c u e. let p : a ≡ c = cc in let q : st ≡ u = cc in rw (← p, ← q) (f, g);
+    stops = halts-done from a st;
   }
 
   pub refines-done : {A B : Type 0} (spare : ℕ) (st : State) (enc : A → B) (P : ℕ → A → Type 0) (a : A) (b : B) → Stood sec tail marks rest spare st → P (count st) a → b ≡ enc a
       → Refines spare st enc P (yes b (word st) (acts st) (temps st)) (done a st)
   refines-done spare st enc P a b f g h = refines-at spare st st enc P a b (record { stood = f; later = later-refl st }) g h
 
-  pub refines-stopped : {A B : Type 0} (spare : ℕ) (st : State) (enc : A → B) (P : ℕ → A → Type 0) (n : ℕ) (r : Refusal) (ordinal : Option ℕ) (errors : ℕ) → n ≡ refusalNumber r
-      → Refines spare st enc P (no n) (stopped r ordinal errors)
+  pub refines-stopped : {A B : Type 0} (spare : ℕ) (st : State) (enc : A → B) (P : ℕ → A → Type 0) (n : ℕ) (r : Refusal) → n ≡ refusalNumber r
+      → Refines spare st enc P (no n) (stopped r (st .sizing .begun) 0)
   unfolding outcome
-  refines-stopped spare st enc P n r ordinal errors h = record {
+  refines-stopped spare st enc P n r h = record {
     same = rw h;
     goes = λ c u e. let z : _≡_ {A = ℕ} 0 1 = cc in absurd (omega arith);
+    stops = halts-here st r;
   }
 
   -- another spare, another property
   pub weaken : {A B : Type 0} (spare more : ℕ) (st : State) (enc : A → B) (P Q : ℕ → A → Type 0) (x : Seen B) (o : Outcome A) → Refines spare st enc P x o
       → ((a : A) (u : State) → o ≡ done a u → Reached spare st u → P (count u) a → Reached more st u × Q (count u) a) → Refines more st enc Q x o
-  weaken spare more st enc P Q x o r f = record { same = r .same; goes = λ a u e. let g = r .goes a u e in f a u e (g .0) (g .1) }
+  weaken spare more st enc P Q x o r f = record { same = r .same; goes = λ a u e. let g = r .goes a u e in f a u e (g .0) (g .1); stops = r .stops }
 
   module _ {A B C D R : Type 0} (spare more : ℕ) (e : Env) (from : State) (enc : A → D) (P : ℕ → A → Type 0) (seen : R → Seen B) (encC : C → B) (Q : ℕ → C → Type 0) (k : A → Walk C) where
     -- on with a value
@@ -108,7 +126,7 @@ module _ (sec : Section) (front tail marks rest : List ℕ) where
 
     pub bind : (x : Seen D) (o : Outcome A) (y : R) (f : D → WordState → List ℕ → List ℕ → R) → Refines spare from enc P x o → Continues f
         → ((d : D) (st : WordState) (a m : List ℕ) → x ≡ yes d st a m → seen y ≡ seen (f d st a m)) → ((n : ℕ) → x ≡ no n → seen y ≡ no n) → Refines more from encC Q (seen y) (on e o k)
-    bind x o y f r i g h = record { same = then-same x o y f r i g h; goes = then-goes o f (r .goes) i }
+    bind x o y f r i g h = record { same = then-same x o y f r i g h; goes = then-goes o f (r .goes) i; stops = halts-on e from o k (r .stops) (λ a st q. let j = r .goes a st q in (j .0 .later .begun, i a st (j .0) (j .1) .stops)) }
 
   module _ {A B C R : Type 0} (spare more : ℕ) (e : Env) (from : State) (P : ℕ → A → Type 0) (seen : R → Seen B) (encC : C → B) (Q : ℕ → C → Type 0) (k : A → Walk C) where
     abbrev pub Refuses : (ℕ → List ℕ → List ℕ → R) → Type 0
@@ -196,8 +214,9 @@ module _ (sec : Section) (front tail marks rest : List ℕ) where
   refines-map spare e from enc P encC Q g x (done a st) r h k = record {
     same = r .same ∙ rw (h a);
     goes = λ c u q. let i : g a ≡ c = cc in let j : st ≡ u = cc in let l = r .goes a st refl in rw (← i, ← j) (l .0, k (count st) a (l .1));
+    stops = halts-done from (g a) st;
   }
-  refines-map spare e from enc P encC Q g x (stopped r ordinal errors) f h k = record { same = f .same; goes = λ c u q. let z : _≡_ {A = ℕ} 0 1 = cc in absurd (omega arith) }
+  refines-map spare e from enc P encC Q g x (stopped r ordinal errors) f h k = record { same = f .same; goes = λ c u q. let z : _≡_ {A = ℕ} 0 1 = cc in absurd (omega arith); stops = λ q o n h. f .stops q o n cc }
 
   -- a test: on with what passes it
   module _ {B C R : Type 0} (more : ℕ) (e : Env) (st : State) (seen : R → Seen B) (encC : C → B) (Q : ℕ → C → Type 0) where
@@ -205,11 +224,11 @@ module _ (sec : Section) (front tail marks rest : List ℕ) where
         → Refines more st encC Q (seen (if b then y else z)) (on e (require b r e st) k)
     unfolding if_then_else_ on require
     bind-require true r y z k h f = f refl
-    bind-require false r y z k h f = rw h (refines-stopped more st encC Q (refusalNumber r) r _ _ refl)
+    bind-require false r y z k h f = rw h (refines-stopped more st encC Q (refusalNumber r) r refl)
 
     -- the same, the other way round
     pub bind-unless : (b : Bool) (r : Refusal) (y z : R) (k : Unit {0} → Walk C) → seen z ≡ no (refusalNumber r) → (b ≡ false → Refines more st encC Q (seen y) (k tt e st)) → (c : Bool) → (b ≡ false → c ≡ true) → (b ≡ true → c ≡ false)
         → Refines more st encC Q (seen (if b then z else y)) (on e (require c r e st) k)
     unfolding if_then_else_ on require
-    bind-unless true r y z k h f c i j = rw (j refl) (rw h (refines-stopped more st encC Q (refusalNumber r) r _ _ refl))
+    bind-unless true r y z k h f c i j = rw (j refl) (rw h (refines-stopped more st encC Q (refusalNumber r) r refl))
     bind-unless false r y z k h f c i j = rw (i refl) (f refl)

@@ -17,7 +17,7 @@ use Rattle.definition.specs.Sizes as sizes
 use Rattle.definition.specs.Sizes.{Sizing, pointerSize}
 use Rattle.definition.specs.Walk as d
 use Rattle.definition.specs.Walk.{State, Env, done, withSizing}
-use Rattle.definition.specs.ActionList.{orNone, actionKindNumber, operationWord}
+use Rattle.definition.specs.ActionList.{orNone, actionKindNumber, operationWord, placesLabel}
 use Rattle.pcode.specs.declared.value.Value.{Value as WordValue}
 use Rattle.pcode.specs.declared.push.Env.{Env as WordEnv}
 use Rattle.pcode.specs.Base.{if_then_else_, Listed, listed, thenL}
@@ -29,7 +29,7 @@ use Rattle.refinement.specs.Lists.{firstOf, secondOf, outputOf}
 use Rattle.refinement.specs.Seen.{Seen, yes, seenRead, seenPushed, seenTmp, seenPush}
 use Rattle.expression.specs.declared.read.Stated.{Stated}
 use Rattle.expression.specs.Reading.{setSize}
-use Rattle.expression_refinement.specs.Encodings.{Small, Applies, nameAt, tmps, count, Stood, sound-more, params-more, mapping-more}
+use Rattle.expression_refinement.specs.Encodings.{Small, Applies, nameAt, tmps, count, Stood, sound-more, params-more, mapping-more, actions-more}
 use Rattle.expression_refinement.specs.Answers.{acts, temps, word, Refines, refines-at}
 
 -- so many errors may be to spare that their count stays below 2^64
@@ -49,7 +49,7 @@ pub record Below (s t : List ℕ) (e : Env) (front tail marks rest : List ℕ) (
   pub args : (spare : ℕ) (st : State) → Spare spare tail → Stood (e .section) tail marks rest spare st → (n : ℕ) (v : Value) → Sound (e .section) (count st) v
       → Refines (e .section) front tail marks rest spare st (λ _. tt {0}) (λ n (_ : Unit {0}). Unit {0}) (seenPushed (pushOp s t (acts (e .section) front tail marks rest st) (temps (e .section) front tail marks rest st) we 64 n 1 noOutput (encV v) absent (word (e .section) front tail marks rest st))) (d.opNoOutput Operation.Arg n (v ∷ []) e st)
   -- an action that is no operation, which makes room for four errors
-  pub pushes : (spare : ℕ) (st : State) → Spare spare tail → Stood (e .section) tail marks rest (4 + spare) st → (x : SemanticAction) → length (x .inputs) ≤ 2 → SoundAction (e .section) (count st) x
+  pub pushes : (spare : ℕ) (st : State) → Spare spare tail → Stood (e .section) tail marks rest (4 + spare) st → (x : SemanticAction) → length (x .inputs) ≤ 2 → SoundAction (e .section) (count st) x → placesLabel x ≡ false
       → Refines (e .section) front tail marks rest spare st (λ _. tt {0}) (λ n (_ : Unit {0}). Unit {0}) (seenPush (temps (e .section) front tail marks rest st) (push (acts (e .section) front tail marks rest st) (actionKindNumber (x .kind)) (operationWord (operationOf (x .kind))) (x .number) (length (x .inputs)) (outputOf (operationOf (x .kind)) (x .output)) (firstOf (x .inputs)) (secondOf (x .inputs)) (word (e .section) front tail marks rest st))) (d.push x e st)
 
 -- where only the temporaries are lent, beside these actions
@@ -109,9 +109,10 @@ module _ (s t : List ℕ) (e : Env) (front tail marks rest : List ℕ) (holds : 
           marked = rw (q .count) (f .marked);
           sizes = q .fit;
           errors = (let a = f .errors in let b = q .errors in omega arith);
+          sound = actions-more (e .section) (count st) (length (z .temporaries)) (omega (arith, q .count)) (st .actions) (f .sound);
           params = params-more (e .section) (count st) (length (z .temporaries)) (omega (arith, q .count)) (st .scope .params) (f .params);
           mapping = mapping-more (e .section) (count st) (length (z .temporaries)) (omega (arith, q .count)) (st .scope .mapping) (f .mapping);
         };
-        later = record { temporaries = omega (arith, q .count); names = k .names; statements = refl; scope = refl; nextLabel = refl; export = refl; begun = k .begun; actions = omega arith };
+        later = record { temporaries = omega (arith, q .count); names = k .names; statements = refl; scope = refl; nextLabel = refl; export = refl; begun = k .begun; actions = omega arith; placed = refl };
       })
       (sound-more (e .section) (count st) (length (z .temporaries)) (omega (arith, q .count)) (truncate n v) (record { number = g .number; offset = g .offset; size = unfold orElse in small })) (unfold orNone orElse in refl)))

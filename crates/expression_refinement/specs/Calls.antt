@@ -50,12 +50,12 @@ ArgsIn args i [] = Unit {0}
 ArgsIn args i (x ∷ xs) = (argAt args i ≡ encX x) × ArgsIn args (suc i) xs
 
 pub user-applies : (vs : List Value) → Applies Operation.PcodeOp vs
-unfolding kindOf
-user-applies vs n to = tt
+unfolding kindOf operationNumber
+user-applies vs n to = (tt, refl)
 
 pub part-applies : (vs : List Value) → Applies Operation.Subpiece vs
-unfolding kindOf
-part-applies vs n to = tt
+unfolding kindOf operationNumber
+part-applies vs n to = (tt, refl)
 
 pub on-assoc : {A B C : Type 0} (e : Env) (o : Outcome A) (f : A → Walk B) (g : B → Walk C) → on e (on e o f) g ≡ on e o (λ a e1 st1. on e1 (f a e1 st1) g)
 unfolding on
@@ -225,7 +225,7 @@ module _ (s t : List ℕ) (e : Env) (p front tail marks rest : List ℕ) (we : W
       → Answers2 st (resolved (subpieceFrom offset end (encV v) (W2 st)) (A2 st) (M2 st)) (on e (expect subpieceArgument o e st) λ n. λ e2 st2. on e2 (require (leb n 255) subpieceArgument e2 st2) λ _. λ e3 st3. done (ExprValue.Apply Operation.Subpiece n (v ∷ [])) st3)
   unfolding subpieceFrom expect on
   piece-from st f none offset end h v g =
-      rw (lt-ltb 255 offset h) (unfold if_then_else_ seenExpr in refines-stopped (e .section) front tail marks rest spare st (λ (x : ExprValue). (encX x, next)) (SoundX (e .section)) 35 subpieceArgument _ _ (unfold refusalNumber in refl))
+      rw (lt-ltb 255 offset h) (unfold if_then_else_ seenExpr in refines-stopped (e .section) front tail marks rest spare st (λ (x : ExprValue). (encX x, next)) (SoundX (e .section)) 35 subpieceArgument (unfold refusalNumber in refl))
   piece-from st f (some k) offset end h v g =
       rw (h .0, h .1) (bind-unless (e .section) front tail marks rest spare e st (λ (x : Expr). seenExpr (resolved x (A2 st) (M2 st))) (λ (x : ExprValue). (encX x, next)) (SoundX (e .section)) (ltb 255 k) subpieceArgument (applied 66 k 1 (encV v) absent next (W2 st)) (Expr.No 35)
       (λ _. λ e3 st3. done (ExprValue.Apply Operation.Subpiece k (v ∷ [])) st3) (unfold seenExpr refusalNumber in refl)
@@ -259,4 +259,4 @@ module _ (s t : List ℕ) (e : Env) (p front tail marks rest : List ℕ) (we : W
       go : (x : Meaning) → SoundM s t e p front tail marks rest we holds spare st c name known x
           → Answers2 st (subpieceMeant (encM x) s t (A2 st) (M2 st) pos n we (W2 st)) (on e (on e (on e (done x st) meant) (λ x. d.readValue x none)) (piece args))
       go (means x) k = unfold encM subpieceMeant on meant in piece-of st f x k args pos n h
-      go (wrong r) k = unfold encM subpieceMeant on meant seenExpr in refines-stopped (e .section) front tail marks rest spare st (λ (x : ExprValue). (encX x, next)) (SoundX (e .section)) (refusalNumber r) r _ _ refl
+      go (wrong r) k = unfold encM subpieceMeant on meant seenExpr in refines-stopped (e .section) front tail marks rest spare st (λ (x : ExprValue). (encX x, next)) (SoundX (e .section)) (refusalNumber r) r refl

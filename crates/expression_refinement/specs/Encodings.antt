@@ -2,17 +2,18 @@
 -- expression means for that.
 use Prim.Native.Nat.{ℕ, _+_, _*_, _≤_, _<_}
 use mathlib.Core.Path.{_≡_, refl, _∙_}
-use mathlib.Core.List.{List, [], _∷_}
+use mathlib.Core.Bool.{Bool, true, false}
+use mathlib.Core.List.{List, [], _∷_, _++_}
 use mathlib.Core.Option.{Option, none, some}
 use native.Mathlib.Omega.{arith}
 use lib.ListN.{length, getElem?}
-use Rattle.definition.specs.Base.{orElse, andThen}
-use Rattle.definition.specs.Operations.{Operation, operationNumber}
+use Rattle.definition.specs.Base.{if_then_else_, orElse, andThen, sum}
+use Rattle.definition.specs.Operations.{Operation, operationNumber, isOp}
 use Rattle.definition.specs.Value.{Kind, Value, ActionKind, SemanticAction, Temporary}
 use Rattle.definition.specs.Ast.{Section}
 use Rattle.definition.specs.Walk.{ExprValue, State}
-use Rattle.definition.specs.ActionList.{orNone}
-use Rattle.refinement.specs.Encoding.{encV, Within, Sound, SoundTmp, Each}
+use Rattle.definition.specs.ActionList.{orNone, placesLabel, labelsPlaced}
+use Rattle.refinement.specs.Encoding.{encV, Within, Sound, SoundTmp, Each, EachOption, SoundAction}
 use Rattle.refinement.specs.Lists.{firstOf, secondOf}
 use Rattle.refinement.specs.RuleKinds.{kindOf, Operands}
 use Rattle.expression.specs.declared.scope.ExprValue.{ExprValue as WordExpr}
@@ -32,9 +33,9 @@ encX (ExprValue.BitRange v from bits) = WordExpr.BitRange (encV v) from bits
 abbrev pub opAction : Operation → ℕ → List Value → Option Value → SemanticAction
 opAction op n vs to = record { kind = ActionKind.Op op; number = n; inputs = vs; output = to }
 
--- with any output, the inputs are those that the operation's rule needs
+-- with any output, the inputs are those that the operation's rule needs; and no label is placed
 abbrev pub Applies : Operation → List Value → Type 0
-Applies op vs = (n : ℕ) (to : Value) → Operands (kindOf op) (opAction op n vs (some to))
+Applies op vs = (n : ℕ) (to : Value) → Operands (kindOf op) (opAction op n vs (some to)) × (isOp Operation.PcodeLabel op ≡ false)
 
 abbrev pub Small : Option ℕ → Type 0
 Small z = orElse 0 z < 65535
@@ -99,11 +100,12 @@ pub record Stood (sec : Section) (tail marks rest : List ℕ) (spare : ℕ) (st 
   pub marked : length marks ≤ count st
   pub sizes : Each SoundTmp (tmps st)
   pub errors : length (st .sizing .errors) ≤ spare + 4 * length (st .actions)
+  pub sound : Each (SoundAction sec (count st)) (st .actions)
   pub params : Each (λ (p : ℕ × ExprValue). SoundX sec (count st) (p .1)) (st .scope .params)
   pub mapping : Each (λ (p : ℕ × Value). Sound sec (count st) (p .1)) (st .scope .mapping)
 
 pub stood-more : {sec : Section} {tail marks rest : List ℕ} {spare : ℕ} (more : ℕ) {st : State} → spare ≤ more → Stood sec tail marks rest spare st → Stood sec tail marks rest more st
-stood-more more h f = record { actions = f .actions; temporaries = f .temporaries; marked = f .marked; sizes = f .sizes; errors = omega (arith, f .errors); params = f .params; mapping = f .mapping }
+stood-more more h f = record { actions = f .actions; temporaries = f .temporaries; marked = f .marked; sizes = f .sizes; errors = omega (arith, f .errors); sound = f .sound; params = f .params; mapping = f .mapping }
 
 -- From one state to a later one an expression changes only actions, temporaries and errors; no temporary gets a name.
 pub record Later (from st : State) : Type 0 where
@@ -115,9 +117,10 @@ pub record Later (from st : State) : Type 0 where
   pub export : st .export ≡ from .export
   pub begun : st .sizing .begun ≡ from .sizing .begun
   pub actions : length (from .actions) ≤ length (st .actions)
+  pub placed : labelsPlaced (st .actions) ≡ labelsPlaced (from .actions)
 
 pub later-refl : (st : State) → Later st st
-later-refl st = record { temporaries = omega arith; names = λ i. refl; statements = refl; scope = refl; nextLabel = refl; export = refl; begun = refl; actions = omega arith }
+later-refl st = record { temporaries = omega arith; names = λ i. refl; statements = refl; scope = refl; nextLabel = refl; export = refl; begun = refl; actions = omega arith; placed = refl }
 
 pub later-trans : {a b c : State} → Later a b → Later b c → Later a c
 later-trans p q = record {
@@ -129,6 +132,7 @@ later-trans p q = record {
   export = q .export ∙ p .export;
   begun = q .begun ∙ p .begun;
   actions = omega (arith, p .actions, q .actions);
+  placed = q .placed ∙ p .placed;
 }
 
 pub params-more : (sec : Section) (n k : ℕ) → n ≤ k → (ps : List (ℕ × ExprValue)) → Each (λ (p : ℕ × ExprValue). SoundX sec n (p .1)) ps → Each (λ (p : ℕ × ExprValue). SoundX sec k (p .1)) ps
@@ -136,3 +140,21 @@ params-more sec n k l ps h = each-more _ _ (λ (p : ℕ × ExprValue) f. x-more 
 
 pub mapping-more : (sec : Section) (n k : ℕ) → n ≤ k → (ps : List (ℕ × Value)) → Each (λ (p : ℕ × Value). Sound sec n (p .1)) ps → Each (λ (p : ℕ × Value). Sound sec k (p .1)) ps
 mapping-more sec n k l ps h = each-more _ _ (λ (p : ℕ × Value) f. sound-more sec n k l (p .1) f) ps h
+
+-- more actions
+
+pub actions-more : (sec : Section) (n k : ℕ) → n ≤ k → (xs : List SemanticAction) → Each (SoundAction sec n) xs → Each (SoundAction sec k) xs
+actions-more sec n k l xs h = each-more _ _ (λ (x : SemanticAction) f. record { inputs = each-more (Sound sec n) (Sound sec k) (sound-more sec n k l) (x .inputs) (f .inputs); output = option-more (x .output) (f .output) }) xs h
+  where
+    option-more : (y : Option Value) → EachOption (Sound sec n) y → EachOption (Sound sec k) y
+    option-more none f = tt
+    option-more (some v) f = sound-more sec n k l v f
+
+pub each-last : {A : Type 0} (P : A → Type 0) (xs : List A) (x : A) → Each P xs → P x → Each P (xs ++ (x ∷ []))
+each-last P [] x h g = (g, tt)
+each-last P (y ∷ xs) x h g = (h .0, each-last P xs x (h .1) g)
+
+pub placed-last : (xs : List SemanticAction) (x : SemanticAction) → labelsPlaced (xs ++ (x ∷ [])) ≡ labelsPlaced xs + (if placesLabel x then 1 else 0)
+unfolding labelsPlaced sum
+placed-last [] x = omega arith
+placed-last (y ∷ xs) x = let h = placed-last xs x in omega arith

@@ -210,9 +210,9 @@ module _ (s t : List ℕ) (e : Env) (p front tail marks rest : List ℕ) (we : W
       → Refines (e .section) front tail marks rest spare st (λ (x : ExprValue). (encX x, next)) (SoundX (e .section))
       (seenExpr (resolveExpr deep s t p we pos (acts (e .section) front tail marks rest st) (temps (e .section) front tail marks rest st) (word (e .section) front tail marks rest st))) (d.resolveExpr x e st)
 
-  stops : (next : ℕ) (st : State) (n : ℕ) (r : Refusal) (ordinal : Option ℕ) (errors : ℕ) → n ≡ refusalNumber r → Answers next st (resolved (Expr.No n) (A st) (M st)) (stopped r ordinal errors)
+  stops : (next : ℕ) (st : State) (n : ℕ) (r : Refusal) → n ≡ refusalNumber r → Answers next st (resolved (Expr.No n) (A st) (M st)) (stopped r (st .sizing .begun) 0)
   unfolding seenExpr
-  stops next st n r ordinal errors h = refines-stopped (e .section) front tail marks rest spare st _ (SoundX (e .section)) n r ordinal errors h
+  stops next st n r h = refines-stopped (e .section) front tail marks rest spare st _ (SoundX (e .section)) n r h
 
   answers : (next : ℕ) (st : State) → Stands st → (x : ExprValue) → SoundX (e .section) (count st) x → Answers next st (resolved (Expr.Value (encX x) next (W st)) (A st) (M st)) (done x st)
   answers next st f x h = means-done s t e front tail marks rest we below spare room next st f x h
@@ -225,19 +225,19 @@ module _ (s t : List ℕ) (e : Env) (p front tail marks rest : List ℕ) (we : W
       → Answers next st (resolved (localAddress (encX x) (orNone size) next (W st)) (A st) (M st)) (on e (expect addressOfNonLocal (d.asLocal x) e st) λ base. λ e1 st1. done (ExprValue.AddressOf base size) st1)
   unfolding localAddress encX d.asLocal expect on
   local-address next st f size l (ExprValue.Local v) h = unfold encX in answers next st f (ExprValue.AddressOf v size) (h, l)
-  local-address next st f size l (ExprValue.Unbound v) h = stops next st 30 _ _ _ (unfold refusalNumber in refl)
-  local-address next st f size l (ExprValue.Const n z) h = stops next st 30 _ _ _ (unfold refusalNumber in refl)
-  local-address next st f size l (ExprValue.Apply op n vs) h = stops next st 30 _ _ _ (unfold refusalNumber in refl)
-  local-address next st f size l (ExprValue.RamRef v z) h = stops next st 30 _ _ _ (unfold refusalNumber in refl)
-  local-address next st f size l (ExprValue.RegisterRef v z) h = stops next st 30 _ _ _ (unfold refusalNumber in refl)
-  local-address next st f size l (ExprValue.AddressOf v z) h = stops next st 30 _ _ _ (unfold refusalNumber in refl)
-  local-address next st f size l (ExprValue.BitRange v from bits) h = stops next st 30 _ _ _ (unfold refusalNumber in refl)
+  local-address next st f size l (ExprValue.Unbound v) h = stops next st 30 _ (unfold refusalNumber in refl)
+  local-address next st f size l (ExprValue.Const n z) h = stops next st 30 _ (unfold refusalNumber in refl)
+  local-address next st f size l (ExprValue.Apply op n vs) h = stops next st 30 _ (unfold refusalNumber in refl)
+  local-address next st f size l (ExprValue.RamRef v z) h = stops next st 30 _ (unfold refusalNumber in refl)
+  local-address next st f size l (ExprValue.RegisterRef v z) h = stops next st 30 _ (unfold refusalNumber in refl)
+  local-address next st f size l (ExprValue.AddressOf v z) h = stops next st 30 _ (unfold refusalNumber in refl)
+  local-address next st f size l (ExprValue.BitRange v from bits) h = stops next st 30 _ (unfold refusalNumber in refl)
 
   address-meant : (next : ℕ) (st : State) → Stands st → (size : Option ℕ) → orElse 0 size < 65535 → (name : ℕ) → (c : Scopes st) (known : name < 1024) (x : Meaning) → SoundM s t e p front tail marks rest we holds spare st c name known x
       → Answers next st (resolved (addressMeant (encM x) (orNone size) next (W st)) (A st) (M st)) (on e (on e (done x st) meant) λ x. λ e1 st1. on e1 (expect addressOfNonLocal (d.asLocal x) e1 st1) λ base. λ e2 st2. done (ExprValue.AddressOf base size) st2)
   unfolding addressMeant encM on meant
   address-meant next st f size l name c known (means x) h = local-address next st f size l x h
-  address-meant next st f size l name c known (wrong r) h = stops next st (refusalNumber r) r _ _ refl
+  address-meant next st f size l name c known (wrong r) h = stops next st (refusalNumber r) r refl
 
   -- the same with the words of what may be absent
   address-named : (next : ℕ) (st : State) → Stands st → (size : Option ℕ) (n : ℕ) → orNone size ≡ n → orElse 0 size < 65535 → (name : ℕ) → (c : Scopes st) (known : name < 1024) (x : Meaning) → SoundM s t e p front tail marks rest we holds spare st c name known x
@@ -250,7 +250,7 @@ module _ (s t : List ℕ) (e : Env) (p front tail marks rest : List ℕ) (we : W
 
   -- an operand made of what was read
   pub operand-of : (next : ℕ) (st : State) (y : ReadOut) (o : Outcome Value) → Refines (e .section) front tail marks rest spare st encV (Sound (e .section)) (seenRead y) o → Gives next st (operandOf y (valueThen next)) o
-  operand-of next st y o r = record { same = go y o (r .same); goes = r .goes }
+  operand-of next st y o r = record { same = go y o (r .same); goes = r .goes; stops = r .stops }
     where
       go : (y : ReadOut) (o : Outcome Value) → seenRead y ≡ outcome front tail marks rest encV o → seenOperand (operandOf y (valueThen next)) ≡ outcome front tail marks rest (λ (v : Value). (encV v, next)) o
       go (read (WordRead.Value v st1) a m) (done u st2) q = unfold seenRead seenOperand operandOf valueThen outcome in (let i : v ≡ encV u = cc in let j : st1 ≡ W st2 = cc in let k : a ≡ A st2 = cc in let l : m ≡ M st2 = cc in rw (i, j, k, l))
@@ -424,7 +424,7 @@ module _ (s t : List ℕ) (e : Env) (p front tail marks rest : List ℕ) (we : W
     unfolding byCode if_then_else_ d.resolveExpr
     pool-case q =
         let i = constant-pool-at s (le16 s 2) deep pos x (drop next s) q reads in
-        rw (i .is) (stops next st 32 constantPool _ _ (unfold refusalNumber in refl))
+        rw (i .is) (stops next st 32 constantPool (unfold refusalNumber in refl))
 
     operator-case : getD s pos 0 ≡ 5 → Done 5
     unfolding byCode words.resolveOp operandsOf operandsAround skipExpr if_then_else_ d.resolveExpr
@@ -498,7 +498,7 @@ module _ (s t : List ℕ) (e : Env) (p front tail marks rest : List ℕ) (we : W
             by : (a b : Bool) → Answers next st (words.callNamed (resolveExpr deep s t p we) s t p we pos (le16 s (pos + 1)) num (if a then calls.callee 1 (y .id) else (if b then calls.callee 2 34 else calls.callee 3 0)) (A st) (M st) (W st))
                 ((definition.if_then_else_ a (λ e1 st1. on e1 (d.resolveArgs (i .args) e1 st1) (d.callUserOp (y .id))) (definition.if_then_else_ b (w.refuse macroInExpression) (d.subpiece (le16 s (pos + 1)) (i .args)))) e st)
             by true b = unfold words.callNamed if_then_else_ base-opens in user-case (y .id) l
-            by false true = unfold words.callNamed if_then_else_ base-opens in stops next st 34 macroInExpression _ _ (unfold refusalNumber in refl)
+            by false true = unfold words.callNamed if_then_else_ base-opens in stops next st 34 macroInExpression (unfold refusalNumber in refl)
             by false false = unfold words.callNamed if_then_else_ base-opens in piece-case l
 
         -- a built-in function
@@ -553,7 +553,7 @@ module _ (s t : List ℕ) (e : Env) (p front tail marks rest : List ℕ) (we : W
             by : (b : Bool) → eqb (g .arguments) num ≡ b → Answers next st (words.callNamed (resolveExpr deep s t p we) s t p we pos (le16 s (pos + 1)) num (if b then calls.callee 0 (operationNumber (g .op)) else calls.callee 2 33) (A st) (M st) (W st))
                 (on e (w.require b argumentCount e st) λ _. λ e1 st1. on e1 (d.resolveArgValues (i .args) e1 st1) λ vs. λ e2 st2. done (ExprValue.Apply (g .op) 0 vs) st2)
             by true h = unfold words.callNamed if_then_else_ w.require on in taking-case g k l (sym (eqb-true (g .arguments) num h))
-            by false h = unfold words.callNamed if_then_else_ w.require on in stops next st 33 argumentCount _ _ (unfold refusalNumber in refl)
+            by false h = unfold words.callNamed if_then_else_ w.require on in stops next st 33 argumentCount (unfold refusalNumber in refl)
 
         call-done : pos + 4 ≤ length s → Answers next st (words.resolveCall (resolveExpr deep s t p we) s t p we pos (A st) (M st) (W st)) (d.resolveCall (le16 s (pos + 1)) (i .args) (d.resolveArgValues (i .args)) (d.resolveArgs (i .args)) e st)
         unfolding words.resolveCall d.resolveCall on

@@ -44,82 +44,82 @@ coded-at (x ∷ os) i (suc code) o h q = let r : suc i + code ≡ i + suc code =
 all-coded : Coded 0 pcodeOps
 unfolding pcodeOps translatePcodeOp operationNumber operationOf if_then_else_ kindOf at isSome
 all-coded = (
-  (refl, refl, λ u v n to. (refl, refl, refl)),
+  (refl, refl, λ u v n to. ((refl, refl, refl), refl)),
   (
-    (refl, refl, λ u v n to. (refl, refl, refl)),
+    (refl, refl, λ u v n to. ((refl, refl, refl), refl)),
     (
-      (refl, refl, λ u v n to. (refl, refl, refl)),
+      (refl, refl, λ u v n to. ((refl, refl, refl), refl)),
       (
-        (refl, refl, λ u v n to. (refl, refl, refl)),
+        (refl, refl, λ u v n to. ((refl, refl, refl), refl)),
         (
-          (refl, refl, λ u v n to. (refl, refl, refl)),
+          (refl, refl, λ u v n to. ((refl, refl, refl), refl)),
           (
-            (refl, refl, λ u v n to. (refl, refl, refl)),
+            (refl, refl, λ u v n to. ((refl, refl, refl), refl)),
             (
-              (refl, refl, λ u v n to. (refl, refl, refl)),
+              (refl, refl, λ u v n to. ((refl, refl, refl), refl)),
               (
-                (refl, refl, λ u v n to. (refl, refl, refl)),
+                (refl, refl, λ u v n to. ((refl, refl, refl), refl)),
                 (
-                  (refl, refl, λ u v n to. (refl, refl, refl)),
+                  (refl, refl, λ u v n to. ((refl, refl, refl), refl)),
                   (
-                    (refl, refl, λ u v n to. (refl, refl, refl)),
+                    (refl, refl, λ u v n to. ((refl, refl, refl), refl)),
                     (
-                      (refl, refl, λ u v n to. (refl, refl, refl)),
+                      (refl, refl, λ u v n to. ((refl, refl, refl), refl)),
                       (
-                        (refl, refl, λ u v n to. (refl, refl, refl)),
+                        (refl, refl, λ u v n to. ((refl, refl, refl), refl)),
                         (
-                          (refl, refl, λ u v n to. (refl, refl, refl)),
+                          (refl, refl, λ u v n to. ((refl, refl, refl), refl)),
                           (
-                            (refl, refl, λ u v n to. (refl, refl, refl)),
+                            (refl, refl, λ u v n to. ((refl, refl, refl), refl)),
                             (
-                              (refl, refl, λ u v n to. (refl, refl, refl)),
+                              (refl, refl, λ u v n to. ((refl, refl, refl), refl)),
                               (
-                                (refl, refl, λ u v n to. (refl, refl, refl)),
+                                (refl, refl, λ u v n to. ((refl, refl, refl), refl)),
                                 (
-                                  (refl, refl, λ u v n to. (refl, refl, refl)),
+                                  (refl, refl, λ u v n to. ((refl, refl, refl), refl)),
                                   (
-                                    (refl, refl, λ u v n to. (refl, refl, refl)),
+                                    (refl, refl, λ u v n to. ((refl, refl, refl), refl)),
                                     (
-                                      (refl, refl, λ u v n to. (refl, refl, refl)),
+                                      (refl, refl, λ u v n to. ((refl, refl, refl), refl)),
                                       (
-                                        (refl, refl, λ u v n to. (refl, refl, refl)),
+                                        (refl, refl, λ u v n to. ((refl, refl, refl), refl)),
                                         (
-                                          (refl, refl, λ u v n to. (refl, refl, refl)),
+                                          (refl, refl, λ u v n to. ((refl, refl, refl), refl)),
                                           (
-                                            (refl, refl, λ u v n to. (refl, refl, refl)),
+                                            (refl, refl, λ u v n to. ((refl, refl, refl), refl)),
                                             (
-                                              (refl, refl, λ u v n to. (refl, refl, refl)),
+                                              (refl, refl, λ u v n to. ((refl, refl, refl), refl)),
                                               (
-                                                (refl, refl, λ u v n to. (refl, refl, refl)),
+                                                (refl, refl, λ u v n to. ((refl, refl, refl), refl)),
                                                 (
-                                                  (refl, refl, λ u v n to. (refl, refl, refl)),
+                                                  (refl, refl, λ u v n to. ((refl, refl, refl), refl)),
                                                   (
-                                                    (refl, refl, λ u v n to. (refl, refl, refl)),
+                                                    (refl, refl, λ u v n to. ((refl, refl, refl), refl)),
                                                     (
-                                                      (refl, refl, λ u v n to. (refl, refl, refl)),
+                                                      (refl, refl, λ u v n to. ((refl, refl, refl), refl)),
                                                       (
-                                                        (refl, refl, λ u v n to. (refl, refl, refl)),
+                                                        (refl, refl, λ u v n to. ((refl, refl, refl), refl)),
                                                         (
-                                                          (refl, refl, λ u v n to. (refl, refl, refl)),
+                                                          (refl, refl, λ u v n to. ((refl, refl, refl), refl)),
                                                           (
-                                                            (refl, refl, λ u v n to. (refl, refl, refl)),
+                                                            (refl, refl, λ u v n to. ((refl, refl, refl), refl)),
                                                             (
-                                                              (refl, refl, λ u v n to. (refl, refl, refl)),
+                                                              (refl, refl, λ u v n to. ((refl, refl, refl), refl)),
                                                               (
-                                                                (refl, refl, λ u v n to. (refl, refl, refl)),
+                                                                (refl, refl, λ u v n to. ((refl, refl, refl), refl)),
                                                                 (
-                                                                  (refl, refl, λ u v n to. (refl, refl, refl)),
+                                                                  (refl, refl, λ u v n to. ((refl, refl, refl), refl)),
                                                                   (
-                                                                    (refl, refl, λ u v n to. (refl, refl, refl)),
+                                                                    (refl, refl, λ u v n to. ((refl, refl, refl), refl)),
                                                                     (
-                                                                      (refl, refl, λ u v n to. (refl, refl, refl)),
+                                                                      (refl, refl, λ u v n to. ((refl, refl, refl), refl)),
                                                                       (
-                                                                        (refl, refl, λ u v n to. (refl, refl, refl)),
+                                                                        (refl, refl, λ u v n to. ((refl, refl, refl), refl)),
                                                                         (
-                                                                          (refl, refl, λ u v n to. (refl, refl, refl)),
+                                                                          (refl, refl, λ u v n to. ((refl, refl, refl), refl)),
                                                                           (
-                                                                            (refl, refl, λ u v n to. (refl, refl, refl)),
-                                                                            ((refl, refl, λ u v n to. (refl, refl, refl)), tt),
+                                                                            (refl, refl, λ u v n to. ((refl, refl, refl), refl)),
+                                                                            ((refl, refl, λ u v n to. ((refl, refl, refl), refl)), tt),
                                                                           ),
                                                                         ),
                                                                       ),
@@ -178,51 +178,51 @@ first-each P name (x ∷ xs) f h q = go (sameBytes name (x .spelling)) (first-ea
     go false k q = k (unfold base-opens in q)
 
 all-taking : Each Taking inbuilts
-unfolding inbuilts inbuilt kindOf at isSome
+unfolding inbuilts inbuilt kindOf at isSome operationNumber
 all-taking = (
-  one refl (λ v n to. (refl, refl, refl)),
+  one refl (λ v n to. ((refl, refl, refl), refl)),
   (
-    one refl (λ v n to. (refl, refl)),
+    one refl (λ v n to. ((refl, refl), refl)),
     (
-      one refl (λ v n to. (refl, refl)),
+      one refl (λ v n to. ((refl, refl), refl)),
       (
-        one refl (λ v n to. refl),
+        one refl (λ v n to. (refl, refl)),
         (
-          two refl (λ u v n to. (refl, refl, refl)),
+          two refl (λ u v n to. ((refl, refl, refl), refl)),
           (
-            two refl (λ u v n to. (refl, refl, refl)),
+            two refl (λ u v n to. ((refl, refl, refl), refl)),
             (
-              two refl (λ u v n to. (refl, refl, refl)),
+              two refl (λ u v n to. ((refl, refl, refl), refl)),
               (
-                one refl (λ v n to. tt),
+                one refl (λ v n to. (tt, refl)),
                 (
-                  one refl (λ v n to. tt),
+                  one refl (λ v n to. (tt, refl)),
                   (
-                    one refl (λ v n to. tt),
+                    one refl (λ v n to. (tt, refl)),
                     (
-                      one refl (λ v n to. (refl, refl)),
+                      one refl (λ v n to. ((refl, refl), refl)),
                       (
-                        one refl (λ v n to. (refl, refl)),
+                        one refl (λ v n to. ((refl, refl), refl)),
                         (
-                          one refl (λ v n to. (refl, refl)),
+                          one refl (λ v n to. ((refl, refl), refl)),
                           (
-                            one refl (λ v n to. (refl, refl)),
+                            one refl (λ v n to. ((refl, refl), refl)),
                             (
-                              one refl (λ v n to. (refl, refl)),
+                              one refl (λ v n to. ((refl, refl), refl)),
                               (
-                                one refl (λ v n to. (refl, refl)),
+                                one refl (λ v n to. ((refl, refl), refl)),
                                 (
-                                  one refl (λ v n to. tt),
+                                  one refl (λ v n to. (tt, refl)),
                                   (
-                                    one refl (λ v n to. tt),
+                                    one refl (λ v n to. (tt, refl)),
                                     (
-                                      one refl (λ v n to. tt),
+                                      one refl (λ v n to. (tt, refl)),
                                       (
-                                        one refl (λ v n to. tt),
+                                        one refl (λ v n to. (tt, refl)),
                                         (
-                                          one refl (λ v n to. tt),
+                                          one refl (λ v n to. (tt, refl)),
                                           (
-                                            one refl (λ v n to. tt),
+                                            one refl (λ v n to. (tt, refl)),
                                             tt,
                                           ),
                                         ),

@@ -12,14 +12,14 @@ use borrow.Author.Tests.{leb-true}
 use Rattle.definition.specs.Base as definition
 use Rattle.definition.specs.Base.{_or_, orElse, andThen, isSome, all, base-opens}
 use Rattle.definition.specs.Refusals.{listFull, tooManyTemporaries}
-use Rattle.definition.specs.Operations.{Operation, operationNumber}
+use Rattle.definition.specs.Operations.{Operation, operationNumber, isOp}
 use Rattle.definition.specs.Value.{Kind, Value, local, ActionKind, SemanticAction, operationOf, Temporary}
 use Rattle.definition.specs.Ast.{Section}
 use Rattle.definition.specs.Sizes as sizes
 use Rattle.definition.specs.Sizes.{Operand, Step, equal, sized, unsized, Sizing, pointerSize}
 use Rattle.definition.specs.Walk as d
 use Rattle.definition.specs.Walk.{State, Env, Outcome, done, stopped, on, require, withSizing, withAction}
-use Rattle.definition.specs.ActionList.{orNone, actionKindNumber, operationWord}
+use Rattle.definition.specs.ActionList.{orNone, actionKindNumber, operationWord, placesLabel, labelsPlaced}
 use Rattle.pcode.specs.declared.push.Env.{Env as WordEnv}
 use Rattle.pcode.specs.Pushes.{addTmp, push, pushOp, opTo}
 use Rattle.pcode.specs.Values.{absent, noOutput}
@@ -29,8 +29,8 @@ use Rattle.refinement.specs.Encoding.{encV, Sound, SoundTmp, Each, EachOption, 
 use Rattle.refinement.specs.After.{After}
 use Rattle.refinement.specs.RuleKinds.{kindOf, Operands}
 use Rattle.refinement.specs.Pushes.{Lent, Stands, unnamed-is, push-is, update-after, push-op-is, push-op-done, op-to-is, add-done}
-use Rattle.expression_refinement.specs.Encodings.{Small, Applies, sound-more, nameAt, tmps, count, Stood, stood-more, params-more, mapping-more}
-use Rattle.expression_refinement.specs.Answers.{acts, temps, word, Reached, Refines, refines-map}
+use Rattle.expression_refinement.specs.Encodings.{Small, Applies, sound-more, nameAt, tmps, count, Stood, stood-more, params-more, mapping-more, actions-more, each-last, placed-last}
+use Rattle.expression_refinement.specs.Answers.{acts, temps, word, Halts, halts-done, halts-here, Reached, Refines, refines-map}
 use Rattle.expression_refinement.specs.Below.{Spare, Below, settled-kept}
 
 -- No rule changes a name or the statement begun last.
@@ -93,6 +93,52 @@ module _ (sec : Section) where
   unfolding sizes.updateOperandSizes
   update-keeps late x z = steps-keep late _ x z
 
+-- Temporaries and pushes are refused at the statement that has begun.
+
+push-halts-at : (e : Env) (st : State) (x : SemanticAction) → Halts st (d.push x e st)
+unfolding d.push on
+push-halts-at e st x = go (leb (length (st .actions) + 1 + length (e .section .subtables)) (e .actionRoom))
+  where
+    go : (b : Bool) → Halts st (on e (require b listFull e st) (λ _. λ e1 st1. done (tt {0}) (withAction x st1)))
+    go true = unfold require in halts-done st tt _
+    go false = unfold require in halts-here st listFull
+
+pub add-halts : (e : Env) (st : State) (name size : Option ℕ) → Halts st (d.addTmp name size e st)
+unfolding d.addTmp on
+add-halts e st name size = go (leb (length (tmps st) + 1) (min (e .temporaryRoom) 512))
+  where
+    go : (b : Bool) → Halts st (on e (require b tooManyTemporaries e st) (λ _. λ e1 st1. on e1 (done (tt {0}) (withSizing (sizes.withTemporaries (tmps st ++ (record { name = name; size = size } ∷ [])) (st .sizing)) st1)) λ _. λ e2 st2. done (local Kind.PcodeTmp (length (tmps st))) st2))
+    go true = unfold require in halts-done st _ _
+    go false = unfold require in halts-here st tooManyTemporaries
+
+pub last-halts : {A B : Type 0} (e : Env) (st : State) (o : Outcome A) (f : A → B) → Halts st o → Halts st (on e o λ a. λ e1 st1. done (f a) st1)
+unfolding on
+last-halts e st (done a u) f h = halts-done st (f a) u
+last-halts e st (stopped r ordinal errors) f h = λ k o n q. h k o n cc
+
+pub push-op-halts : (e : Env) (st : State) (op : Operation) (n : ℕ) (vs : List Value) (output : Option Value) → Halts st (d.pushOp op n vs output e st)
+unfolding d.pushOp on
+push-op-halts e st op n vs output = λ r ordinal errors q.
+    let k = last-halts e (withSizing z st) (d.push y e (withSizing z st)) (λ _. y) (push-halts-at e (withSizing z st) y) r ordinal errors q in
+    (k .0 ∙ update-keeps (e .section) false x (st .sizing) .begun, k .1)
+  where
+    x : SemanticAction
+    x = record { kind = ActionKind.Op op; number = n; inputs = vs; output = output }
+
+    y : SemanticAction
+    y = sizes.updateOperandSizes (e .section) false x (st .sizing) .0
+
+    z : Sizing
+    z = sizes.updateOperandSizes (e .section) false x (st .sizing) .1
+
+pub no-label : (x : SemanticAction) (op : Operation) → x .kind ≡ ActionKind.Op op → isOp Operation.PcodeLabel op ≡ false → placesLabel x ≡ false
+unfolding placesLabel operationOf andThen orElse
+no-label x op h k = rw (h, k)
+
+pub no-operation : (x : SemanticAction) → operationOf (x .kind) ≡ none → placesLabel x ≡ false
+unfolding placesLabel andThen orElse
+no-operation x h = rw h
+
 module _ (s t : List ℕ) (e : Env) (front tail marks rest : List ℕ) (we : WordEnv) (lent : Lent e front tail rest) (holds : SizesHold s t (e .section)) (pointer-is : we .pointer ≡ pointerSize (e .section)) where
   stands : (spare : ℕ) (st : State) → Stood (e .section) tail marks rest spare st → Stands tail marks rest st
   stands spare st f = record { actions = f .actions; temporaries = f .temporaries; marked = f .marked; sizes = f .sizes }
@@ -132,6 +178,7 @@ module _ (s t : List ℕ) (e : Env) (front tail marks rest : List ℕ) (we : Wor
               marked = m .stands .marked;
               sizes = m .stands .sizes;
               errors = rw (m .errors, m .actions) (f .errors);
+              sound = rw (m .actions) (actions-more (e .section) (count st) (count u) (m .count) (st .actions) (f .sound));
               params = rw (ap (λ (u : State). u .scope) k) (params-more (e .section) (count st) (count u) (m .count) (st .scope .params) (f .params));
               mapping = rw (ap (λ (u : State). u .scope) k) (mapping-more (e .section) (count st) (count u) (m .count) (st .scope .mapping) (f .mapping));
             };
@@ -144,16 +191,18 @@ module _ (s t : List ℕ) (e : Env) (front tail marks rest : List ℕ) (we : Wor
               export = ap (λ (u : State). u .export) k;
               begun = m .begun;
               actions = omega (arith, ap length (m .actions));
+              placed = ap labelsPlaced (m .actions);
             };
           },
           m .sound,
         );
+    stops = add-halts e st none size;
   }
 
   -- an action pushed behind a sizing that an operation's rule left
-  pushed-state : (spare more : ℕ) (st : State) → Stood (e .section) tail marks rest spare st → (x : SemanticAction) (z : Sizing) → length (z .temporaries) ≡ count st → Each SoundTmp (z .temporaries) → Names (st .sizing) z → length (z .errors) ≤ more + 4 * length (st .actions) + 4
+  pushed-state : (spare more : ℕ) (st : State) → Stood (e .section) tail marks rest spare st → (x : SemanticAction) (z : Sizing) → SoundAction (e .section) (length (z .temporaries)) x → placesLabel x ≡ false → length (z .temporaries) ≡ count st → Each SoundTmp (z .temporaries) → Names (st .sizing) z → length (z .errors) ≤ more + 4 * length (st .actions) + 4
       → (u : State) → u ≡ withAction x (withSizing z st) → 24 * length (u .actions) ≤ length tail → Reached (e .section) front tail marks rest more st u
-  pushed-state spare more st f x z same fit names few u q long =
+  pushed-state spare more st f x z sound plain same fit names few u q long =
       let n : length (st .actions ++ (x ∷ [])) ≡ length (st .actions) + 1 = length-append (st .actions) (x ∷ []) in
       let c : 24 * length (st .actions ++ (x ∷ [])) ≤ length tail = subst (λ (u : State). 24 * length (u .actions) ≤ length tail) q long in
       subst (λ (w : State). Reached (e .section) front tail marks rest more st w) (sym q) (record {
@@ -163,16 +212,20 @@ module _ (s t : List ℕ) (e : Env) (front tail marks rest : List ℕ) (we : Wor
           marked = rw same (f .marked);
           sizes = fit;
           errors = omega arith;
+          sound = each-last _ (st .actions) x (actions-more (e .section) (count st) (length (z .temporaries)) (omega arith) (st .actions) (f .sound)) sound;
           params = params-more (e .section) (count st) (length (z .temporaries)) (omega arith) (st .scope .params) (f .params);
           mapping = mapping-more (e .section) (count st) (length (z .temporaries)) (omega arith) (st .scope .mapping) (f .mapping);
         };
-        later = record { temporaries = omega arith; names = names .names; statements = refl; scope = refl; nextLabel = refl; export = refl; begun = names .begun; actions = omega arith };
+        later = record { temporaries = omega arith; names = names .names; statements = refl; scope = refl; nextLabel = refl; export = refl; begun = names .begun; actions = omega arith; placed = placed-last (st .actions) x ∙ unlabelled };
       })
+    where
+      unlabelled : labelsPlaced (st .actions) + (definition.if_then_else_ (placesLabel x) 1 0) ≡ labelsPlaced (st .actions)
+      unlabelled = rw plain (unfold base-opens in omega arith)
 
   -- an operation
 
   module _ (spare : ℕ) (st : State) (room : Spare spare tail) (f : Stood (e .section) tail marks rest (suc spare) st) (op : Operation) (n : ℕ) (vs : List Value) (few : length vs ≤ 2) (output : Option Value)
-      (sound : SoundAction (e .section) (count st) (record { kind = ActionKind.Op op; number = n; inputs = vs; output = output })) (operands : Operands (kindOf op) (record { kind = ActionKind.Op op; number = n; inputs = vs; output = output })) where
+      (sound : SoundAction (e .section) (count st) (record { kind = ActionKind.Op op; number = n; inputs = vs; output = output })) (operands : Operands (kindOf op) (record { kind = ActionKind.Op op; number = n; inputs = vs; output = output })) (plain : isOp Operation.PcodeLabel op ≡ false) where
     abbrev pushedAs : SemanticAction
     pushedAs = record { kind = ActionKind.Op op; number = n; inputs = vs; output = output }
 
@@ -187,7 +240,7 @@ module _ (s t : List ℕ) (e : Env) (front tail marks rest : List ℕ) (we : Wor
         let k = push-op-done e st front tail marks rest lent (stands (suc spare) st f) s t holds we pointer-is op n vs few output sound operands errors-few a u q in
         let z = sizes.updateOperandSizes (e .section) false pushedAs (st .sizing) .1 in
         let w = after in (
-          pushed-state (suc spare) spare st f (sizes.updateOperandSizes (e .section) false pushedAs (st .sizing) .0) z (w .count) (w .temporaries) (update-keeps (e .section) false pushedAs (st .sizing)) (omega (arith, f .errors, w .errors)) u (k .1) (k .2 .actions),
+          pushed-state (suc spare) spare st f (sizes.updateOperandSizes (e .section) false pushedAs (st .sizing) .0) z (w .action) (no-label _ op (w .kind) plain) (w .count) (w .temporaries) (update-keeps (e .section) false pushedAs (st .sizing)) (omega (arith, f .errors, w .errors)) u (k .1) (k .2 .actions),
           rw (k .0) (subst (λ (v : State). SoundAction (e .section) (count v) (sizes.updateOperandSizes (e .section) false pushedAs (st .sizing) .0)) (sym (k .1)) (w .action)),
         )
 
@@ -195,8 +248,9 @@ module _ (s t : List ℕ) (e : Env) (front tail marks rest : List ℕ) (we : Wor
       → Refines (e .section) front tail marks rest spare st encV (Sound (e .section)) (seenRead (opTo s t (acts (e .section) front tail marks rest st) (temps (e .section) front tail marks rest st) we (operationNumber op) n (length vs) (encV to) (firstOf vs) (secondOf vs) (word (e .section) front tail marks rest st))) (d.op op n vs (some to) e st)
   unfolding d.op d.outputOr on
   op-refines spare st room f op n vs to few ok h g = record {
-    same = op-to-is e st front tail marks rest lent (stands (suc spare) st f) s t holds we pointer-is op n vs few to (record { inputs = h; output = g }) (ok n to) (errors-few spare st room f op n vs few (some to) (record { inputs = h; output = g }) (ok n to));
-    goes = λ v u q. go (d.pushOp op n vs (some to) e st) (push-goes spare st room f op n vs few (some to) (record { inputs = h; output = g }) (ok n to)) v u q;
+    same = op-to-is e st front tail marks rest lent (stands (suc spare) st f) s t holds we pointer-is op n vs few to (record { inputs = h; output = g }) (ok n to .0) (errors-few spare st room f op n vs few (some to) (record { inputs = h; output = g }) (ok n to .0) (ok n to .1));
+    goes = λ v u q. go (d.pushOp op n vs (some to) e st) (push-goes spare st room f op n vs few (some to) (record { inputs = h; output = g }) (ok n to .0) (ok n to .1)) v u q;
+    stops = last-halts e st (d.pushOp op n vs (some to) e st) (λ a. orElse to (a .output)) (push-op-halts e st op n vs (some to));
   }
     where
       known : (u : State) → count st ≤ count u → (a : SemanticAction) → SoundAction (e .section) (count u) a → Sound (e .section) (count u) (orElse to (a .output))
@@ -223,8 +277,9 @@ module _ (s t : List ℕ) (e : Env) (front tail marks rest : List ℕ) (we : Wor
       let w = stood-more (suc spare) (omega arith) f in
       refines-map (e .section) front tail marks rest spare e st (λ (_ : SemanticAction). tt {0}) (λ m a. SoundAction (e .section) m a) (λ _. tt {0}) (λ n (_ : Unit {0}). Unit {0}) (λ _. tt) _ (d.pushOp Operation.Arg n (v ∷ []) none e st)
       (record {
-        same = push-op-is e st front tail marks rest lent (stands (suc spare) st w) s t holds we pointer-is Operation.Arg n (v ∷ []) (omega arith) none k tt (errors-few spare st room w Operation.Arg n (v ∷ []) (omega arith) none k tt);
-        goes = push-goes spare st room w Operation.Arg n (v ∷ []) (omega arith) none k tt;
+        same = push-op-is e st front tail marks rest lent (stands (suc spare) st w) s t holds we pointer-is Operation.Arg n (v ∷ []) (omega arith) none k tt (errors-few spare st room w Operation.Arg n (v ∷ []) (omega arith) none k tt refl);
+        goes = push-goes spare st room w Operation.Arg n (v ∷ []) (omega arith) none k tt refl;
+        stops = push-op-halts e st Operation.Arg n (v ∷ []) none;
       }) (λ a. refl) (λ m a h. tt)
 
   -- an action that is no operation
@@ -239,15 +294,16 @@ module _ (s t : List ℕ) (e : Env) (front tail marks rest : List ℕ) (we : Wor
           (omega (arith, lent .builds, lent .actionRoom), cc)
       go false p q = let h : stopped listFull (st .sizing .begun) 0 ≡ done (tt {0}) u = unfold require in q in let z : _≡_ {A = ℕ} 0 1 = cc in absurd (omega arith)
 
-  push-refines : (spare : ℕ) (st : State) → Spare spare tail → Stood (e .section) tail marks rest (4 + spare) st → (x : SemanticAction) → length (x .inputs) ≤ 2 → SoundAction (e .section) (count st) x
+  push-refines : (spare : ℕ) (st : State) → Spare spare tail → Stood (e .section) tail marks rest (4 + spare) st → (x : SemanticAction) → length (x .inputs) ≤ 2 → SoundAction (e .section) (count st) x → placesLabel x ≡ false
       → Refines (e .section) front tail marks rest spare st (λ _. tt {0}) (λ n (_ : Unit {0}). Unit {0}) (seenPush (temps (e .section) front tail marks rest st) (push (acts (e .section) front tail marks rest st) (actionKindNumber (x .kind)) (operationWord (operationOf (x .kind))) (x .number) (length (x .inputs)) (outputOf (operationOf (x .kind)) (x .output)) (firstOf (x .inputs)) (secondOf (x .inputs)) (word (e .section) front tail marks rest st))) (d.push x e st)
-  push-refines spare st room f x few k = record {
+  push-refines spare st room f x few k plain = record {
     same = push-is e st front tail marks rest lent (stands (4 + spare) st f) (count st) x few k;
     goes = λ a u q.
         let h = push-done st x u q in
         let n : length (st .actions ++ (x ∷ [])) ≡ length (st .actions) + 1 = length-append (st .actions) (x ∷ []) in
         let c : 24 * length (st .actions ++ (x ∷ [])) ≤ length tail = omega (arith, h .0) in
-        (pushed-state (4 + spare) spare st f x (st .sizing) refl (f .sizes) (names-refl (st .sizing)) (omega (arith, f .errors)) u (h .1) (subst (λ (w : State). 24 * length (w .actions) ≤ length tail) (sym (h .1)) c), tt);
+        (pushed-state (4 + spare) spare st f x (st .sizing) k plain refl (f .sizes) (names-refl (st .sizing)) (omega (arith, f .errors)) u (h .1) (subst (λ (w : State). 24 * length (w .actions) ≤ length tail) (sym (h .1)) c), tt);
+    stops = push-halts-at e st x;
   }
 
   -- all that expressions need of the level below

@@ -9,7 +9,7 @@ use lib.ListN.{length}
 use lib.Dec.{eqb, leb}
 use borrow.Author.Tests.{leb-true, ne-eqb}
 use Rattle.definition.specs.Base as definition
-use Rattle.definition.specs.Base.{orElse, isSome, base-opens}
+use Rattle.definition.specs.Base.{orElse, andThen, isSome, base-opens}
 use Rattle.definition.specs.Refusals.{refusalNumber, addressOfOffset, offsetTooFar}
 use Rattle.definition.specs.Operations.{Operation, operationNumber}
 use Rattle.definition.specs.Value.{kindNumber, Value, local, constant, withSize, sliceBytes, truncate, ActionKind, SemanticAction, operationOf}
@@ -19,7 +19,7 @@ use Rattle.definition.specs.Sizes.{at}
 use Rattle.definition.specs.Walk as w
 use Rattle.definition.specs.Walk.{ExprValue, State, Env, Outcome, done, on, Walk}
 use Rattle.definition.specs.Expressions as d
-use Rattle.definition.specs.ActionList.{orNone, actionKindNumber, operationWord}
+use Rattle.definition.specs.ActionList.{orNone, actionKindNumber, operationWord, placesLabel}
 use Rattle.pcode.specs.declared.value.Value.{Value as WordValue}
 use Rattle.pcode.specs.declared.push.State.{State as WordState}
 use Rattle.pcode.specs.declared.push.Env.{Env as WordEnv}
@@ -46,20 +46,20 @@ toOf none = absent
 toOf (some v) = encV v
 
 pub copy-applies : (v : Value) → Applies Operation.Copy (v ∷ [])
-unfolding kindOf at isSome
-copy-applies v n to = (refl, refl)
+unfolding kindOf at isSome operationNumber
+copy-applies v n to = ((refl, refl), refl)
 
 pub load-applies : (v : Value) → Applies Operation.Load (v ∷ [])
-unfolding kindOf at isSome
-load-applies v n to = refl
+unfolding kindOf at isSome operationNumber
+load-applies v n to = (refl, refl)
 
 pub right-applies : (u v : Value) → Applies Operation.IntRight (u ∷ v ∷ [])
-unfolding kindOf at isSome
-right-applies u v n to = (refl, refl, refl)
+unfolding kindOf at isSome operationNumber
+right-applies u v n to = ((refl, refl, refl), refl)
 
 pub and-applies : (u v : Value) → Applies Operation.IntAnd (u ∷ v ∷ [])
-unfolding kindOf at isSome
-and-applies u v n to = (refl, refl, refl)
+unfolding kindOf at isSome operationNumber
+and-applies u v n to = ((refl, refl, refl), refl)
 
 pub constant-sound : (sec : Section) (n c : ℕ) → Sound sec n (constant c)
 unfolding orElse
@@ -214,7 +214,7 @@ module _ (s t : List ℕ) (e : Env) (front tail marks rest : List ℕ) (we : Wor
       pushed-out st1 (A st1) (M st1) 1 0 _ (W st1) _ v
       (unfold actionKindNumber operationWord operationOf outputOf firstOf secondOf orNone orElse in
       (below .pushes spare st1 room (stood-more (4 + spare) (omega arith) (r .stood)) (record { kind = ActionKind.AddressOf; number = 0; inputs = local (base .kind) (base .number) ∷ []; output = some v }) (omega arith)
-      (record { inputs = (record { number = b .number; offset = omega arith; size = unfold orElse in omega arith }, tt); output = p }))) p
+      (record { inputs = (record { number = b .number; offset = omega arith; size = unfold orElse in omega arith }, tt); output = p }) (unfold placesLabel andThen in refl))) p
 
   -- an answer with a value that only changed sizes; it may have made an error
   abbrev Sets : State → Listed Stated → Outcome Value → Type 0
@@ -289,7 +289,7 @@ module _ (s t : List ℕ) (e : Env) (front tail marks rest : List ℕ) (we : Wor
       (λ u st2 q k. let j = sound-more (e .section) (count st) (count st2) (omega (arith, r .later .temporaries, q .later .temporaries)) pointer h in
       pushed-out st2 (A st2) (M st2) 2 size (encV pointer) (W st2) (w.push (loading pointer size u) e st2) u
       (unfold actionKindNumber operationWord operationOf outputOf firstOf secondOf in
-      below .pushes spare st2 room (stood-more (4 + spare) (omega arith) (q .stood)) (loading pointer size u) (omega arith) (record { inputs = (j, tt); output = k })) k)
+      below .pushes spare st2 room (stood-more (4 + spare) (omega arith) (q .stood)) (loading pointer size u) (omega arith) (record { inputs = (j, tt); output = k }) (unfold placesLabel operationOf andThen orElse in refl)) k)
       (go (A st1) (setStated s t (M st1) (encV v) size (W st1))) (stop (A st1) (setStated s t (M st1) (encV v) size (W st1)))
     where
       go : (c : List ℕ) (x : Listed Stated) (u : WordValue) (st2 : WordState) (a m : List ℕ) → seenStated c x ≡ yes u st2 a m → seenRead (loadRegisterTo c (encV pointer) size x) ≡ seenRead (pushedOut (push a 2 0 size 1 u (encV pointer) absent st2) u m)

@@ -381,7 +381,7 @@ module _ (s t : List ℕ) (e : Env) (p front tail marks rest : List ℕ) (we : W
         → Refines (e .section) front tail marks rest spare st (λ (x : ExprValue). (encX x, next)) (SoundX (e .section)) (seenExpr (resolved (meansAt (encM x) next (word (e .section) front tail marks rest st)) (acts (e .section) front tail marks rest st) (temps (e .section) front tail marks rest st))) (d.meant x e st)
     unfolding meansAt encM seenExpr d.meant
     meant-refines next (means x) h = refines-done (e .section) front tail marks rest spare st _ (SoundX (e .section)) x (encX x, next) stood h refl
-    meant-refines next (wrong r) h = refines-stopped (e .section) front tail marks rest spare st _ (SoundX (e .section)) (refusalNumber r) r _ _ refl
+    meant-refines next (wrong r) h = refines-stopped (e .section) front tail marks rest spare st _ (SoundX (e .section)) (refusalNumber r) r refl
 
     -- a name as an expression
     pub ident : (next : ℕ)

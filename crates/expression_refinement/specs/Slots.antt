@@ -67,10 +67,10 @@ pub put-behind : (p : List ℕ) (at : ℕ) (k : Slot) (i : ℕ) → at + 8 ≤ i
 put-behind p at k i h = rw (put-fill p at k) (fill-behind (slotWords k) p at 1 i (omega arith))
 
 -- the slot with its values as their words are read
-unfoldable readAs : Slot → Slot
+unfoldable pub readAs : Slot → Slot
 readAs k = slot (k .tag) (k .x) (k .y) (valueOf (k .a .number) (word (k .a))) (valueOf (k .b .number) (word (k .b)))
 
-put-at : (p : List ℕ) (at : ℕ) (k : Slot) → at + 8 ≤ length p → slotAt (putSlot p at k) at ≡ readAs k
+pub put-at : (p : List ℕ) (at : ℕ) (k : Slot) → at + 8 ≤ length p → slotAt (putSlot p at k) at ≡ readAs k
 unfolding slotAt valueAt readAs
 put-at p at k h =
     rw (put-fill p at k)

@@ -46,7 +46,7 @@ subtables-fit : (e : Env) (ns : List ℕ) → length ns ≡ length (e .section .
 unfolding numberFits
 subtables-fit e ns c = locals-fit e Kind.Subtable 0 ns (λ n h. of-lt n (length (e .section .subtables)) (omega arith))
 
-start-kept : (e : Env) → length (e .section .subtables) ≤ e .actionRoom → Kept e (atStart (e .section))
+pub start-kept : (e : Env) → length (e .section .subtables) ≤ e .actionRoom → Kept e (atStart (e .section))
 unfolding atStart sectionScope labelNumbers andThen
 start-kept e h = record {
   inOrder = record { actions = tt; sizes = record { small = λ i n d. none-some {x = none} refl d }; labels = tt; room = omega arith };

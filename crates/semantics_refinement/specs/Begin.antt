@@ -34,7 +34,7 @@ pub data Begins (base ordinal : ℕ) (b : Beside) (st : State) (x : Step) (o : O
 
 module _ (e : Env) (base ordinal : ℕ) (b : Beside) (st : State) (same : b .statements ≡ st .statements) (export : ExportIs (st .export) (b .export)) where
   exported : (x : Option Export) → ExportIs x (b .export) → eqb (b .export .kind) 0 ≡ not (isSome x)
-  exported none h = unfold isSome in eq-eqb (b .export .kind) 0 h
+  exported none h = unfold isSome in eq-eqb (b .export .kind) 0 (h .0)
   exported (some y) h = unfold isSome in rw h (go (y .kind))
     where
       go : (k : ExportKind) → eqb (exportNumber k) 0 ≡ false

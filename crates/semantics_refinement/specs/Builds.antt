@@ -33,6 +33,7 @@ use Rattle.expression_refinement.specs.Encodings.{Stood, stood-more}
 use Rattle.expression_refinement.specs.Answers.{acts, temps, word}
 use Rattle.expression_refinement.specs.Below.{Spare}
 use Rattle.expression_refinement.specs.Scopes.{eqb-swap, global-is, word-nonzero, word-kind, word-place}
+use Rattle.expression_refinement.specs.Pushing.{no-operation}
 use Rattle.semantics_refinement.specs.Views.{Beside, step-stops, Goes, step-push}
 use Rattle.semantics_refinement.specs.Given.{Given, walkOf, below}
 
@@ -83,9 +84,9 @@ module _ (s t : List ℕ) (e : Env) (front tail marks rest : List ℕ) (we : Wor
   abbrev Builds : Listed Step → Outcome (Unit {0}) → Type 0
   Builds x o = Goes (e .section) front tail marks rest spare st (after pos 3) b (orNone (st .sizing .begun)) (thenL x (λ r c. stepped r c M)) o
 
-  stops : (n : ℕ) (r : Refusal) (ordinal : Option ℕ) (errors : ℕ) → n ≡ refusalNumber r → Builds (listed (stop n w) A) (stopped r ordinal errors)
+  stops : (n : ℕ) (r : Refusal) → n ≡ refusalNumber r → Builds (listed (stop n w) A) (stopped r (st .sizing .begun) 0)
   unfolding thenL
-  stops n r ordinal errors h = step-stops (e .section) front tail marks rest spare st _ _ w A M n r ordinal errors h
+  stops n r h = step-stops (e .section) front tail marks rest spare st _ _ w A M n r h
 
   abbrev building : ℕ → SemanticAction
   building i = record { kind = ActionKind.Build; number = i; inputs = []; output = none }
@@ -93,12 +94,12 @@ module _ (s t : List ℕ) (e : Env) (front tail marks rest : List ℕ) (we : Wor
   build-found : (o : Option ℕ) → ((j : ℕ) → o ≡ some j → j < length (e .section .subtables))
       → Builds (buildSubtable (orElse (length (e .section .subtables)) o) (length (e .section .subtables)) A pos w) (on e (expect absentTable o e st) λ i. walks.push (building i))
   unfolding buildSubtable if_then_else_ expect on orElse
-  build-found none h = rw (le-ltb (length (e .section .subtables)) (length (e .section .subtables)) (omega arith)) (stops 24 absentTable _ _ (unfold refusalNumber in refl))
+  build-found none h = rw (le-ltb (length (e .section .subtables)) (length (e .section .subtables)) (omega arith)) (stops 24 absentTable (unfold refusalNumber in refl))
   build-found (some i) h =
       rw (lt-ltb i (length (e .section .subtables)) (h i refl))
       (step-push (e .section) front tail marks rest spare st _ M _ (after pos 3) w
       (unfold actionKindNumber operationWord operationOf outputOf firstOf secondOf in
-      below s t e front tail marks rest we given .pushes spare st room (stood-more (4 + spare) (omega arith) stood) (building i) (omega arith) (record { inputs = tt; output = tt })))
+      below s t e front tail marks rest we given .pushes spare st room (stood-more (4 + spare) (omega arith) stood) (building i) (omega arith) (record { inputs = tt; output = tt }) (no-operation _ refl)))
 
   placed : (j : ℕ) (x : Subtable) → getElem? (e .section .subtables) j ≡ some x → le16 s (entry t 8 ((0 + j) % 65536 * 4) + 2) ≡ x .table
   unfolding entry subtableAt
@@ -128,7 +129,7 @@ module _ (s t : List ℕ) (e : Env) (front tail marks rest : List ℕ) (we : Wor
       → Builds (buildSymbol (symbolWord y) s t A pos w)
       (on e (on e (expect undefined y e st) (λ y. λ e st. on e (require (isSymbol SymbolKind.Table y) wrongKind e st) λ _. λ e st. done (y .id) st)) λ table. λ e st. on e (expect absentTable (position (λ (x : Subtable). eqb table (x .table)) 0 (e .section .subtables)) e st) λ i. walks.push (building i))
   unfolding buildSymbol symbolWord if_then_else_ symbolNumber
-  build-symbol none = unfold expect on in stops 22 undefined _ _ (unfold refusalNumber in refl)
+  build-symbol none = unfold expect on in stops 22 undefined (unfold refusalNumber in refl)
   build-symbol (some y) = unfold expect on isSymbol in rw (word-nonzero (symbolNumber (y .kind)) (y .id), word-kind (symbolNumber (y .kind)) (y .id) (kind-small (y .kind)), word-place (symbolNumber (y .kind)) (y .id) (kind-small (y .kind)), eqb-swap (symbolNumber (y .kind)) 3) (go (eqb 3 (symbolNumber (y .kind))))
     where
       go : (c : Bool) → Builds (if c then buildTable s t A (y .id) pos w else listed (stop 23 w) A)
@@ -137,7 +138,7 @@ module _ (s t : List ℕ) (e : Env) (front tail marks rest : List ℕ) (we : Wor
           let z : 0 + length (e .section .subtables) ≡ length (e .section .subtables) = omega arith in
           rw (← given .holds .subtables .count, subtable-found s t (y .id) 0 (e .section .subtables) placed, z)
           (build-found (position (λ (x : Subtable). eqb (y .id) (x .table)) 0 (e .section .subtables)) (λ j q. omega (arith, position-below (λ (x : Subtable). eqb (y .id) (x .table)) 0 (e .section .subtables) j q)))
-      go false = unfold require on if_then_else_ in stops 23 wrongKind _ _ (unfold refusalNumber in refl)
+      go false = unfold require on if_then_else_ in stops 23 wrongKind (unfold refusalNumber in refl)
 
   pub build-is : le16 s (pos + 1) < 1024 → Builds (build s t A pos w) (d.build (le16 s (pos + 1)) e st)
   unfolding build d.build lookupKind lookup on

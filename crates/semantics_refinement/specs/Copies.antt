@@ -43,16 +43,16 @@ use Rattle.semantics_refinement.specs.Stores.{store-is}
 use Rattle.semantics_refinement.specs.Declarations.{read-to}
 
 left-applies : (u v : Value) → Applies Operation.IntLeft (u ∷ v ∷ [])
-unfolding kindOf at isSome
-left-applies u v n to = (refl, refl, refl)
+unfolding kindOf at isSome operationNumber
+left-applies u v n to = ((refl, refl, refl), refl)
 
 or-applies : (u v : Value) → Applies Operation.IntOr (u ∷ v ∷ [])
-unfolding kindOf at isSome
-or-applies u v n to = (refl, refl, refl)
+unfolding kindOf at isSome operationNumber
+or-applies u v n to = ((refl, refl, refl), refl)
 
 extend-applies : (v : Value) → Applies Operation.ZeroExtend (v ∷ [])
-unfolding kindOf
-extend-applies v n to = tt
+unfolding kindOf operationNumber
+extend-applies v n to = (tt, refl)
 
 map-map : {A : Type 0} (c : ℕ × Beside) (x : Seen A) → mapSeen (λ _. c) x ≡ mapSeen (λ (_ : Unit {0}). c) (mapSeen (λ _. tt {0}) x)
 unfolding mapSeen
@@ -193,7 +193,7 @@ module _ (s t : List ℕ) (e : Env) (front tail marks rest : List ℕ) (we : Wor
       go true q = unfold readSliced if_then_else_ require on d.readTo in
           let k = leb-true (to .offset + from / 8) 65535 q in
           void st (readValue s t (A st) (M st) we (encX x) true (record { kind = kindNumber (to .kind); number = to .number; offset = to .offset + from / 8; size = bits / 8 }) (W st)) (expressions.readValue x (some (sliceBytes (from / 8) (bits / 8) to)) e st) (unfold isSome toOf orNone orElse in read-value s t e front tail marks rest we (below s t e front tail marks rest we given) spare room st f x (some (sliceBytes (from / 8) (bits / 8) to)) h (record { number = b .number; offset = k; size = unfold orElse in omega arith }))
-      go false q = unfold readSliced if_then_else_ require on in rw (void-no 42 (A st) (M st)) (refines-stopped (e .section) front tail marks rest spare st (λ (_ : Unit {0}). tt {0}) (λ n (_ : Unit {0}). Unit {0}) 42 offsetTooFar _ _ (unfold refusalNumber in refl))
+      go false q = unfold readSliced if_then_else_ require on in rw (void-no 42 (A st) (M st)) (refines-stopped (e .section) front tail marks rest spare st (λ (_ : Unit {0}). tt {0}) (λ n (_ : Unit {0}). Unit {0}) 42 offsetTooFar (unfold refusalNumber in refl))
 
   aligned-is : (from bits : ℕ) → byteAligned from bits ≡ expressions.byteAligned from bits
   unfolding byteAligned expressions.byteAligned if_then_else_
@@ -230,7 +230,7 @@ module _ (s t : List ℕ) (e : Env) (front tail marks rest : List ℕ) (we : Wor
         λ v st1 r g. store-is s t e front tail marks rest we given spare room w next st1 (r .stood) pointer size v l (more st st1 (r .later .temporaries) pointer b) g
 
     not-assignable : (st : State) → Ends st (stepped (stop 37 w) (A st) (M st)) (stopped notAssignable (st .sizing .begun) 0)
-    not-assignable st = step-stops (e .section) front tail marks rest spare st _ _ w (A st) (M st) 37 notAssignable _ _ (unfold refusalNumber in refl)
+    not-assignable st = step-stops (e .section) front tail marks rest spare st _ _ w (A st) (M st) 37 notAssignable (unfold refusalNumber in refl)
 
     -- into what a target was resolved to
     pub copy-into : (st : State) → Stands st → (x y : ExprValue) → SoundX (e .section) (count st) x → SoundX (e .section) (count st) y

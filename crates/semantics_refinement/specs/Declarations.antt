@@ -17,7 +17,7 @@ use Rattle.definition.specs.Walk.{ExprValue, State, Env, Outcome, done, stopped
 use Rattle.definition.specs.Scope as scope
 use Rattle.definition.specs.Expressions as expressions
 use Rattle.definition.specs.Statements as d
-use Rattle.definition.specs.ActionList.{orNone}
+use Rattle.definition.specs.ActionList.{orNone, labelsPlaced}
 use Rattle.pcode.specs.declared.push.Env.{Env as WordEnv}
 use Rattle.pcode.specs.declared.push.Read.{Read}
 use Rattle.pcode.specs.Base.{if_then_else_, Listed, listed, thenL}
@@ -33,14 +33,15 @@ use Rattle.semantics.specs.declared.statements.Walk.{Walk}
 use Rattle.semantics.specs.Walks.{Stepped, stepped, stepRead, stop, readThen}
 use Rattle.semantics.specs.Simple.{localStatement, assign, localAssignment}
 use Rattle.expression_refinement.specs.Encodings.{encX, SoundX, Small, sound-more, count, Stood}
-use Rattle.expression_refinement.specs.Answers.{acts, temps, word, Reached, bind-expr}
+use Rattle.expression_refinement.specs.Answers.{acts, temps, word, Halts, halts-on, Reached, bind-expr}
+use Rattle.expression_refinement.specs.Pushing.{last-halts}
 use Rattle.expression_refinement.specs.Below.{Spare}
 use Rattle.expression_refinement.specs.Scopes.{Scoped, scoped-later}
 use Rattle.expression_refinement.specs.Reading.{toOf, read-value}
 use Rattle.expression_refinement.specs.Expressions.{after-is, absent-word, small-or}
 use Rattle.semantics_refinement.specs.Views.{Beside, beside, seenStep, begunIn, stop-seen, mapSeen, read-seen, Goes, step-read}
 use Rattle.semantics_refinement.specs.Given.{Given, walkOf, below, expression}
-use Rattle.semantics_refinement.specs.Locals.{more, declared, Declared, named-same, named-goes, declared-stood, declared-scoped}
+use Rattle.semantics_refinement.specs.Locals.{more, declared, Declared, named-same, named-goes, named-halts, declared-stood, declared-scoped}
 
 -- From one state to a later one a statement that is no label keeps these.
 pub record Onward (from u : State) : Type 0 where
@@ -52,6 +53,7 @@ pub record Onward (from u : State) : Type 0 where
   pub export : u .export ≡ from .export
   pub begun : u .sizing .begun ≡ from .sizing .begun
   pub actions : length (from .actions) ≤ length (u .actions)
+  pub placed : labelsPlaced (u .actions) ≡ labelsPlaced (from .actions)
 
 pub onward-trans : {a b c : State} → Onward a b → Onward b c → Onward a c
 onward-trans p q = record {
@@ -63,6 +65,7 @@ onward-trans p q = record {
   export = q .export ∙ p .export;
   begun = q .begun ∙ p .begun;
   actions = omega (arith, p .actions, q .actions);
+  placed = q .placed ∙ p .placed;
 }
 
 module _ (s t : List ℕ) (e : Env) (p front tail rest : List ℕ) (we : WordEnv) (spare : ℕ) where
@@ -77,18 +80,19 @@ module _ (s t : List ℕ) (e : Env) (p front tail rest : List ℕ) (we : WordEnv
     pub marks : List ℕ
     pub same : x ≡ outcome front tail marks rest (λ (_ : Unit {0}). (next, b)) o
     pub goes : (u : State) → o ≡ done tt u → Stays marks from u
+    pub stops : Halts from o
 
   pub reached-stays : (marks : List ℕ) (from u : State) → Stood (e .section) tail marks rest spare from → Scoped s t e p front tail marks rest we from → Reached (e .section) front tail marks rest spare from u → Stays marks from u
   reached-stays marks from u f c g = let l = g .later in record {
     stood = g .stood;
     scoped = scoped-later s t e p front tail marks rest we spare spare from u f (g .stood) l c;
-    onward = record { temporaries = l .temporaries; statements = l .statements; params = rw (l .scope); labels = rw (l .scope); nextLabel = l .nextLabel; export = l .export; begun = l .begun; actions = l .actions };
+    onward = record { temporaries = l .temporaries; statements = l .statements; params = rw (l .scope); labels = rw (l .scope); nextLabel = l .nextLabel; export = l .export; begun = l .begun; actions = l .actions; placed = l .placed };
   }
 
   -- a statement that declares nothing
   pub plain : (marks : List ℕ) (from : State) → Stood (e .section) tail marks rest spare from → Scoped s t e p front tail marks rest we from → (next : ℕ) (b : Beside) (begun : ℕ) (x : Stepped) (o : Outcome (Unit {0}))
       → Goes (e .section) front tail marks rest spare from next b begun x o → Does from next b (seenStep begun x) o
-  plain marks from f c next b begun x o r = record { marks = marks; same = r .same; goes = λ u q. reached-stays marks from u f c (r .goes tt u q .0) }
+  plain marks from f c next b begun x o r = record { marks = marks; same = r .same; goes = λ u q. reached-stays marks from u f c (r .goes tt u q .0); stops = r .stops }
 
 module _ (s t : List ℕ) (e : Env) (front tail marks rest : List ℕ) (we : WordEnv) (given : Given s t e front tail rest we) (spare : ℕ) (room : Spare spare tail) (w : Walk) (next : ℕ) where
   -- what an expression means, read into a target
@@ -147,7 +151,7 @@ module _ (s t : List ℕ) (e : Env) (p front tail marks rest : List ℕ) (we : W
         record {
           stood = declared-stood s t e p front tail marks rest we given few spare st stood scoped name known size small (g .new) (g .room);
           scoped = declared-scoped s t e p front tail marks rest we given few spare st stood scoped name known size small (g .new) (g .room);
-          onward = record { temporaries = g .room .count; statements = refl; params = refl; labels = refl; nextLabel = refl; export = refl; begun = refl; actions = omega arith };
+          onward = record { temporaries = g .room .count; statements = refl; params = refl; labels = refl; nextLabel = refl; export = refl; begun = refl; actions = omega arith; placed = refl };
         },
         g .room .sound,
       )
@@ -170,6 +174,7 @@ module _ (s t : List ℕ) (e : Env) (p front tail marks rest : List ℕ) (we : W
     marks = marks1;
     same = local-same next (scope.namedTmp name size e st) (named-same s t e p front tail marks rest we given few spare st stood scoped name known size small);
     goes = λ u q. let k = done-from (scope.namedTmp name size e st) u q in declared-stays (k .0) u (k .1) .0;
+    stops = last-halts e st (scope.namedTmp name size e st) (λ _. tt {0}) (named-halts s t e p front tail marks rest we given few spare st stood scoped name known size small);
   }
 
   -- and what follows it
@@ -192,6 +197,8 @@ module _ (s t : List ℕ) (e : Env) (p front tail marks rest : List ℕ) (we : W
         let g = declared-stays (k .0) (k .1) (k .2) .0 in
         let h = reached-stays s t e p front tail rest we spare marks1 (k .1) u (g .stood) (g .scoped) (assigned (k .0) (k .1) (k .2) .goes tt u (k .3) .0) in
         record { stood = h .stood; scoped = h .scoped; onward = onward-trans (g .onward) (h .onward) };
+    stops = halts-on e st (scope.namedTmp name size e st) _ (named-halts s t e p front tail marks rest we given few spare st stood scoped name known size small)
+        (λ v u q. (declared-stays v u q .0 .onward .begun, assigned v u q .stops));
   }
     where
       assigned : (v : Value) (u : State) → scope.namedTmp name size e st ≡ done v u

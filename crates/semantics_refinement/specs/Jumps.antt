@@ -60,7 +60,7 @@ module _ (s t : List ℕ) (e : Env) (front tail marks rest : List ℕ) (we : Wor
   unfolding branchTo branching operationNumber firstOf secondOf kindOf at isSome
   branch-to st f cond address h g =
       rw is-hint (step-pushed (e .section) front tail marks rest spare st _ _ (after at-hint 1) w
-      (no-output s t e front tail marks rest we (given .lent) (given .sizes) (given .pointer) spare st room (stood-more (suc spare) (omega arith) f) Operation.Branch (d.hintNumber hint) (cond ∷ address ∷ []) (omega arith) (h, (g, tt)) (refl, refl)))
+      (no-output s t e front tail marks rest we (given .lent) (given .sizes) (given .pointer) spare st room (stood-more (suc spare) (omega arith) f) Operation.Branch (d.hintNumber hint) (cond ∷ address ∷ []) (omega arith) (h, (g, tt)) (refl, refl) refl))
 
   abbrev addressed : Value → Value
   addressed v = definition.if_then_else_ (isKind Kind.Subtable v) (record { kind = Kind.SubtableRef; number = v .number; offset = v .offset; size = some (pointerSize (e .section)) }) v
@@ -99,7 +99,7 @@ module _ (s t : List ℕ) (e : Env) (front tail marks rest : List ℕ) (we : Wor
       go Kind.Constant m = unfold kindNumber base-opens in same Kind.Constant m
 
   no-local : (st : State) → Ends st (stepped (stop 29 w) (A st) (M st)) (stopped jumpToNonLocal (st .sizing .begun) 0)
-  no-local st = step-stops (e .section) front tail marks rest spare st _ _ w (A st) (M st) 29 jumpToNonLocal _ _ (unfold refusalNumber in refl)
+  no-local st = step-stops (e .section) front tail marks rest spare st _ _ w (A st) (M st) 29 jumpToNonLocal (unfold refusalNumber in refl)
 
   pub direct-is : (st : State) → Stands st → (x : ExprValue) (cond : Value) → SoundX (e .section) (count st) x → Sound (e .section) (count st) cond
       → Ends st (direct s t (A st) (M st) we (encX x) (encV cond) at-hint (W st) w) (on e (d.directAddress x e st) λ address. walks.opNoOutput Operation.Branch (d.hintNumber hint) (cond ∷ address ∷ []))

@@ -147,7 +147,7 @@ module _ (p : List ℕ) (scope n : ℕ) (labels : List (ℕ × Label)) (labelled
   abbrev there : Label
   there = record { id = l .id; defined = true }
 
-  key-at : (m : ℕ) (y : Label) → m < 1024 → find m labels ≡ some y → getD p (1088 + y .id) 0 % 4294967296 ≡ labelKey m scope
+  pub key-at : (m : ℕ) (y : Label) → m < 1024 → find m labels ≡ some y → getD p (1088 + y .id) 0 % 4294967296 ≡ labelKey m scope
   key-at m y h q =
       let k : findLabel n 0 p (labelKey m scope) ≡ y .id = labelled .found m h ∙ (unfold idOr in rw q) in
       let b = labelled .below m y q in
@@ -163,7 +163,7 @@ module _ (p : List ℕ) (scope n : ℕ) (labels : List (ℕ × Label)) (labelled
   unfolding labelKey
   key-within = omega arith
 
-  keys : (j : ℕ) → j < n → getD placing (1088 + j) 0 % 4294967296 ≡ getD p (1088 + j) 0 % 4294967296
+  pub keys : (j : ℕ) → j < n → getD placing (1088 + j) 0 % 4294967296 ≡ getD p (1088 + j) 0 % 4294967296
   keys j h = go (eqb j (l .id)) refl
     where
       go : (b : Bool) → eqb j (l .id) ≡ b → getD placing (1088 + j) 0 % 4294967296 ≡ getD p (1088 + j) 0 % 4294967296

@@ -11,3 +11,14 @@ pub mod Copies
 pub mod Jumps
 pub mod Begin
 pub mod Labels
+pub mod Standing
+pub mod Frames
+pub mod Searches
+pub mod Macros
+pub mod Stepping
+pub mod Naming
+pub mod Targets
+pub mod Bodies
+pub mod Ends
+pub mod Simples
+pub mod MacroPlaces

@@ -29,8 +29,9 @@ use Rattle.refinement.specs.Pushes.{Stands, Made, marked, words-marked, words-l
 use Rattle.refinement.specs.Seen.{seenTmp, outcome}
 use Rattle.expression.specs.declared.scope.Found.{Found}
 use Rattle.expression.specs.Scopes.{isLocal, findLocal, ownLocal, tmpOf, tmpLocal, orTmp, lookupLocal, undeclared, namedTmp}
-use Rattle.expression_refinement.specs.Encodings.{Small, tmps, count, Stood, params-more, mapping-more}
-use Rattle.expression_refinement.specs.Answers.{acts, temps, word}
+use Rattle.expression_refinement.specs.Encodings.{Small, tmps, count, Stood, params-more, mapping-more, actions-more}
+use Rattle.expression_refinement.specs.Answers.{acts, temps, word, Halts, halts-done, halts-here, halts-on}
+use Rattle.expression_refinement.specs.Pushing.{add-halts}
 use Rattle.expression_refinement.specs.Scopes.{encF, eqb-swap, Scoped}
 use Rattle.semantics_refinement.specs.Given.{Given}
 
@@ -210,6 +211,14 @@ module _ (s t : List ℕ) (e : Env) (p front tail marks rest : List ℕ) (we : W
       go (stopped r ordinal errors) k l h = unfold on in (let z : _≡_ {A = ℕ} 0 1 = cc in absurd (omega arith))
       go (done v1 u1) k l h = at-made v1 u1 (k v1 u1 refl .value) (k v1 u1 refl .state) (l v1 u1 refl) (unfold on in h)
 
+  pub named-halts : Halts st (d.namedTmp name size e st)
+  unfolding d.namedTmp on
+  named-halts = halts-on e st (walks.addTmp (some name) size e st) _ (add-halts e st (some name) size) (λ v u q. (ap (λ (y : State). y .sizing .begun) (add-state v u q .state), declares v u (not (isSome (find name (u .scope .mapping))))))
+    where
+      declares : (v : Value) (u : State) (c : Bool) → Halts u (on e (require c redeclared e u) λ _. λ e3 st3. on e3 (done (tt {0}) (withScope (record { params = u .scope .params; mapping = (name, v) ∷ u .scope .mapping; labels = u .scope .labels }) st3)) λ _. λ e4 st4. done v st4)
+      declares v u true = unfold require on in halts-done u v _
+      declares v u false = unfold require on in halts-here u redeclared
+
   module _ (new : find name (st .scope .mapping) ≡ none) (room : Made (e .section) tail rest st more made added) where
     -- the words hold the state
     pub declared-stood : Stood (e .section) tail more rest spare declared
@@ -219,6 +228,7 @@ module _ (s t : List ℕ) (e : Env) (p front tail marks rest : List ℕ) (we : W
       marked = room .stands .marked;
       sizes = room .stands .sizes;
       errors = stood .errors;
+      sound = actions-more (e .section) (count st) (count added) (room .count) (st .actions) (stood .sound);
       params = params-more (e .section) (count st) (count added) (room .count) (st .scope .params) (stood .params);
       mapping = (room .sound, mapping-more (e .section) (count st) (count added) (room .count) (st .scope .mapping) (stood .mapping));
     }

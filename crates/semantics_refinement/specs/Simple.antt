@@ -76,7 +76,7 @@ module _ (s t : List ℕ) (e : Env) (front tail marks rest : List ℕ) (we : Wor
   unfolding unimplemented
   unimplemented-is st f pos =
       step-pushed (e .section) front tail marks rest spare st _ _ (after pos 1) (walkOf b (W st))
-      (unfold operationNumber firstOf secondOf kindOf in no-output s t e front tail marks rest we (given .lent) (given .sizes) (given .pointer) spare st room (stood-more (suc spare) (omega arith) f) Operation.Invalid 0 [] (omega arith) tt tt)
+      (unfold operationNumber firstOf secondOf kindOf in no-output s t e front tail marks rest we (given .lent) (given .sizes) (given .pointer) spare st room (stood-more (suc spare) (omega arith) f) Operation.Invalid 0 [] (omega arith) tt tt refl)
 
   -- the export, beside a state that has it not yet
   abbrev pub Exports : State → ℕ → ℕ → Stepped → Outcome Export → Type 0

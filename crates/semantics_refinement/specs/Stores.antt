@@ -50,6 +50,7 @@ use Rattle.expression_refinement.specs.Scopes.{Scoped, scoped-later}
 use Rattle.expression_refinement.specs.Addresses.{address}
 use Rattle.expression_refinement.specs.Positions.{ends, begins}
 use Rattle.expression_refinement.specs.Expressions.{after-is, absent-word, small-or}
+use Rattle.expression_refinement.specs.Pushing.{no-operation}
 use Rattle.semantics_refinement.specs.Views.{Beside, beside, seenStep, begunIn, stop-seen, push-ends, refines-as, step-stops, Goes, step-pushed, on-assoc}
 use Rattle.semantics_refinement.specs.Operations.{no-output}
 use Rattle.semantics_refinement.specs.Given.{Given, walkOf, below, expression, operand-of}
@@ -115,7 +116,7 @@ module _ (s t : List ℕ) (e : Env) (front tail marks rest : List ℕ) (we : Wor
         (λ u st2 a m. stepPushed (pushOp s t a m we 59 0 2 noOutput (encV pointer) u st2) (pushedThen next w))
         (take-stated st f size v l g)
         (λ u st2 q k. step-pushed (e .section) front tail marks rest spare st2 _ _ next w
-        (unfold operationNumber firstOf secondOf in no-output s t e front tail marks rest we (given .lent) (given .sizes) (given .pointer) spare st2 room (q .stood) Operation.Store 0 (pointer ∷ u ∷ []) (omega arith) (sound-more (e .section) (count st) (count st2) (q .later .temporaries) pointer h, (k, tt)) (unfold kindOf at isSome in refl)))
+        (unfold operationNumber firstOf secondOf in no-output s t e front tail marks rest we (given .lent) (given .sizes) (given .pointer) spare st2 room (q .stood) Operation.Store 0 (pointer ∷ u ∷ []) (omega arith) (sound-more (e .section) (count st) (count st2) (q .later .temporaries) pointer h, (k, tt)) (unfold kindOf at isSome in refl) refl))
         (go (A st) (takeStated s t (M st) (encV v) size (W st))) (stays (A st) (takeStated s t (M st) (encV v) size (W st)))
       where
         go : (c : List ℕ) (x : Listed Stated) (u : WordValue) (st2 : WordState) (a m : List ℕ) → seenStated c x ≡ yes u st2 a m → seenStep (begunIn w) (storeStated s t c we (encV pointer) next w x) ≡ seenStep (begunIn w) (stepPushed (pushOp s t a m we 59 0 2 noOutput (encV pointer) u st2) (pushedThen next w))
@@ -139,7 +140,7 @@ module _ (s t : List ℕ) (e : Env) (front tail marks rest : List ℕ) (we : Wor
         (λ u st2 a m. pushing (encV pointer) size u st2 a m)
         (set-stated st f size v l g)
         (λ u st2 q k. refines-as (e .section) front tail marks rest spare st2 (λ _. tt {0}) (λ n (_ : Unit {0}). Unit {0}) (λ _. (next, beside w)) _ _ _
-        (below s t e front tail marks rest we given .pushes spare st2 room (stood-more (4 + spare) (omega arith) (q .stood)) (storing size pointer u) (omega arith) (record { inputs = (sound-more (e .section) (count st) (count st2) (q .later .temporaries) pointer h, (k, tt)); output = tt }))
+        (below s t e front tail marks rest we given .pushes spare st2 room (stood-more (4 + spare) (omega arith) (q .stood)) (storing size pointer u) (omega arith) (record { inputs = (sound-more (e .section) (count st) (count st2) (q .later .temporaries) pointer h, (k, tt)); output = tt }) (no-operation _ (unfold operationOf in refl)))
         (push-ends (push (A st2) 3 0 size 2 absent (encV pointer) (encV u) (W st2)) (M st2) next w))
         (go (A st) (setStated s t (M st) (encV v) size (W st))) (stays (A st) (setStated s t (M st) (encV v) size (W st)))
       where
@@ -150,7 +151,7 @@ module _ (s t : List ℕ) (e : Env) (front tail marks rest : List ℕ) (we : Wor
         stays c (listed out y) k q = unfold seenStated in (let z : _≡_ {A = ℕ} 0 1 = cc in absurd (omega arith))
 
     no-address : (st : State) → Ends st (stepped (stop 28 w) (A st) (M st)) (walks.stopped storeToNoAddress (st .sizing .begun) 0)
-    no-address st = step-stops (e .section) front tail marks rest spare st _ _ w (A st) (M st) 28 storeToNoAddress _ _ (unfold refusalNumber in refl)
+    no-address st = step-stops (e .section) front tail marks rest spare st _ _ w (A st) (M st) 28 storeToNoAddress (unfold refusalNumber in refl)
 
     store-at : (st : State) → Stands st → (x : ExprValue) (v : Value) → SoundX (e .section) (count st) x → Sound (e .section) (count st) v
         → Ends st (storeAt s t (A st) (M st) we (encX x) (encV v) next (W st) w) (d.storeAt v x e st)

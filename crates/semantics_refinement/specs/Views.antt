@@ -90,7 +90,7 @@ abbrev pub encE : Export → WordExport
 encE x = record { kind = exportNumber (x .kind); v = encV (x .value); size = x .accessSize }
 
 abbrev pub ExportIs : Option Export → WordExport → Type 0
-ExportIs none x = x .kind ≡ 0
+ExportIs none x = (x .kind ≡ 0) × (x .size ≡ 0)
 ExportIs (some y) x = x ≡ encE y
 
 abbrev pub withExported : Export → Beside → Beside
@@ -100,16 +100,16 @@ module _ (sec : Section) (front tail marks rest : List ℕ) where
   -- the same answer with another value
   pub refines-as : {A B D : Type 0} (spare : ℕ) (from : State) (enc : A → B) (P : ℕ → A → Type 0) (f : B → D) (x : Seen B) (y : Seen D) (o : Outcome A) → Refines sec front tail marks rest spare from enc P x o → y ≡ mapSeen f x
       → Refines sec front tail marks rest spare from (λ a. f (enc a)) P y o
-  refines-as spare from enc P f x y o r h = record { same = h ∙ (rw (r .same) (go o)); goes = r .goes }
+  refines-as spare from enc P f x y o r h = record { same = h ∙ (rw (r .same) (go o)); goes = r .goes; stops = r .stops }
     where
       go : (o : Outcome _) → mapSeen f (outcome front tail marks rest enc o) ≡ outcome front tail marks rest (λ a. f (enc a)) o
       go (done a st) = unfold outcome mapSeen in refl
       go (stopped r ordinal errors) = unfold outcome mapSeen in refl
 
   -- a refusal
-  pub step-stops : {A : Type 0} (spare : ℕ) (from : State) (enc : A → ℕ × Beside) (P : ℕ → A → Type 0) (w : Walk) (a m : List ℕ) (n : ℕ) (r : Refusal) (ordinal : Option ℕ) (errors : ℕ) → n ≡ refusalNumber r
-      → Refines sec front tail marks rest spare from enc P (seenStep (begunIn w) (stepped (stop n w) a m)) (stopped r ordinal errors)
-  step-stops spare from enc P w a m n r ordinal errors h = rw (stop-seen n w a m) (refines-stopped sec front tail marks rest spare from enc P n r ordinal errors h)
+  pub step-stops : {A : Type 0} (spare : ℕ) (from : State) (enc : A → ℕ × Beside) (P : ℕ → A → Type 0) (w : Walk) (a m : List ℕ) (n : ℕ) (r : Refusal) → n ≡ refusalNumber r
+      → Refines sec front tail marks rest spare from enc P (seenStep (begunIn w) (stepped (stop n w) a m)) (stopped r (from .sizing .begun) 0)
+  step-stops spare from enc P w a m n r h = rw (stop-seen n w a m) (refines-stopped sec front tail marks rest spare from enc P n r h)
 
   -- an answer with no value: the walk goes on behind the statement
   abbrev pub Goes : ℕ → State → ℕ → Beside → ℕ → Stepped → Outcome (Unit {0}) → Type 0

@@ -1,0 +1,167 @@
+-- Searches in words that have grown: a parameter, a local or a label of this scope is found where it was, if nothing new
+-- belongs to this scope; and in a scope that nothing belongs to, nothing is found.
+use Prim.Native.Nat.{ℕ, zero, suc, _+_, _-_, _*_, _/_, _%_, _≤_, _<_}
+use mathlib.Core.Path.{_≡_, refl, sym, _∙_, ap, subst}
+use mathlib.Core.Logic.{_≢_, _⊎_, inl, inr}
+use mathlib.Core.Bool.{Bool, true, false}
+use mathlib.Core.List.{List, [], _∷_}
+use mathlib.Core.Option.{Option, none, some}
+use native.Mathlib.Nat.{add-zero}
+use native.Mathlib.Omega.{arith}
+use lib.ListN.{length, getD, getElem?}
+use lib.Dec.{eqb, ltb, leb}
+use borrow.Author.Tests.{ne-eqb, lt-ltb, le-ltb}
+use Rattle.definition.specs.Base.{orElse, andThen, first}
+use Rattle.definition.specs.Value.{Temporary}
+use Rattle.definition.specs.Walk.{ExprValue, Label}
+use Rattle.definition.specs.Scope.{find}
+use Rattle.definition.specs.ActionList.{orNone}
+use Rattle.pcode.specs.Base.{if_then_else_}
+use Rattle.pcode.specs.Values.{valueAt}
+use Rattle.refinement.specs.Encoding.{temporariesIn, SoundTmp, Each}
+use Rattle.refinement.specs.Marks.{tmp-at, tmp-name, tmp-mark}
+use Rattle.expression.specs.declared.scope.Found.{Found}
+use Rattle.expression.specs.Slots.{slotAt, paramPlace}
+use Rattle.expression.specs.Scopes.{isLocal, findLocal, ownLocal, tmpOf, tmpLocal, orTmp, lookupLocal}
+use Rattle.semantics.specs.Labels.{findLabel, labelKey}
+use Rattle.expression_refinement.specs.Encodings.{nameAt}
+use Rattle.expression_refinement.specs.Scopes.{ParamsIn}
+use Rattle.semantics_refinement.specs.Locals.{orFound, tmpFound, lookup-more}
+use Rattle.semantics_refinement.specs.Labels.{idOr, LabelsIn}
+use Rattle.semantics_refinement.specs.Standing.{labelScope}
+
+-- Parameters.
+
+pub slot-same : (p q : List ℕ) (at : ℕ) → ((i : ℕ) → i < at + 8 → getD q i 0 ≡ getD p i 0) → slotAt q at ≡ slotAt p at
+unfolding slotAt valueAt
+slot-same p q at h = rw (h (at + 1) (omega arith), h (at + 2) (omega arith), h (at + 3) (omega arith), h (at + 4) (omega arith), h (at + 5) (omega arith), h (at + 6) (omega arith), h (at + 7) (omega arith))
+
+place-below : (params i : ℕ) → paramPlace params i + 8 ≤ params + 64
+unfolding paramPlace
+place-below params i = omega arith
+
+place-within : (params i : ℕ) → paramPlace params i + 8 ≤ params + 8 * suc i
+unfolding paramPlace
+place-within params i = omega arith
+
+pub params-same : (p q : List ℕ) (params : ℕ) (ps : List (ℕ × ExprValue)) → ((i : ℕ) → i < params + 64 → i < params + 8 * length ps → getD q i 0 ≡ getD p i 0) → ParamsIn p params ps → ParamsIn q params ps
+params-same p q params [] h g = tt
+params-same p q params (x ∷ xs) h g =
+    let l = place-below params (length xs) in
+    let k = place-within params (length xs) in (
+      h (paramPlace params (length xs) + 0) (omega arith) (omega arith) ∙ g .0,
+      rw (slot-same p q (paramPlace params (length xs)) (λ i j. h i (omega arith) (omega arith))) (g .1),
+      params-same p q params xs (λ i a b. h i a (omega arith)) (g .2),
+    )
+
+-- Locals.
+
+tmp-in : (ts : List Temporary) (i : ℕ) → i < length ts → Each SoundTmp ts → (t : Temporary) × (getElem? ts i ≡ some t) × SoundTmp t
+tmp-in [] i h f = absurd (omega arith)
+tmp-in (t ∷ ts) zero h f = (t, refl, f .0)
+tmp-in (t ∷ ts) (suc i) h f = tmp-in ts i (omega arith) (f .1)
+
+-- a temporary is found by its name and its mark
+pub local-at : (marks rest : List ℕ) (ts : List Temporary) (i name scope : ℕ) → i < length ts → Each SoundTmp ts
+    → isLocal (getD (temporariesIn marks rest ts) i 0) name scope ≡ (if eqb (orNone (nameAt ts i)) name then eqb (getD marks i 0) scope else false)
+unfolding isLocal nameAt andThen
+local-at marks rest ts i name scope h f =
+    let k = tmp-in ts i h f in
+    rw (tmp-at marks rest ts i (k .0) (k .1), tmp-name (getD marks i 0) (k .0) (k .2), tmp-mark (getD marks i 0) (k .0) (k .2), k .1)
+
+-- one with no name, or of another scope, is not
+pub local-not : (marks rest : List ℕ) (ts : List Temporary) (i name scope : ℕ) → i < length ts → Each SoundTmp ts → name < 1024 → (nameAt ts i ≡ none) ⊎ (getD marks i 0 ≢ scope)
+    → isLocal (getD (temporariesIn marks rest ts) i 0) name scope ≡ false
+local-not marks rest ts i name scope h f k (inl z) = local-at marks rest ts i name scope h f ∙ (unfold if_then_else_ orNone orElse in rw (z, ne-eqb 65535 name (λ q. omega arith)))
+local-not marks rest ts i name scope h f k (inr z) = local-at marks rest ts i name scope h f ∙ rw (ne-eqb (getD marks i 0) scope z) (go (eqb (orNone (nameAt ts i)) name))
+  where
+    go : (b : Bool) → (if b then false else false) ≡ false
+    go true = unfold if_then_else_ in refl
+    go false = unfold if_then_else_ in refl
+
+nothing-new : (x : Found) (i : ℕ) → orFound x (if false then tmpFound i else Found.Nothing) ≡ x
+unfolding orFound if_then_else_
+nothing-new (Found.Is v) i = refl
+nothing-new Found.Nothing i = refl
+
+module _ (t : List ℕ) (name scope : ℕ) where
+  no-local : (m w : List ℕ) → lookupLocal t m scope 0 name ≡ lookupLocal t w scope 0 name
+  unfolding lookupLocal tmpLocal findLocal
+  no-local m w = go (eqb scope 0) (ownLocal t name)
+    where
+      go : (b : Bool) (x : Found) → (if b then orTmp x m 0 name scope else tmpOf 0 0) ≡ (if b then orTmp x w 0 name scope else tmpOf 0 0)
+      go true (Found.Is v) = unfold if_then_else_ orTmp in refl
+      go true Found.Nothing = unfold if_then_else_ orTmp tmpLocal findLocal in refl
+      go false x = unfold if_then_else_ in refl
+
+  same-locals : (m w : List ℕ) (k : ℕ) → ((j : ℕ) → j < k → isLocal (getD m j 0) name scope ≡ isLocal (getD w j 0) name scope) → lookupLocal t m scope k name ≡ lookupLocal t w scope k name
+  same-locals m w zero h = no-local m w
+  same-locals m w (suc k) h = rw (lookup-more m name scope t k, lookup-more w name scope t k, same-locals m w k (λ j l. h j (omega arith)), h k (omega arith))
+
+  no-more : (m : List ℕ) (n k : ℕ) → ((j : ℕ) → n ≤ j → j < n + k → isLocal (getD m j 0) name scope ≡ false) → lookupLocal t m scope (n + k) name ≡ lookupLocal t m scope n name
+  no-more m n zero h = rw (add-zero n)
+  no-more m n (suc k) h =
+      let z : n + suc k ≡ suc (n + k) = omega arith in
+      rw (z, lookup-more m name scope t (n + k), h (n + k) (omega arith) (omega arith))
+      (nothing-new (lookupLocal t m scope (n + k) name) (n + k) ∙ no-more m n k (λ j a b. h j a (omega arith)))
+
+  -- among more temporaries
+  pub locals-longer : (m w : List ℕ) (n k : ℕ) → n ≤ k → ((j : ℕ) → j < n → isLocal (getD w j 0) name scope ≡ isLocal (getD m j 0) name scope) → ((j : ℕ) → n ≤ j → j < k → isLocal (getD w j 0) name scope ≡ false)
+      → lookupLocal t w scope k name ≡ lookupLocal t m scope n name
+  locals-longer m w n k l h f =
+      let z : n + (k - n) ≡ k = omega arith in
+      subst (λ (i : ℕ). lookupLocal t w scope i name ≡ lookupLocal t m scope n name) z (no-more w n (k - n) (λ j a b. f j a (omega arith)) ∙ same-locals w m n h)
+
+  pub locals-none : (m : List ℕ) (k : ℕ) → 0 < scope → ((j : ℕ) → j < k → isLocal (getD m j 0) name scope ≡ false) → lookupLocal t m scope k name ≡ Found.Nothing
+  locals-none m k h f =
+      let z : 0 + k ≡ k = omega arith in
+      subst (λ (i : ℕ). lookupLocal t m scope i name ≡ lookupLocal t m scope 0 name) z (no-more m 0 k (λ j a b. f j (omega arith))) ∙ (unfold lookupLocal tmpLocal findLocal tmpOf if_then_else_ in rw (ne-eqb scope 0 (λ q. omega arith)))
+
+-- Labels.
+
+none-found : (q : List ℕ) (key k i : ℕ) → ((j : ℕ) → i ≤ j → j < i + k → eqb (getD q (1088 + j) 0 % 4294967296) key ≡ false) → findLabel k i q key ≡ i + k
+unfolding findLabel if_then_else_
+none-found q key zero i h = omega arith
+none-found q key (suc k) i h = rw (h i (omega arith) (omega arith)) (none-found q key k (suc i) (λ j a b. h j (omega arith) (omega arith)) ∙ omega arith)
+
+found-longer : (p q : List ℕ) (key k n i : ℕ) → ((j : ℕ) → i ≤ j → j < i + n → getD q (1088 + j) 0 ≡ getD p (1088 + j) 0) → ((j : ℕ) → i + n ≤ j → j < i + n + k → eqb (getD q (1088 + j) 0 % 4294967296) key ≡ false)
+    → findLabel (n + k) i q key ≡ (if ltb (findLabel n i p key) (i + n) then findLabel n i p key else i + n + k)
+unfolding findLabel
+found-longer p q key k zero i h f = let z : i + 0 ≡ i = omega arith in let y : 0 + k ≡ k = omega arith in rw (z, y, le-ltb i i (omega arith)) (unfold if_then_else_ in none-found q key k i (λ j a b. f j (omega arith) (omega arith)))
+found-longer p q key k (suc n) i h f =
+    let z : suc n + k ≡ suc (n + k) = omega arith in
+    rw (z, h i (omega arith) (omega arith)) (go (eqb (getD p (1088 + i) 0 % 4294967296) key) (found-longer p q key k n (suc i) (λ j a b. h j (omega arith) (omega arith)) (λ j a b. f j (omega arith) (omega arith))))
+  where
+    go : (b : Bool) → findLabel (n + k) (suc i) q key ≡ (if ltb (findLabel n (suc i) p key) (suc i + n) then findLabel n (suc i) p key else suc i + n + k)
+        → (if b then i else findLabel (n + k) (suc i) q key) ≡ (if ltb (if b then i else findLabel n (suc i) p key) (i + suc n) then (if b then i else findLabel n (suc i) p key) else i + suc n + k)
+    go true g = unfold if_then_else_ in rw (lt-ltb i (i + suc n) (omega arith))
+    go false g = unfold if_then_else_ in (let z : suc i + n ≡ i + suc n = omega arith in rw z at g)
+
+key-not : (q : List ℕ) (j name scope : ℕ) → scope < 65536 → labelScope q j ≢ scope → eqb (getD q (1088 + j) 0 % 4294967296) (labelKey name scope) ≡ false
+unfolding labelScope labelKey
+key-not q j name scope h k = ne-eqb (getD q (1088 + j) 0 % 4294967296) (name % 65536 + scope % 65536 * 65536) (λ z. k (rw z (omega arith)))
+
+-- more labels
+pub labels-longer : (p q : List ℕ) (scope n m : ℕ) (labels : List (ℕ × Label)) → scope < 65536 → n ≤ m → ((j : ℕ) → j < n → getD q (1088 + j) 0 ≡ getD p (1088 + j) 0) → ((j : ℕ) → n ≤ j → j < m → labelScope q j ≢ scope)
+    → LabelsIn p scope n labels → LabelsIn q scope m labels
+labels-longer p q scope n m labels small l h f g = record {
+  found = λ name k.
+      let z : n + (m - n) ≡ m = omega arith in
+      subst (λ (i : ℕ). findLabel i 0 q (labelKey name scope) ≡ idOr i (find name labels)) z
+      (found-longer p q (labelKey name scope) (m - n) n 0 (λ j a b. h j (omega arith)) (λ j a b. key-not q j name scope small (f j (omega arith) (omega arith))) ∙ rw (g .found name k) (as-before (find name labels) (g .below name)));
+  below = λ name x k. (let i = g .below name x k in omega arith);
+  placed = λ name x k i. rw (h (x .id) (g .below name x i)) (g .placed name x k i);
+}
+  where
+    as-before : (o : Option Label) → ((x : Label) → o ≡ some x → x .id < n) → (if ltb (idOr n o) (0 + n) then idOr n o else 0 + n + (m - n)) ≡ idOr (n + (m - n)) o
+    as-before none k = unfold idOr if_then_else_ in (let z : 0 + n ≡ n = omega arith in rw (z, le-ltb n n (omega arith)))
+    as-before (some x) k = unfold idOr if_then_else_ in (let z : 0 + n ≡ n = omega arith in rw (z, lt-ltb (x .id) n (k x refl)))
+
+-- no label
+pub labels-none : (q : List ℕ) (scope n : ℕ) → scope < 65536 → ((j : ℕ) → j < n → labelScope q j ≢ scope) → LabelsIn q scope n []
+unfolding find first idOr
+labels-none q scope n small f = record {
+  found = λ name k. none-found q (labelKey name scope) n 0 (λ j a b. key-not q j name scope small (f j (omega arith))) ∙ omega arith;
+  below = λ name x k. let z : _≡_ {A = ℕ} 0 1 = cc in absurd (omega arith);
+  placed = λ name x i k. let z : _≡_ {A = ℕ} 0 1 = cc in absurd (omega arith);
+}
