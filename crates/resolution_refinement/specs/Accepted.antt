@@ -1,39 +1,37 @@
 -- A section that is accepted: the final list, the temporaries and the twelve numbers are the definition's.
-use Prim.Native.Nat.{ℕ, suc, _+_, _*_, _/_, _^_, _≤_, _<_}
-use mathlib.Core.Path.{_≡_, refl, sym, _∙_, ap}
-use mathlib.Core.Bool.{Bool, true, false}
-use mathlib.Core.List.{List, [], _∷_, _++_, map}
+use Prim.Native.Nat.{ℕ, _+_, _*_, _^_, _≤_, _<_}
+use mathlib.Core.Path.{_≡_, refl, _∙_, ap}
+use mathlib.Core.List.{List, [], _∷_, _++_}
 use mathlib.Core.Option.{Option, none, some}
 use native.Mathlib.Omega.{arith}
 use lib.ListN.{length, length-append}
-use lib.Dec.{eqb, ltb}
-use borrow.Author.Tests.{lt-ltb, eq-eqb, ne-eqb}
+use lib.Dec.{eqb}
+use borrow.Author.Tests.{lt-ltb, eq-eqb}
 use Rattle.definition.specs.Base.{any}
-use Rattle.definition.specs.Value.{Value, SemanticAction, Temporary, ExportKind, Export}
+use Rattle.definition.specs.Value.{SemanticAction, ExportKind, Export}
 use Rattle.definition.specs.Ast.{Section}
 use Rattle.definition.specs.Walk.{State}
-use Rattle.definition.specs.End.{builds, implicitBuilds, Semantics}
+use Rattle.definition.specs.End.{builds, implicitBuilds}
 use Rattle.definition.specs.ActionList as d
-use Rattle.definition.specs.ActionList.{filled, listWords, temporaryWord, labelsPlaced, points, valueWords, Answer}
+use Rattle.definition.specs.ActionList.{labelsPlaced, points, valueWords, Answer}
 use Rattle.pcode.specs.Base.{if_then_else_, thenL}
 use Rattle.pcode.specs.Values.{word}
 use Rattle.semantics.specs.declared.statements.Walk.{Walk}
 use Rattle.semantics.specs.declared.statements.Export.{Export as WordExport}
 use Rattle.resolution.specs.declared.answer.Words.{Words}
 use Rattle.resolution.specs.Answers.{pointsOf, words, exportWords, accepted}
-use Rattle.refinement.specs.Encoding.{encV, packed, actionsIn, temporariesIn, Sound, SoundTmp, Each}
+use Rattle.refinement.specs.Encoding.{encV, packed, actionsIn, temporariesIn, SoundTmp, Each, EachOption}
 use Rattle.refinement.specs.Operands.{word-is}
 use Rattle.refinement.specs.Assembling.{implicit-few, assembled-is}
 use Rattle.expression_refinement.specs.Encodings.{tmps, count}
-use Rattle.semantics_refinement.specs.Views.{exportNumber, encE}
+use Rattle.semantics_refinement.specs.Views.{exportNumber, ExportIs}
 use Rattle.semantics_refinement.specs.Simple.{SoundExport}
 use Rattle.resolution_refinement.specs.Answers.{asAnswer}
 use Rattle.resolution_refinement.specs.Temporaries.{exit-temporaries}
 
--- An export whose words are the definition's: none has no size.
+-- a sound export, and its words
 abbrev pub ExportHeld : Section → ℕ → Option Export → WordExport → Type 0
-ExportHeld sec n none y = (y .kind ≡ 0) × (y .size ≡ 0)
-ExportHeld sec n (some x) y = (y ≡ encE x) × SoundExport sec n x
+ExportHeld sec n x y = ExportIs x y × EachOption (SoundExport sec n) x
 
 abbrev exported : WordExport → List ℕ
 exported y = y .kind ∷ exportWords y .number ∷ exportWords y .second ∷ y .size ∷ []
@@ -59,7 +57,7 @@ four p q r = λ i. p i ∷ q i .number ∷ q i .second ∷ r i ∷ []
 
 export-words : (sec : Section) (n : ℕ) (x : Option Export) (y : WordExport) → ExportHeld sec n x y → exported y ≡ d.exportWords x
 unfolding exportWords d.exportWords
-export-words sec n none y h = four (h .0) (none-words (y .kind) (words (y .v .number) (word (y .v))) (h .0)) (h .1)
+export-words sec n none y h = four (h .0 .0) (none-words (y .kind) (words (y .v .number) (word (y .v))) (h .0 .0)) (h .0 .1)
 export-words sec n (some x) y h =
     ap exported (h .0)
     ∙ four (same-number (x .kind)) (kind-words (x .kind) (words (x .value .number) (word (encV (x .value)))) ∙ ap (words (x .value .number)) (word-is (x .value) (h .1 .value .offset) (h .1 .value .size))) refl

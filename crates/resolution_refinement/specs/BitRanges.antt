@@ -12,7 +12,7 @@ use Rattle.definition.specs.Ast.{BitRange, Section}
 use Rattle.definition.specs.SectionFile.{Parsed, parsed, refused, Read, on, _>>=_, _>>_, pure, require, upTo, bitNumber, entries, bitRange, Header, header, lists, section, streamOf, read}
 use Rattle.refinement.specs.Encoding.{Each}
 use Rattle.refinement.specs.Settled.{each-at}
-use Rattle.refinement.specs.Named.{SectionNamed, section-named}
+use Rattle.refinement.specs.Named.{section-named}
 use Rattle.expression_refinement.specs.Scopes.{BitRangesFit}
 
 abbrev Reading : {A : Type 0} → (A → Type 0) → Parsed A → Type 0

@@ -1,17 +1,16 @@
 -- The end of `resolve`: the passes, the actions finished, the export's size fixed, errors judged. What the words answer is
 -- what the definition answers.
-use Prim.Native.Nat.{ℕ, suc, _+_, _-_, _*_, _/_, _^_, _≤_, _<_}
+use Prim.Native.Nat.{ℕ, suc, _+_, _-_, _*_, _^_, _≤_, _<_}
 use mathlib.Core.Path.{_≡_, refl, sym, _∙_, ap, subst}
 use mathlib.Core.Bool.{Bool, true, false}
 use mathlib.Core.List.{List, [], _∷_, _++_}
 use mathlib.Core.Option.{Option, none, some}
 use native.Mathlib.Omega.{arith}
 use lib.ListN.{length, length-append, length-drop}
-use lib.Dec.{eqb, ltb}
+use lib.Dec.{eqb}
 use borrow.Author.Tests.{eq-eqb, ne-eqb, le-ltb}
 use Rattle.cells.specs.Le.{le16}
-use Rattle.definition.specs.Base as definition
-use Rattle.definition.specs.Base.{_or_, any, base-opens}
+use Rattle.definition.specs.Base.{_or_}
 use Rattle.definition.specs.Refusals.{Refusal, refusalNumber, errorsRecorded}
 use Rattle.definition.specs.Value.{Value, SemanticAction, ExportKind, Export}
 use Rattle.definition.specs.Ast.{Section}
@@ -19,35 +18,33 @@ use Rattle.definition.specs.Sizes as sizes
 use Rattle.definition.specs.Sizes.{Sizing, pointerSize, applySizeInference}
 use Rattle.definition.specs.Walk.{State, Env, Outcome, done, stopped, on, withSizing}
 use Rattle.definition.specs.End as d
-use Rattle.definition.specs.End.{builds, Semantics}
-use Rattle.definition.specs.ActionList.{orNone, labelsPlaced, listWords, Answer, refusal, answered}
+use Rattle.definition.specs.End.{Semantics}
+use Rattle.definition.specs.ActionList.{orNone, labelsPlaced, refusal, answered}
 use Rattle.guarantee.specs.Tests as tests
 use Rattle.guarantee.specs.Finish as ends
-use Rattle.guarantee.specs.Layout.{SmallSection, SmallSizes, Rough, backward-rough, forward-rough}
+use Rattle.guarantee.specs.Layout.{SmallSection, Rough, backward-rough, forward-rough}
 use Rattle.guarantee.specs.Kept.{Kept}
 use Rattle.pcode.specs.declared.sizes.Sizing.{Sizing as WordSizing}
-use Rattle.pcode.specs.declared.end.Fixed.{Fixed}
 use Rattle.pcode.specs.declared.end.Finished.{Finished}
 use Rattle.pcode.specs.Base.{if_then_else_, Listed, listed, thenL}
 use Rattle.pcode.specs.Values.{place}
-use Rattle.pcode.specs.Sizes.{Sized, sized, thenS}
+use Rattle.pcode.specs.Sizes.{thenS}
 use Rattle.pcode.specs.Passes.{backwardPass, forwardPass}
 use Rattle.pcode.specs.End.{fixSize, finishActions}
 use Rattle.semantics.specs.declared.statements.Walk.{Walk}
 use Rattle.semantics.specs.declared.statements.Export.{Export as WordExport}
 use Rattle.resolution.specs.Answers.{Resolved, refused, accepted}
 use Rattle.resolution.specs.Ends.{judged, exportFixed, judgedFixed, finishExport, finishDone, finishSized, actionsBetween, bothPasses, finishAll, finish}
-use Rattle.refinement.specs.Encoding.{encV, actionsIn, temporariesIn, firstError, encZ, encS, SoundTmp, Each, SoundAction, SizesHold}
+use Rattle.refinement.specs.Encoding.{actionsIn, temporariesIn, firstError, encZ, encS, SoundTmp, Each, SoundAction, SizesHold}
 use Rattle.refinement.specs.Lists.{list-length}
 use Rattle.refinement.specs.Pushes.{tmps-length}
-use Rattle.refinement.specs.Passes.{place-is, RuledAction, heldList, backward-after, forward-after, inference-is}
-use Rattle.refinement.specs.Fixing.{AfterFix, fix-is, fix-sound}
-use Rattle.refinement.specs.Finishing.{Ended, refusedEnd, ended, seenEnd, ending, Finishable, AfterFinish, finish-is, finish-done}
+use Rattle.refinement.specs.Passes.{place-is, RuledAction, backward-after, forward-after, inference-is}
+use Rattle.refinement.specs.Fixing.{fix-is, fix-sound}
+use Rattle.refinement.specs.Finishing.{refusedEnd, ended, seenEnd, ending, Finishable, AfterFinish, finish-is, finish-done}
 use Rattle.refinement.specs.FromWalk.{rough-ruled, sound-finishable}
 use Rattle.expression_refinement.specs.Encodings.{tmps, count, Stood}
 use Rattle.expression_refinement.specs.Below.{Spare}
 use Rattle.semantics_refinement.specs.Views.{Beside, exportNumber, encE}
-use Rattle.semantics_refinement.specs.Simple.{SoundExport}
 use Rattle.semantics_refinement.specs.Given.{walkOf}
 use Rattle.resolution_refinement.specs.Answers.{asAnswer, refused-is}
 use Rattle.resolution_refinement.specs.Left.{LeftAs, actions-left, Begun, actions-begun}
@@ -201,7 +198,7 @@ module _ (s t : List ℕ) (e : Env) (front tail marks rest : List ℕ) (holds : 
     some-kind ExportKind.RegisterRef = refl
 
     exports : (x : Option Export) (y : WordExport) → ExportHeld (e .section) (count from) x y → Concludes x y
-    exports none y h = rw (eq-eqb (y .kind) 0 (h .0)) (unfold if_then_else_ d.finishExport on in judgement q (λ _. refl) none y h)
+    exports none y h = rw (eq-eqb (y .kind) 0 (h .0 .0)) (unfold if_then_else_ d.finishExport on in judgement q (λ _. refl) none y h)
     exports (some x) y h =
         ap (λ (y : WordExport). asAnswer (if eqb (y .kind) 0 then judged (actionsIn front tail ys) M sub (length (st .actions)) w y (encZ (q .sizing))
         else judged (actionsIn front tail ys) M sub (length (st .actions)) w (exportFixed y (fixSize s t M (y .v) (pointerSize (e .section)) (encZ (q .sizing)))) (fixSize s t M (y .v) (pointerSize (e .section)) (encZ (q .sizing)) .z))) (h .0)

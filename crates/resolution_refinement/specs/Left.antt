@@ -5,15 +5,13 @@ use mathlib.Core.Path.{_≡_, refl, _∙_}
 use mathlib.Core.Bool.{Bool, true, false}
 use mathlib.Core.List.{List, [], _∷_}
 use mathlib.Core.Option.{Option, none, some}
-use native.Mathlib.Omega.{arith}
-use lib.ListN.{length, getD, set, length-set}
+use lib.ListN.{length, getD, length-set}
 use lib.Dec.{eqb, leb, ltb}
 use Rattle.definition.specs.Base as definition
 use Rattle.definition.specs.Base.{_or_, andThen, base-opens}
 use Rattle.definition.specs.Refusals.{Refusal, subpieceSize, offsetTooFar}
 use Rattle.definition.specs.Operations.{Operation, isOp}
 use Rattle.definition.specs.Value.{Value, SemanticAction, operationOf}
-use Rattle.definition.specs.Ast.{Section}
 use Rattle.definition.specs.Sizes as sizes
 use Rattle.definition.specs.Walk.{State, Env, Outcome, done, stopped, on, Walk, require, expect, withSizing, sliced}
 use Rattle.definition.specs.End as d

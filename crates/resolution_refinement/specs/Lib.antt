@@ -7,3 +7,6 @@ pub mod Accepted
 pub mod Finish
 pub mod BitRanges
 pub mod Start
+pub mod Sections
+pub mod Walking
+pub mod Theorem

@@ -1,13 +1,13 @@
 -- The start of the walk: the lists as they were lent, the section's own scope, and what statements are given.
-use Prim.Native.Nat.{ℕ, zero, suc, _+_, _*_, _/_, _%_, _≤_, _<_, min}
-use mathlib.Core.Path.{_≡_, refl, sym, _∙_, ap}
+use Prim.Native.Nat.{ℕ, suc, _+_, _*_, _/_, _%_, _≤_, _<_}
+use mathlib.Core.Path.{_≡_, refl}
 use mathlib.Core.Bool.{Bool, true, false}
 use mathlib.Core.List.{List, [], _∷_, _++_, map}
-use mathlib.Core.Option.{Option, none, some}
+use mathlib.Core.Option.{none, some}
 use native.Mathlib.Omega.{arith}
-use lib.ListN.{length, getD, take, drop, replicate, getElem?, length-take, length-drop, length-map, length-replicate}
+use lib.ListN.{length, getD, take, drop, replicate, getElem?, length-drop, length-map, length-replicate}
 use lib.Seq.{length-take-le}
-use lib.Dec.{eqb, ltb}
+use lib.Dec.{eqb}
 use Rattle.cells.specs.Le.{le16}
 use Rattle.definition.specs.Base as definition
 use Rattle.definition.specs.Base.{orElse, andThen, first, base-opens}
@@ -145,7 +145,7 @@ module _ (s t : List ℕ) (sec : Section) (holds : Holds s t sec) (within : With
     labels = refl;
     few = omega arith;
     statements = refl;
-    export = refl;
+    export = (refl, refl);
     exportSound = tt;
     long = length-replicate {A = ℕ} 1344 0;
     counted = omega arith;

@@ -3,8 +3,7 @@ use Prim.Native.Nat.{ℕ, zero, suc, _+_, _-_, _%_, _≤_}
 use mathlib.Core.Path.{_≡_, refl, sym, _∙_, ap}
 use mathlib.Core.List.{List, [], _∷_, _++_, map, append-assoc, append-nil}
 use native.Mathlib.Omega.{arith}
-use native.Mathlib.Nat.{add-zero}
-use lib.ListN.{length, getD, set, take, drop, replicate, length-append, length-drop, length-map}
+use lib.ListN.{length, getD, drop, replicate, length-append, length-drop, length-map}
 use lib.Seq.{getD-at, set-at, take-at}
 use Rattle.definition.specs.Value.{Temporary}
 use Rattle.definition.specs.ActionList.{filled, temporaryWord}

@@ -1,16 +1,16 @@
 -- Bodies: statement after statement the words follow the definition, and so they do through macro calls, by induction on
 -- the levels that are left.
 use Prim.Native.Nat.{ℕ, zero, suc, _+_, _-_, _*_, _%_, _^_, _≤_, _<_}
-use mathlib.Core.Path.{_≡_, refl, sym, _∙_, ap, subst}
-use mathlib.Core.List.{List, [], _∷_, map}
-use mathlib.Core.Option.{Option, none, some}
+use mathlib.Core.Path.{_≡_, refl, sym, _∙_, subst}
+use mathlib.Core.List.{List, [], _∷_}
+use mathlib.Core.Option.{some}
 use native.Mathlib.Nat.{add-zero}
 use native.Mathlib.Omega.{arith}
 use lib.ListN.{length, getD, take, drop, getElem?}
 use Rattle.cells.specs.Le.{le16}
-use Rattle.definition.specs.Refusals.{Refusal, refusalNumber, macroTooDeep}
-use Rattle.definition.specs.Ast.{Statement, Macro, Section}
-use Rattle.definition.specs.SectionFile.{Parsed, parsed, listOf, statement}
+use Rattle.definition.specs.Refusals.{refusalNumber, macroTooDeep}
+use Rattle.definition.specs.Ast.{Statement, Macro}
+use Rattle.definition.specs.SectionFile.{parsed, listOf, statement}
 use Rattle.definition.specs.Walk as walks
 use Rattle.definition.specs.Walk.{ExprValue, Scope, State, Env, Outcome, done, stopped, on, withScope}
 use Rattle.definition.specs.Scope.{macroScope}
@@ -27,13 +27,13 @@ use Rattle.pcode.specs.declared.push.Env.{Env as WordEnv}
 use Rattle.pcode.specs.declared.push.State.{State as WordState}
 use Rattle.section_refinement.specs.Holds.{Holds}
 use Rattle.section_refinement.specs.Inversion.{statement-at, MacroParts}
-use Rattle.refinement.specs.Encoding.{encS, Each}
+use Rattle.refinement.specs.Encoding.{Each}
 use Rattle.expression.specs.Answers.{after}
 use Rattle.semantics.specs.declared.statements.Walk.{Walk}
 use Rattle.semantics.specs.declared.statements.Step.{Step}
-use Rattle.semantics.specs.Walks.{Walked, walked, onStep}
-use Rattle.semantics.specs.Calls.{bindParams, macroAt}
-use Rattle.semantics.specs.Statements.{Enter, begin, statementBy, statementBegun, resolveStatement, resolveAll, macroEnv, paramsAt, bodyAt, firstOrdinal, entered, returned, returnedTo, macroBody, enterMacro, resolveBody}
+use Rattle.semantics.specs.Walks.{Walked, onStep}
+use Rattle.semantics.specs.Calls.{bindParams}
+use Rattle.semantics.specs.Statements.{statementBy, statementBegun, resolveStatement, resolveAll, macroEnv, paramsAt, bodyAt, entered, returned, returnedTo, macroBody, enterMacro, resolveBody}
 use Rattle.expression_refinement.specs.Encodings.{SoundX, count}
 use Rattle.expression_refinement.specs.Answers.{acts, temps, word}
 use Rattle.expression_refinement.specs.Expressions.{after-is}

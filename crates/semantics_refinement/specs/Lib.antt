@@ -22,3 +22,6 @@ pub mod Bodies
 pub mod Ends
 pub mod Simples
 pub mod MacroPlaces
+pub mod Labelling
+pub mod MacroCalls
+pub mod Following

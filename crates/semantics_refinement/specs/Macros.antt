@@ -1,37 +1,28 @@
 -- A macro's scope: what the words and the state have in common when its body begins, and again for the caller when it has
 -- ended.
 use Prim.Native.Nat.{ℕ, zero, suc, _+_, _*_, _/_, _%_, _≤_, _<_}
-use mathlib.Core.Path.{_≡_, refl, sym, _∙_, ap, subst}
+use mathlib.Core.Path.{_≡_, refl, sym, _∙_, ap}
 use mathlib.Core.Logic.{_≢_, _⊎_, inl, inr}
 use mathlib.Core.Bool.{false}
 use mathlib.Core.List.{List, [], _∷_}
-use mathlib.Core.Option.{Option, none, some}
+use mathlib.Core.Option.{none, some}
 use native.Mathlib.Omega.{arith}
 use lib.ListN.{length, getD, set, getElem?, length-set}
 use lib.Seq.{getD-set-same, getD-set-other}
-use lib.Dec.{eqb}
 use Rattle.cells.specs.Le.{le16}
 use Rattle.definition.specs.Base.{first}
-use Rattle.definition.specs.Ast.{Section, Macro}
 use Rattle.definition.specs.Walk.{ExprValue, Scope, State, Env, withScope}
 use Rattle.definition.specs.Scope as scope
-use Rattle.definition.specs.Scope.{find, macroScope}
-use Rattle.definition.specs.ActionList.{orNone}
-use Rattle.guarantee.specs.Tests as tests
-use Rattle.guarantee.specs.Kept.{Kept, ExprFits}
-use Rattle.guarantee.specs.Kept as kept
-use Rattle.guarantee.specs.KeptLabels.{no-label}
+use Rattle.definition.specs.Scope.{find}
 use Rattle.pcode.specs.declared.push.Env.{Env as WordEnv}
-use Rattle.pcode.specs.Base.{if_then_else_, run}
+use Rattle.pcode.specs.Base.{run}
 use Rattle.pcode.specs.Values.{word, valueOf, valueAt}
 use Rattle.refinement.specs.Encoding.{Each}
-use Rattle.expression.specs.declared.scope.Slot.{Slot}
-use Rattle.expression.specs.declared.scope.Found.{Found}
 use Rattle.expression.specs.Scopes.{isLocal}
 use Rattle.expression.specs.Slots.{ofSlot, slotAt, paramPlace, argAt}
-use Rattle.semantics.specs.Calls.{bindParam, bindArg, bindParams}
+use Rattle.semantics.specs.Calls.{bindParam, bindArg}
 use Rattle.semantics.specs.Statements.{macroEnv}
-use Rattle.expression_refinement.specs.Encodings.{encX, SoundX, nameAt, tmps, count, params-more, mapping-more}
+use Rattle.expression_refinement.specs.Encodings.{SoundX, nameAt, tmps, count, params-more, mapping-more}
 use Rattle.expression_refinement.specs.Answers.{temps}
 use Rattle.expression_refinement.specs.Scopes.{encF, ParamsIn}
 use Rattle.expression_refinement.specs.Slots.{readAs, put-at, put-length, put-before, put-behind}

@@ -1,7 +1,7 @@
 -- Searches in words that have grown: a parameter, a local or a label of this scope is found where it was, if nothing new
 -- belongs to this scope; and in a scope that nothing belongs to, nothing is found.
-use Prim.Native.Nat.{ℕ, zero, suc, _+_, _-_, _*_, _/_, _%_, _≤_, _<_}
-use mathlib.Core.Path.{_≡_, refl, sym, _∙_, ap, subst}
+use Prim.Native.Nat.{ℕ, zero, suc, _+_, _-_, _*_, _%_, _≤_, _<_}
+use mathlib.Core.Path.{_≡_, refl, _∙_, subst}
 use mathlib.Core.Logic.{_≢_, _⊎_, inl, inr}
 use mathlib.Core.Bool.{Bool, true, false}
 use mathlib.Core.List.{List, [], _∷_}
@@ -9,7 +9,7 @@ use mathlib.Core.Option.{Option, none, some}
 use native.Mathlib.Nat.{add-zero}
 use native.Mathlib.Omega.{arith}
 use lib.ListN.{length, getD, getElem?}
-use lib.Dec.{eqb, ltb, leb}
+use lib.Dec.{eqb, ltb}
 use borrow.Author.Tests.{ne-eqb, lt-ltb, le-ltb}
 use Rattle.definition.specs.Base.{orElse, andThen, first}
 use Rattle.definition.specs.Value.{Temporary}
