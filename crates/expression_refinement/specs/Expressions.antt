@@ -157,6 +157,30 @@ many-args s m deep pos n xs t i h =
     let o = arg-at s m deep n (l .first-end) (l .others) (drop (l .others-end) s) (l .first-inside) (l .others-reads) in
     rw (l .is, o .is)
 
+-- the one argument of a call at a position, where it is a number
+module _ (s : List ℕ) (m deep pos n : ℕ) (xs : Args) (next : ℕ) (starts : pos + 4 ≤ length s) (short : length s ≤ 65280) (inside : next ≤ length s) (reads : argsOf (exprWithin m deep) n (drop (pos + 4) s) ≡ parsed xs (drop next s)) where
+  none-of : (o : Option ℕ) (offset : ℕ) → o ≡ none → 255 < offset → Only o offset (after pos 13) next
+  none-of none offset h k = k
+  none-of (some i) offset h k = let z : _≡_ {A = ℕ} 0 1 = cc in absurd (omega arith)
+
+  by-code : (g : OneArg s m deep (pos + 4) xs next) (b : Bool) → IntegerOr b s (pos + 4) (g .first) next → Only (d.onlyInteger xs) (if b then le64 s (after pos 5) else 18446744073709551615) (after pos 13) next
+  unfolding if_then_else_
+  by-code g true h =
+      let a : after pos 5 ≡ pos + 4 + 1 = after-is pos 5 (omega arith) (omega arith) ∙ omega arith in
+      let b : after pos 13 ≡ next = after-is pos 13 (omega arith) (omega arith) ∙ omega (arith, h .1) in
+      let o : d.onlyInteger xs ≡ some (le64 s (pos + 4 + 1)) = unfold d.onlyInteger d.asInteger in rw (g .is, h .0) in
+      rw o (ap (le64 s) a, b)
+  by-code g false h = none-of (d.onlyInteger xs) 18446744073709551615 (unfold d.onlyInteger in rw (g .is) h) (omega arith)
+
+  pub only-integer : Only (d.onlyInteger xs) (calls.onlyInteger s pos n) (after pos 13) next
+  unfolding calls.onlyInteger if_then_else_
+  only-integer = go n refl
+    where
+      go : (k : ℕ) → n ≡ k → Only (d.onlyInteger xs) (if eqb k 1 then (if eqb (getD s (pos + 4) 0) 1 then le64 s (after pos 5) else 18446744073709551615) else 18446744073709551615) (after pos 13) next
+      go zero h = none-of (d.onlyInteger xs) 18446744073709551615 (no-args s m deep (pos + 4) xs (drop next s) (rw h at reads)) (omega arith)
+      go (suc zero) h = let g = one-arg s m deep (pos + 4) xs next starts (rw h at reads) in by-code g (eqb (getD s (pos + 4) 0) 1) (integer-or s m deep (pos + 4) (g .first) next (g .reads) inside)
+      go (suc (suc k)) h = rw (ne-eqb (suc (suc k)) 1 (λ z. omega arith)) (none-of (d.onlyInteger xs) 18446744073709551615 (many-args s m deep (pos + 4) k xs (drop next s) starts (rw h at reads)) (omega arith))
+
 -- the arguments' words, from slot i on
 unfoldable pub filledArgs : List ℕ → ℕ → List ExprValue → List ℕ
 filledArgs args i [] = args
@@ -464,31 +488,8 @@ module _ (s t : List ℕ) (e : Env) (p front tail marks rest : List ℕ) (we : W
             (resolve-args deep walks num 0 (pos + 4) (i .args) next (replicate 64 0) args-read l inside st f c) (λ n a m. unfold seenExpr in refl)
             λ vs st1 r g. rw (← g .1) (user-op s t e front tail marks rest we below spare room id next vs (filledArgs (replicate 64 0) 0 vs) (filled-in (e .section) (count st1) vs (replicate 64 0) 0 (length-replicate {A = ℕ} 64 0) (omega (arith, g .1, i .count-below)) (g .0)) st1 (r .stood) (g .0)))
 
-        -- the one argument, where it is a number
-        only-is : pos + 4 ≤ length s → Only (d.onlyInteger (i .args)) (calls.onlyInteger s pos num) (after pos 13) next
-        unfolding calls.onlyInteger if_then_else_
-        only-is l = go num refl
-          where
-            none-of : (o : Option ℕ) (offset : ℕ) → o ≡ none → 255 < offset → Only o offset (after pos 13) next
-            none-of none offset h k = k
-            none-of (some n) offset h k = let z : _≡_ {A = ℕ} 0 1 = cc in absurd (omega arith)
-
-            by-code : (g : OneArg s (le16 s 2) deep (pos + 4) (i .args) next) (b : Bool) → IntegerOr b s (pos + 4) (g .first) next
-                → Only (d.onlyInteger (i .args)) (if b then le64 s (after pos 5) else 18446744073709551615) (after pos 13) next
-            by-code g true h =
-                let a : after pos 5 ≡ pos + 4 + 1 = ahead 5 (omega arith) ∙ omega arith in
-                let b : after pos 13 ≡ next = ahead 13 (omega arith) ∙ omega (arith, h .1) in
-                let o : d.onlyInteger (i .args) ≡ some (le64 s (pos + 4 + 1)) = unfold d.onlyInteger d.asInteger in rw (g .is, h .0) in
-                rw o (ap (le64 s) a, b)
-            by-code g false h = none-of (d.onlyInteger (i .args)) 18446744073709551615 (unfold d.onlyInteger in rw (g .is) h) (omega arith)
-
-            go : (n : ℕ) → num ≡ n → Only (d.onlyInteger (i .args)) (if eqb n 1 then (if eqb (getD s (pos + 4) 0) 1 then le64 s (after pos 5) else 18446744073709551615) else 18446744073709551615) (after pos 13) next
-            go zero h = none-of (d.onlyInteger (i .args)) 18446744073709551615 (no-args s (le16 s 2) deep (pos + 4) (i .args) (drop next s) (rw h at args-read)) (omega arith)
-            go (suc zero) h = let g = one-arg s (le16 s 2) deep (pos + 4) (i .args) next l (rw h at args-read) in by-code g (eqb (getD s (pos + 4) 0) 1) (integer-or s (le16 s 2) deep (pos + 4) (g .first) next (g .reads) inside)
-            go (suc (suc n)) h = rw (ne-eqb (suc (suc n)) 1 (λ z. omega arith)) (none-of (d.onlyInteger (i .args)) 18446744073709551615 (many-args s (le16 s 2) deep (pos + 4) n (i .args) (drop next s) l (rw h at args-read)) (omega arith))
-
         piece-case : pos + 4 ≤ length s → Answers next st (subpiece s t p (A st) (M st) pos (le16 s (pos + 1)) num we (W st)) (d.subpiece (le16 s (pos + 1)) (i .args) e st)
-        piece-case l = let b = names-few in sub-piece s t e p front tail marks rest we below holds ranges spare room next st f c (le16 s (pos + 1)) (omega (arith, i .name-below)) (i .args) pos num (only-is l)
+        piece-case l = let b = names-few in sub-piece s t e p front tail marks rest we below holds ranges spare room next st f c (le16 s (pos + 1)) (omega (arith, i .name-below)) (i .args) pos num (only-integer s (le16 s 2) deep pos num (i .args) next l short inside args-read)
 
         symbol-case : pos + 4 ≤ length s → (y : Option Symbol)
             → Answers next st (words.callNamed (resolveExpr deep s t p we) s t p we pos (le16 s (pos + 1)) num (symbolCallee y) (A st) (M st) (W st)) (d.callSymbol (le16 s (pos + 1)) (i .args) (d.resolveArgs (i .args)) y e st)

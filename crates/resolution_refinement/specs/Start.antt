@@ -17,13 +17,8 @@ use Rattle.definition.specs.Sizes as d
 use Rattle.definition.specs.Walk.{Env}
 use Rattle.definition.specs.Scope.{find, locals, sectionScope}
 use Rattle.definition.specs.End.{atStart}
-use Rattle.definition.specs.Checker.{numberFits}
-use Rattle.guarantee.specs.Tests as tests
-use Rattle.guarantee.specs.Tests.{of-lt, each-append, none-some}
-use Rattle.guarantee.specs.WholeList.{labelNumbers}
 use Rattle.guarantee.specs.Limits.{WithinLimits}
-use Rattle.guarantee.specs.Kept.{ValueFits, Kept, small-section}
-use Rattle.guarantee.specs.Shapes.{local-fits}
+use Rattle.guarantee.specs.Kept.{small-section}
 use Rattle.guarantee.specs.KeptLabels.{no-label}
 use Rattle.pcode.specs.Base.{if_then_else_}
 use Rattle.pcode.specs.Sizes.{entry}
@@ -74,28 +69,6 @@ unfolding sectionScope orElse
 scope-sound sec = each-both (λ (p : ℕ × Value). Sound sec 0 (p .1)) (locals Kind.Field 0 (map (λ (x : Field). x .name) (sec .fields))) (locals Kind.Subtable 0 (map (λ (x : Subtable). x .name) (sec .subtables)))
     (locals-sound sec Kind.Field 0 (map (λ (x : Field). x .name) (sec .fields)) (λ n h. record { number = omega (arith, length-map (sec .fields) (λ (x : Field). x .name)); offset = omega arith; size = omega arith }))
     (locals-sound sec Kind.Subtable 0 (map (λ (x : Subtable). x .name) (sec .subtables)) (λ n h. record { number = omega (arith, length-map (sec .subtables) (λ (x : Subtable). x .name)); offset = omega arith; size = omega arith }))
-
--- the guarantee's invariant at the start
-
-locals-fit : (e : Env) (k : Kind) (i : ℕ) (ns : List ℕ) → ((n : ℕ) → n < i + length ns → numberFits 0 (length (e .section .subtables)) k n ≡ true) → tests.Each (λ (p : ℕ × Value). ValueFits e 0 (p .1)) (locals k i ns)
-unfolding locals
-locals-fit e k i [] h = tt
-locals-fit e k i (n ∷ ns) h = (local-fits 0 _ k i (h i (omega arith)), locals-fit e k (suc i) ns (λ m l. h m (omega arith)))
-
-pub start-kept : (e : Env) → length (e .section .subtables) ≤ e .actionRoom → Kept e (atStart (e .section))
-unfolding atStart sectionScope labelNumbers andThen numberFits
-start-kept e h = record {
-  inOrder = record { actions = tt; sizes = record { small = λ i n d. none-some {x = none} refl d }; labels = tt; room = omega arith };
-  scope = record {
-    params = tt;
-    mapping = each-append (λ (p : ℕ × Value). ValueFits e 0 (p .1)) (locals Kind.Field 0 (map (λ (x : Field). x .name) (e .section .fields))) (locals Kind.Subtable 0 (map (λ (x : Subtable). x .name) (e .section .subtables)))
-        (locals-fit e Kind.Field 0 (map (λ (x : Field). x .name) (e .section .fields)) (λ n h. refl))
-        (locals-fit e Kind.Subtable 0 (map (λ (x : Subtable). x .name) (e .section .subtables)) (λ n h. of-lt n (length (e .section .subtables)) (omega (arith, length-map (e .section .subtables) (λ (x : Subtable). x .name)))));
-  };
-  next = omega arith;
-  placed = λ k i. absurd i;
-  labels = record { below = λ n l d. no-label l n d; unplaced = λ n l d u. no-label l n d; apart = λ n i l j d q r. no-label l n d };
-}
 
 -- the words of the scopes before any is opened
 unfoldable pub noScopes : List ℕ

@@ -1,6 +1,6 @@
 -- THE THEOREM: what a file is resolved to by the words is what the definition resolves it to.
 use Prim.Native.Nat.{ℕ, _/_, _^_, _≤_, _<_}
-use mathlib.Core.Path.{_≡_, refl, _∙_, subst}
+use mathlib.Core.Path.{_≡_, refl, _∙_, ap, subst}
 use mathlib.Core.Bool.{Bool, true, false}
 use mathlib.Core.List.{List}
 use mathlib.Core.Option.{none}
@@ -22,8 +22,9 @@ use Rattle.section.specs.Stream.{readStream}
 use Rattle.section_refinement.specs.Agree.{refusal-bad}
 use Rattle.section_refinement.specs.FileTheorem.{noTable, stream-refusal, stream-holds, file-stream}
 use Rattle.refinement.specs.Named.{section-named, tables-named}
+use Rattle.resolution.specs.declared.answer.Answer.{Answer as WordAnswer}
 use Rattle.resolution.specs.Answers as answers
-use Rattle.resolution.specs.Answers.{Resolved}
+use Rattle.resolution.specs.Answers.{Resolved, resolvedTo}
 use Rattle.resolution.specs.Files as w
 use Rattle.resolution.specs.Files.{resolveStream, resolveFile}
 use Rattle.expression_refinement.specs.Below.{Spare}
@@ -80,3 +81,7 @@ module _ (statements : StatementsFollow) (file a m : List ℕ) (short : length a
           → asAnswer (if eqb (refusalOf p) 0 then resolveStream (joined (length file / 512) file) a m else answers.refused a m (refusalOf p) 65535 0) ≡ d.resolveRead (length a) (length m) (on p (λ stream _. section stream))
       go (parsed x rest) e l = joined-is x rest e l
       go (refused r) e l = unfold refusalOf d.resolveRead in refuses _ r (refusalNumber r) refl
+
+  -- As a contract has it: of what a call leaves in the lists it knows that each is as long as it was.
+  pub answered-by : (r : WordAnswer) (b n : List ℕ) → resolvedTo r b n ≡ resolveFile file a m → length b ≡ length a → length n ≡ length m → asAnswer (resolvedTo r b n) ≡ d.resolve file (length a) (length m)
+  answered-by r b n h k l = ap asAnswer h ∙ resolved-by (subst (Lengths (length a) (length m)) h (k, l))

@@ -11,6 +11,7 @@ use Rattle.definition.specs.Statements as d
 use Rattle.definition.specs.End.{atStart}
 use Rattle.definition.specs.ActionList.{labelsPlaced}
 use Rattle.guarantee.specs.Limits.{WithinLimits}
+use Rattle.guarantee.specs.Outcomes.{start-kept}
 use Rattle.semantics.specs.Statements.{resolveBody}
 use Rattle.section_refinement.specs.Holds.{Holds, bodies}
 use Rattle.refinement.specs.FromSection.{TablesNamed}
@@ -22,7 +23,7 @@ use Rattle.semantics_refinement.specs.Given.{walkOf}
 use Rattle.semantics_refinement.specs.Standing.{Follows}
 use Rattle.semantics_refinement.specs.MacroPlaces.{ordinal-small}
 use Rattle.semantics_refinement.specs.Bodies.{Between, EnterFollows, StatementFollows, body-follows}
-use Rattle.resolution_refinement.specs.Start.{start-kept, noScopes, roomOf, startBeside, frontOf, tailOf, start-given, start-standing}
+use Rattle.resolution_refinement.specs.Start.{noScopes, roomOf, startBeside, frontOf, tailOf, start-given, start-standing}
 use Rattle.resolution_refinement.specs.Sections.{Walks}
 
 ordinal-is : (xs : List Macro) → d.ordinalAfter xs ≡ bodies xs

@@ -1,23 +1,24 @@
 -- Where a statement that was read ends, by its code, where its last part does not say so; and the same of what a branch
 -- goes to.
-use Prim.Native.Nat.{ℕ, _+_, _≤_, _<_}
+use Prim.Native.Nat.{ℕ, zero, suc, _+_, _≤_, _<_}
 use mathlib.Core.Path.{_≡_, refl, sym, _∙_, ap}
 use mathlib.Core.Bool.{Bool, true, false}
 use mathlib.Core.List.{List}
 use native.Mathlib.Omega.{arith}
 use lib.ListN.{length, getD, drop}
 use lib.Dec.{eqb, leb}
-use borrow.Author.Tests.{le-leb, lt-ltb, leb-true}
+use borrow.Author.Tests.{eqb-true, le-leb, lt-ltb, leb-true}
 use Rattle.cells.specs.Le.{le16}
 use Rattle.definition.specs.Base.{if_then_else_}
 use Rattle.definition.specs.Ast.{PcodeExpr, JumpLabel, BranchDst, Statement}
 use Rattle.definition.specs.SectionFile.{parsed, refused, Read, exprWithin}
 use Rattle.definition.specs.SectionFile as d
 use Rattle.section.specs.declared.cursor.Cursor.{Cursor}
-use Rattle.section.specs.Cursors.{cursor, number, u8, u16, u16or, skip}
+use Rattle.section.specs.Cursors.{cursor, number, u8, u16, u16or, skip, run}
+use Rattle.section.specs.Expressions as expressions
 use Rattle.section.specs.Statements as section
-use Rattle.section_refinement.specs.Agree.{Agrees, went, stopped, Any}
-use Rattle.section_refinement.specs.AgreeCode.{Reads, jump-agrees, target-agrees, statement-agrees}
+use Rattle.section_refinement.specs.Agree.{Agrees, went, stopped, Stuck, Any}
+use Rattle.section_refinement.specs.AgreeCode.{Reads, expr-agrees, jump-agrees, target-agrees, statement-agrees}
 use Rattle.section_refinement.specs.Inversion.{Begun, jump-begun, branch-dst-begun, statement-begun}
 use Rattle.expression_refinement.specs.Positions.{drop-same, passed, ends}
 
@@ -43,6 +44,19 @@ skipped s n p v h = go (leb (p + n) (length s)) refl
     go : (b : Bool) → leb (p + n) (length s) ≡ b → skip s n (cursor p 0 v) .at ≡ p + n
     go true q = rw q
     go false q = let x : _≡_ {A = ℕ} 3 0 = rw q at h in absurd (omega arith)
+
+-- a refused cursor passes the parts unchanged
+run-stuck : (n i : ℕ) (f : Cursor → Cursor) → Stuck f → (c : Cursor) → eqb (c .bad) 0 ≡ false → run n i (λ _. f) c ≡ c
+unfolding run
+run-stuck zero i f h c q = refl
+run-stuck (suc n) i f h c q = rw (h .stays c q) (run-stuck n (suc i) f h c q)
+
+run-good : (n i : ℕ) (f : Cursor → Cursor) → Stuck f → (c : Cursor) → run n i (λ _. f) c .bad ≡ 0 → c .bad ≡ 0
+run-good n i f h c q = go (eqb (c .bad) 0) refl
+  where
+    go : (b : Bool) → eqb (c .bad) 0 ≡ b → c .bad ≡ 0
+    go true r = eqb-true (c .bad) 0 r
+    go false r = rw (run-stuck n i f h c r) at q
 
 -- behind a name
 name-ends : (s : List ℕ) (m pos v next w : ℕ) → u16 s m 5 (cursor pos 0 v) ≡ cursor next 0 w → next ≡ pos + 2
@@ -136,3 +150,13 @@ module _ (s : List ℕ) (m pos : ℕ) (x : Statement) (next : ℕ) (reads : d.st
       let g = ends s m 32 (pos + 1) 9 cond cond-end part starts within in
       let f = cursor-ends s (d.branchDst m) (section.branchDst s m) (target-agrees s m) cond-end (g .val) y end dst within inner in
       hint-ends s end (f .0) next (e .0) (rw (g .is, f .1) at (e .1))
+
+  -- the arguments of a call stand inside
+  pub call-inside : getD s pos 0 ≡ 7 → pos + 4 ≤ length s
+  unfolding section.formOf section.afterForm expressions.counted u16 u8
+  call-inside c =
+      let e = form-ends 7 c in
+      let g = run-good (u8 s 9 4 (u16 s m 5 (cursor (pos + 1) 0 7)) .val) 0 (expressions.expr 32 s m) (expr-agrees s m 32 .stuck) (u8 s 9 4 (u16 s m 5 (cursor (pos + 1) 0 7))) (ap (λ (k : Cursor). k .bad) (e .1)) in
+      let p = passed _ 1 (length s) 9 4 (u16 s m 5 (cursor (pos + 1) 0 7)) refl g in
+      let u = passed (le16 s (pos + 1)) 2 (length s) m 5 (cursor (pos + 1) 0 7) refl (p .good) in
+      omega (arith, p .fits, u .at)

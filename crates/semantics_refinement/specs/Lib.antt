@@ -25,3 +25,5 @@ pub mod MacroPlaces
 pub mod Labelling
 pub mod MacroCalls
 pub mod Following
+pub mod Branches
+pub mod Kinds

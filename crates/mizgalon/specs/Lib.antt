@@ -1,0 +1,2 @@
+-- The answer as the numbers of the definition's result.
+pub mod Answers

@@ -1,0 +1,61 @@
+// The public face: a section file resolved into lent lists, and the checker of such lists; for Rattle, and as C functions.
+use resolution::answer::Answer;
+ghost use mathlib.Core.Path.{_≡_};
+ghost use lib.ListN.{length};
+ghost use Rattle.definition.specs.ActionList.{resolve};
+ghost use Rattle.definition.specs.Checker.{check};
+ghost use Rattle.mizgalon.specs.Answers.{numbers, answer};
+
+// Every file and every pair of lists: an accepted section, or one refusal after which both lists are zero.
+pub fn resolve(file: &[u8], actions: &mut [u64], temporaries: &mut [u64]) -> Answer
+    ensures { λ r. ⌜ answer (numbers r) (now (actions .exit)) (now (temporaries .exit)) ≡ resolve (now (file .entry)) (length (now (actions .entry))) (length (now (temporaries .entry))) ⌝ }
+{
+    resolution::resolve_words(file, actions, temporaries)
+}
+
+fn numbers(r: Answer) -> [u64; 12]
+    ensures { λ x. ⌜ x ≡ numbers r ⌝ }
+{
+    [
+        r.refusal,
+        r.ordinal,
+        r.statements,
+        r.actions,
+        r.temporaries,
+        r.labels,
+        r.points,
+        r.errors,
+        r.kind,
+        r.number,
+        r.word,
+        r.size,
+    ]
+}
+
+// The same, with the twelve numbers in a lent array.
+#[no_mangle]
+pub extern "C" fn mizgalon_resolve(
+    file: &[u8],
+    actions: &mut [u64],
+    temporaries: &mut [u64],
+    result: &mut [u64; 12],
+)
+    ensures { λ _. ⌜ answer (now (result .exit)) (now (actions .exit)) (now (temporaries .exit)) ≡ resolve (now (file .entry)) (length (now (actions .entry))) (length (now (temporaries .entry))) ⌝ }
+{
+    let r = resolve(file, actions, temporaries);
+    *result = numbers(r);
+}
+
+// Whether a list is one that passes, whoever made it.
+#[no_mangle]
+pub extern "C" fn mizgalon_check(
+    list: &[u64],
+    actions: u64,
+    temporaries: u64,
+    subtables: u64,
+    pointer_size: u64,
+) -> bool
+    ensures { λ r. ⌜ r ≡ check (now (list .entry)) actions temporaries subtables «pointer_size» ⌝ }
+{
+    checker::check(list, actions, temporaries, subtables, pointer_size)
+}

@@ -1,0 +1,42 @@
+use Rattle.quote.proofs.print_actions.Statement.{statement}
+use Rattle.quote.proofs.print_actions.Tie as tie
+use Rattle.quote.proofs.print_actions.Reads as reads
+use Rattle.quote.proofs.print_actions.Lts as lts
+use Rattle.quote.proofs.print_action.Reads as print-action-reads
+use borrow.Author.Needs.{needs}
+use Prim.Native.Nat.{_-_, _≤_}
+
+abbrev Inv-loop : tie.InvT-loop
+Inv-loop list n i₀ i = i ≤ n
+
+abbrev μ-loop : tie.MeasureT-loop
+μ-loop list n i₀ i = n - i
+
+-- src/main.rt:31:5
+loop-holds : tie.Need-loop-holds Inv-loop μ-loop
+loop-holds c = search needs
+
+-- src/main.rt:32:9
+print-action-requires : tie.Need-print-action-requires Inv-loop μ-loop
+print-action-requires c κs = search needs
+
+-- src/main.rt:31:9
+add-i : tie.Need-add-i Inv-loop μ-loop
+add-i c = search needs
+
+-- src/main.rt:31:5
+loop-less : tie.Need-loop-less Inv-loop μ-loop
+loop-less c = search needs
+
+-- src/main.rt:31:5
+loop-again : tie.Need-loop-again Inv-loop μ-loop
+loop-again c = search needs
+
+-- src/main.rt:30:1
+returns : tie.Need-returns Inv-loop μ-loop
+returns c = search needs
+
+pub print-actions-spec : {M : Type 1} → statement M
+print-actions-spec =
+    tie.close
+    (tie.spec Inv-loop μ-loop loop-holds print-action-requires add-i loop-less loop-again returns)

@@ -1,0 +1,83 @@
+use Rattle.quote.proofs.print_line.Statement.{statement}
+use Rattle.quote.proofs.print_line.Tie as tie
+use Rattle.quote.proofs.print_line.Reads as reads
+use Rattle.quote.proofs.print_line.Lts as lts
+use Rattle.io.proofs.print_decimal.Reads as print-decimal-reads
+use Rattle.io.proofs.write_all.Reads as write-all-reads
+use borrow.Author.Needs.{needs}
+use Prim.Native.Nat.{_-_, _≤_}
+use lib.ListN.{length}
+use mathlib.Core.Path.{_≡_}
+
+abbrev Inv-loop : tie.InvT-loop
+Inv-loop words i₀ t3 t4 i-end i = (i ≤ i-end) × (i-end ≡ length words)
+
+abbrev μ-loop : tie.MeasureT-loop
+μ-loop words i₀ t3 t4 i-end i = i-end - i
+
+-- src/main.rt:13:5
+loop-holds : tie.Need-loop-holds Inv-loop μ-loop
+loop-holds c = search needs
+
+-- src/main.rt:15:42
+slice-aggregate-write-all : tie.Need-slice-aggregate-write-all Inv-loop μ-loop
+slice-aggregate-write-all c = search needs
+
+-- src/main.rt:15:13
+write-all-requires : tie.Need-write-all-requires Inv-loop μ-loop
+write-all-requires c κs = search needs
+
+-- src/main.rt:17:42
+mul-print-decimal : tie.Need-mul-print-decimal Inv-loop μ-loop
+mul-print-decimal c = search needs
+
+-- src/main.rt:17:42
+shared-slice-read-print-decimal : tie.Need-shared-slice-read-print-decimal Inv-loop μ-loop
+shared-slice-read-print-decimal c = search needs
+
+-- src/main.rt:17:9
+print-decimal-requires : tie.Need-print-decimal-requires Inv-loop μ-loop
+print-decimal-requires c κs = search needs
+
+-- src/main.rt:13:9
+add-i : tie.Need-add-i Inv-loop μ-loop
+add-i c = search needs
+
+-- src/main.rt:13:5
+loop-less : tie.Need-loop-less Inv-loop μ-loop
+loop-less c = search needs
+
+-- src/main.rt:13:5
+loop-again : tie.Need-loop-again Inv-loop μ-loop
+loop-again c = search needs
+
+-- src/main.rt:19:34
+slice-aggregate-write-all-2 : tie.Need-slice-aggregate-write-all-2 Inv-loop μ-loop
+slice-aggregate-write-all-2 c = search needs
+
+-- src/main.rt:19:5
+write-all-requires-2 : tie.Need-write-all-requires-2 Inv-loop μ-loop
+write-all-requires-2 c κs = search needs
+
+-- src/main.rt:12:1
+returns : tie.Need-returns Inv-loop μ-loop
+returns c = search needs
+
+pub print-line-spec : {M : Type 1} → statement M
+print-line-spec =
+    tie.close
+    (tie.spec
+    Inv-loop
+    μ-loop
+    loop-holds
+    slice-aggregate-write-all
+    write-all-requires
+    mul-print-decimal
+    shared-slice-read-print-decimal
+    print-decimal-requires
+    add-i
+    loop-less
+    loop-again
+    slice-aggregate-write-all-2
+    write-all-requires-2
+    returns)
