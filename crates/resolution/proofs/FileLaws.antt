@@ -1,16 +1,14 @@
 -- One law for each way out of the functions from the stream up to the file.
 use mathlib.Core.Path.{_≡_, refl, sym, _∙_}
 use mathlib.Core.List.{List, _++_}
-use Prim.Native.Nat.{ℕ, zero, suc, _+_, _-_, _*_, _/_, _≤_, _<_}
-use native.Mathlib.Omega.{arith}
-use lib.ListN.{length, getD, take, drop, replicate, length-append, length-drop}
-use lib.Seq.{take-at, length-take-le}
+use Prim.Native.Nat.{ℕ, _+_, _*_, _/_, _≤_, _<_}
+use lib.ListN.{length, getD, take, replicate}
 use borrow.Author.Tests.{eq-eqb, ne-eqb, lt-ltb, le-ltb}
 use Rattle.definition.specs.SectionFile.{streamOf}
 use Rattle.cells.specs.Le.{le16}
 use Rattle.section.specs.Blocks.{refusalOf, joined}
 use Rattle.section.specs.Stream.{answer, readStream}
-use Rattle.section_refinement.specs.FileTheorem.{one-block, checked-room}
+use Rattle.section_refinement.specs.FileTheorem.{one-block, checked-room, front, front-room}
 use Rattle.pcode.specs.declared.push.Env.{Env}
 use Rattle.pcode.specs.declared.value.Value.{Value}
 use Rattle.pcode.specs.Base.{if_then_else_}
@@ -65,22 +63,6 @@ module _ (s a m t : List ℕ) (bad : ℕ) (r : Answer) (a1 m1 : List ℕ) (f : a
   pub stream-read : bad ≡ 0 → resolvedTo r a1 m1 ≡ resolveSection s t a m → resolvedTo r a1 m1 ≡ resolveStream s a m
   unfolding resolveStream resolveRead if_then_else_
   stream-read h e = rw (← f, eq-eqb bad 0 h) e
-
--- the payloads of whole blocks
-pub joined-long : (n : ℕ) (s : List ℕ) → 512 * n ≤ length s → length (joined n s) ≡ n * 510
-unfolding joined
-joined-long zero s h = refl
-joined-long (suc n) s h =
-    let d : length (drop 512 s) ≡ length s - 512 = length-drop 512 s in
-    let k : length (joined n (drop 512 s)) ≡ n * 510 = joined-long n (drop 512 s) (omega arith) in
-    rw (length-append, length-take-le 510 s (omega arith), k) (omega arith)
-
--- the buffer's front
-pub front : (file rest : List ℕ) → take (length file / 512 * 510) (joined (length file / 512) file ++ rest) ≡ joined (length file / 512) file
-front file rest = take-at (joined (length file / 512) file) rest (length file / 512 * 510) (joined-long (length file / 512) file (omega arith))
-
-pub front-room : (file rest buf : List ℕ) → buf ≡ joined (length file / 512) file ++ rest → length file / 512 * 510 ≤ length buf
-front-room file rest buf e = let k = joined-long (length file / 512) file (omega arith) in rw (e, length-append, k) (omega arith)
 
 pub blocks-law : (file rest buf a m a1 m1 : List ℕ) (r : Answer) → buf ≡ joined (length file / 512) file ++ rest → resolvedTo r a1 m1 ≡ resolveStream (take (length file / 512 * 510) buf) a m → resolvedTo r a1 m1 ≡ resolveStream (joined (length file / 512) file) a m
 blocks-law file rest buf a m a1 m1 r e f = rw (e, front file rest) at f

@@ -23,7 +23,7 @@ pub mod answer;
 pub mod finish;
 
 // The size of the default space's pointers, 8 where there is none.
-fn pointer_size(s: &[u8], t: &[u16]) -> u64
+pub fn pointer_size(s: &[u8], t: &[u16]) -> u64
     ensures { λ r. ⌜ r ≡ pointerSize (now (s .entry)) (now (t .entry)) ⌝ }
 {
     let i = cells::u16_at(s, 24);

@@ -29,6 +29,7 @@ use Rattle.resolution.specs.Files as w
 use Rattle.resolution.specs.Files.{resolveStream, resolveFile}
 use Rattle.expression_refinement.specs.Below.{Spare}
 use Rattle.semantics_refinement.specs.Bodies.{EnterFollows, StatementFollows}
+use Rattle.semantics_refinement.specs.Statements.{statements-follow}
 use Rattle.resolution_refinement.specs.Answers.{asAnswer, refused-is}
 use Rattle.resolution_refinement.specs.BitRanges.{bit-ranges-fit}
 use Rattle.resolution_refinement.specs.Start.{roomOf, frontOf, tailOf, lent-length}
@@ -85,3 +86,7 @@ module _ (statements : StatementsFollow) (file a m : List ℕ) (short : length a
   -- As a contract has it: of what a call leaves in the lists it knows that each is as long as it was.
   pub answered-by : (r : WordAnswer) (b n : List ℕ) → resolvedTo r b n ≡ resolveFile file a m → length b ≡ length a → length n ≡ length m → asAnswer (resolvedTo r b n) ≡ d.resolve file (length a) (length m)
   answered-by r b n h k l = ap asAnswer h ∙ resolved-by (subst (Lengths (length a) (length m)) h (k, l))
+
+-- For every file and all lent lists: the twelve numbers and every word of both lists are the definition's.
+pub resolved-is : (file a m : List ℕ) → length a < 2 ^ 60 → length m < 2 ^ 60 → Lengths (length a) (length m) (resolveFile file a m) → asAnswer (resolveFile file a m) ≡ d.resolve file (length a) (length m)
+resolved-is = resolved-by statements-follow

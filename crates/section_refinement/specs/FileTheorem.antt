@@ -6,8 +6,8 @@ use mathlib.Core.List.{List, [], _∷_, _++_, append-nil}
 use Prim.Native.Nat.{ℕ, zero, suc, _+_, _-_, _*_, _/_, _%_, _≤_, _<_, min}
 use native.Mathlib.Nat.{min-le-left}
 use native.Mathlib.Omega.{arith}
-use lib.ListN.{length, getD, take, drop, replicate, length-append, length-take, length-replicate, getD-replicate, List·getD-eq-default}
-use lib.Seq.{take-take}
+use lib.ListN.{length, getD, take, drop, replicate, length-append, length-drop, length-take, length-replicate, getD-replicate, List·getD-eq-default}
+use lib.Seq.{take-take, take-at, length-take-le}
 use lib.Dec.{eqb, leb, ltb}
 use borrow.Author.Tests.{leb-true, ltb-true, ltb-false}
 use Rattle.definition.specs.Base.{if_then_else_}
@@ -139,3 +139,19 @@ checked-room file e = go (leb 1 (length file)) (leb (length file) 65536) (eqb (l
     go true true c f g = let m : length file ≤ 65536 = leb-true _ _ f in omega arith
     go true false c f g = absurd (bad-one g)
     go false b c f g = absurd (bad-one g)
+
+-- the payloads of whole blocks
+pub joined-long : (n : ℕ) (s : List ℕ) → 512 * n ≤ length s → length (joined n s) ≡ n * 510
+unfolding joined
+joined-long zero s h = refl
+joined-long (suc n) s h =
+    let d : length (drop 512 s) ≡ length s - 512 = length-drop 512 s in
+    let k : length (joined n (drop 512 s)) ≡ n * 510 = joined-long n (drop 512 s) (omega arith) in
+    rw (length-append, length-take-le 510 s (omega arith), k) (omega arith)
+
+-- the buffer's front
+pub front : (file rest : List ℕ) → take (length file / 512 * 510) (joined (length file / 512) file ++ rest) ≡ joined (length file / 512) file
+front file rest = take-at (joined (length file / 512) file) rest (length file / 512 * 510) (joined-long (length file / 512) file (omega arith))
+
+pub front-room : (file rest buf : List ℕ) → buf ≡ joined (length file / 512) file ++ rest → length file / 512 * 510 ≤ length buf
+front-room file rest buf e = let k = joined-long (length file / 512) file (omega arith) in rw (e, length-append, k) (omega arith)

@@ -2,16 +2,16 @@
 -- an address.
 use Prim.Native.Nat.{ℕ, zero, suc, _+_, _*_, _%_, _^_, _≤_, _<_}
 use mathlib.Core.Path.{_≡_, refl, sym, _∙_, ap, subst}
-use mathlib.Core.Bool.{Bool, true, false}
-use mathlib.Core.List.{List, [], _∷_, _++_}
-use mathlib.Core.Option.{Option, none, some}
+use mathlib.Core.Bool.{false}
+use mathlib.Core.List.{List, [], _∷_}
+use mathlib.Core.Option.{none, some}
 use native.Mathlib.Omega.{arith}
 use lib.ListN.{length, getD, getElem?, drop, length-append}
 use lib.Dec.{eqb}
 use Rattle.cells.specs.Le.{le16, le64}
 use Rattle.definition.specs.Base.{base-opens, orElse, isSome}
 use Rattle.definition.specs.Refusals.{refusalNumber, tooManyLabels}
-use Rattle.definition.specs.Operations.{Operation, operationNumber, isOp, operations-opens}
+use Rattle.definition.specs.Operations.{Operation, operationNumber, operations-opens}
 use Rattle.definition.specs.Value.{kindNumber, Value, constant, SemanticAction, operationOf}
 use Rattle.definition.specs.Ast.{Section, JumpLabel, BranchDst, BranchHint, Statement, Macro}
 use Rattle.definition.specs.SectionFile.{parsed, jumpLabel, branchDst, statement}
@@ -26,7 +26,7 @@ use Rattle.definition.specs.Statements as d
 use Rattle.definition.specs.ActionList.{orNone, placesLabel, labelsPlaced}
 use Rattle.pcode.specs.declared.push.State.{State as WordState}
 use Rattle.pcode.specs.declared.push.Env.{Env as WordEnv}
-use Rattle.pcode.specs.Base.{if_then_else_, Listed, listed}
+use Rattle.pcode.specs.Base.{if_then_else_}
 use Rattle.pcode.specs.Values.{absent, noOutput}
 use Rattle.pcode.specs.Pushes.{PushedOut, pushOp}
 use Rattle.section_refinement.specs.Inversion.{Begun, jump-begun, jump-name-at, jump-integer-at, hints, direct-at, indirect-at, branch-label-at, branch-dst-begun, branch-at, cond-branch-at, label-at}
@@ -36,9 +36,7 @@ use Rattle.refinement.specs.RuleKinds.{kindOf}
 use Rattle.refinement.specs.Seen.{seenPushed, outcome}
 use Rattle.refinement.specs.Pushes.{Stands, push-op-is, push-op-done}
 use Rattle.semantics.specs.declared.statements.Walk.{Walk}
-use Rattle.semantics.specs.declared.statements.Step.{Step}
-use Rattle.semantics.specs.declared.labels.Label.{Label as WordLabel}
-use Rattle.semantics.specs.Walks.{Stepped, stepped, stepPushed, Walked, walked, besideP, stop, pushedThen}
+use Rattle.semantics.specs.Walks.{stepPushed, Walked, walked, besideP, stop, pushedThen}
 use Rattle.semantics.specs.Labels.{getOrInsertLabel, onLabel, resolveLabel, labelsAfter}
 use Rattle.semantics.specs.Branches.{pushLabel, labelStatement, branchLabel, labelBranch, jumpValue, afterJump, jumpTo, jumpMeant, jump, resolveBranch, branch, condBranch}
 use Rattle.expression.specs.Answers.{after}
@@ -51,7 +49,7 @@ use Rattle.expression_refinement.specs.Positions.{drop-same}
 use Rattle.expression_refinement.specs.Expressions.{after-is}
 use Rattle.expression_refinement.specs.Pushing.{push-op-halts, last-halts}
 use Rattle.expression_refinement.specs.Reading.{constant-sound}
-use Rattle.semantics_refinement.specs.Views.{Beside, beside, seenStep, begunIn, pushed-seen, mapSeen, step-stops, Goes, step-pushed}
+use Rattle.semantics_refinement.specs.Views.{Beside, beside, seenStep, begunIn, pushed-seen, mapSeen, Goes, step-pushed}
 use Rattle.semantics_refinement.specs.Operations.{no-output}
 use Rattle.semantics_refinement.specs.Jumps.{direct-is, indirect-is}
 use Rattle.semantics_refinement.specs.Given.{Given, walkOf, operand-of}
@@ -103,18 +101,42 @@ module _ (s t : List ℕ) (e : Env) (front tail marks rest : List ℕ) (we : Wor
     standing-placed : 24 * length (withAction (placing id) st .actions) ≤ length tail → Standing s t e front tail rest we spare q marks (onePlaced c) (withAction (placing id) st)
     standing-placed long = let f = stand .stood in let n = length-append (st .actions) (placing id ∷ []) in record {
       stood = record {
-        actions = long; temporaries = f .temporaries; marked = f .marked; sizes = f .sizes; errors = omega (arith, f .errors);
-        sound = each-last _ (st .actions) (placing id) (f .sound) (record { inputs = tt; output = tt }); params = f .params; mapping = f .mapping;
+        actions = long;
+        temporaries = f .temporaries;
+        marked = f .marked;
+        sizes = f .sizes;
+        errors = omega (arith, f .errors);
+        sound = each-last _ (st .actions) (placing id) (f .sound) (record { inputs = tt; output = tt });
+        params = f .params;
+        mapping = f .mapping;
       };
       scoped = record { params = stand .scoped .params; counted = stand .scoped .counted; locals = stand .scoped .locals };
-      labelled = stand .labelled; labels = stand .labels; few = stand .few; statements = stand .statements; export = stand .export; exportSound = stand .exportSound; long = stand .long;
-      counted = stand .counted; scopes = stand .scopes; own = stand .own; marked = stand .marked; opened = stand .opened;
+      labelled = stand .labelled;
+      labels = stand .labels;
+      few = stand .few;
+      statements = stand .statements;
+      export = stand .export;
+      exportSound = stand .exportSound;
+      long = stand .long;
+      counted = stand .counted;
+      scopes = stand .scopes;
+      own = stand .own;
+      marked = stand .marked;
+      opened = stand .opened;
     }
 
     framed-placed : Framed s t e front tail rest we spare level q marks c st q marks (onePlaced c) (withAction (placing id) st)
     framed-placed = let f = framed-refl s t e front tail rest we spare level q marks c st in record {
-      slots = f .slots; labels = f .labels; oldLabels = f .oldLabels; otherLabels = f .otherLabels; newLabels = f .newLabels; scopes = f .scopes;
-      temporaries = f .temporaries; oldMarks = f .oldMarks; oldNames = f .oldNames; newMarks = f .newMarks;
+      slots = f .slots;
+      labels = f .labels;
+      oldLabels = f .oldLabels;
+      otherLabels = f .otherLabels;
+      newLabels = f .newLabels;
+      scopes = f .scopes;
+      temporaries = f .temporaries;
+      oldMarks = f .oldMarks;
+      oldNames = f .oldNames;
+      newMarks = f .newMarks;
     }
 
     label-same : Stands tail marks rest st → SoundAction (e .section) (count st) (placing id) → length (st .sizing .errors) + 3 < 2 ^ 64
@@ -136,11 +158,11 @@ module _ (s t : List ℕ) (e : Env) (front tail marks rest : List ℕ) (we : Wor
         (label-same stands k l))
         (last-halts e st (walks.pushOp Operation.PcodeLabel id [] none e st) (λ _. tt {0}) (push-op-halts e st Operation.PcodeLabel id [] none)) refl
         λ u j.
-            let a = pushed-from e (walks.pushOp Operation.PcodeLabel id [] none e st) u j in
-            let g = push-op-done e st front tail marks rest (given .lent) stands s t (given .sizes) we (given .pointer) Operation.PcodeLabel id [] (omega arith) none k (unfold kindOf in tt) l (a .0) u (a .1) in
-            let h : u ≡ withAction (placing id) st = g .1 ∙ ap (λ (y : SemanticAction × Sizing). withAction (y .0) (withSizing (y .1) st)) (label-unsized (e .section) id (st .sizing)) in
-            subst (λ (y : State). Standing s t e front tail rest we spare q marks (onePlaced c) y × Framed s t e front tail rest we spare level q marks c st q marks (onePlaced c) y × (labelsPlaced (y .actions) ≡ labelsPlaced (st .actions) + 1)) (sym h)
-            (standing-placed (subst (λ (y : State). 24 * length (y .actions) ≤ length tail) h (g .2 .actions)), framed-placed, places)
+        let a = pushed-from e (walks.pushOp Operation.PcodeLabel id [] none e st) u j in
+        let g = push-op-done e st front tail marks rest (given .lent) stands s t (given .sizes) we (given .pointer) Operation.PcodeLabel id [] (omega arith) none k (unfold kindOf in tt) l (a .0) u (a .1) in
+        let h : u ≡ withAction (placing id) st = g .1 ∙ ap (λ (y : SemanticAction × Sizing). withAction (y .0) (withSizing (y .1) st)) (label-unsized (e .section) id (st .sizing)) in
+        subst (λ (y : State). Standing s t e front tail rest we spare q marks (onePlaced c) y × Framed s t e front tail rest we spare level q marks c st q marks (onePlaced c) y × (labelsPlaced (y .actions) ≡ labelsPlaced (st .actions) + 1)) (sym h)
+        (standing-placed (subst (λ (y : State). 24 * length (y .actions) ≤ length tail) h (g .2 .actions)), framed-placed, places)
 
   module _ (p : List ℕ) (b : Beside) (within : we .params + 64 ≤ level) (top : level ≤ 1088) (room64 : b .placed + 1 < 2 ^ 64) (st : State) (stand : Standing s t e front tail rest we spare p marks b st) where
     abbrev Stepping : ℕ → ℕ → Walked → Outcome (Unit {0}) → Type 0

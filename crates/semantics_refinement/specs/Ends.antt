@@ -1,13 +1,13 @@
 -- Where a statement that was read ends, by its code, where its last part does not say so; and the same of what a branch
 -- goes to.
-use Prim.Native.Nat.{ℕ, zero, suc, _+_, _≤_, _<_}
+use Prim.Native.Nat.{ℕ, zero, suc, _+_, _≤_}
 use mathlib.Core.Path.{_≡_, refl, sym, _∙_, ap}
 use mathlib.Core.Bool.{Bool, true, false}
 use mathlib.Core.List.{List}
 use native.Mathlib.Omega.{arith}
 use lib.ListN.{length, getD, drop}
 use lib.Dec.{eqb, leb}
-use borrow.Author.Tests.{eqb-true, le-leb, lt-ltb, leb-true}
+use borrow.Author.Tests.{eqb-true, le-leb, lt-ltb}
 use Rattle.cells.specs.Le.{le16}
 use Rattle.definition.specs.Base.{if_then_else_}
 use Rattle.definition.specs.Ast.{PcodeExpr, JumpLabel, BranchDst, Statement}

@@ -1,5 +1,5 @@
 -- A label made or placed as part of a step: the words of the scopes give the same label, and what they hold besides stays.
-use Prim.Native.Nat.{ℕ, suc, _+_, _*_, _/_, _%_, _^_, _≤_, _<_}
+use Prim.Native.Nat.{ℕ, suc, _+_, _/_, _%_, _≤_, _<_}
 use mathlib.Core.Path.{_≡_, refl, sym, _∙_, ap, subst}
 use mathlib.Core.Logic.{_≢_, inl}
 use mathlib.Core.Bool.{Bool, true, false, not}
@@ -8,11 +8,11 @@ use mathlib.Core.Option.{Option, none, some}
 use native.Mathlib.Omega.{arith}
 use lib.ListN.{length, getD, set, length-set}
 use lib.Seq.{getD-set-same, getD-set-other}
-use lib.Dec.{eqb, ltb, leb}
-use borrow.Author.Tests.{eqb-true, eqb-false, eq-eqb, lt-ltb, le-ltb, ltb-true, ltb-false, leb-true, leb-false}
+use lib.Dec.{ltb, leb}
+use borrow.Author.Tests.{eq-eqb, lt-ltb, le-ltb, ltb-true, ltb-false, leb-true, leb-false}
 use Rattle.definition.specs.Base.{_or_, first, base-opens}
 use Rattle.definition.specs.Refusals.{Refusal, refusalNumber, tooManyLabels, labelTwice}
-use Rattle.definition.specs.Walk.{Label, Scope, State, Env, Outcome, done, stopped, on, require, withScope, withLabel}
+use Rattle.definition.specs.Walk.{Label, State, Env, Outcome, done, stopped, on, require, withScope, withLabel}
 use Rattle.definition.specs.Scope as scope
 use Rattle.definition.specs.Scope.{find, withEntry}
 use Rattle.pcode.specs.declared.push.Env.{Env as WordEnv}

@@ -27,3 +27,6 @@ pub mod MacroCalls
 pub mod Following
 pub mod Branches
 pub mod Kinds
+pub mod UserOps
+pub mod CallKinds
+pub mod Statements

@@ -1,11 +1,11 @@
 -- A new local as part of a step: what stands and is framed once it is declared, and the statement that only declares one.
-use Prim.Native.Nat.{ℕ, suc, _+_, _%_, _≤_, _<_}
+use Prim.Native.Nat.{ℕ, suc, _%_, _<_}
 use mathlib.Core.Path.{_≡_, refl, sym, _∙_, ap, subst}
-use mathlib.Core.Logic.{_⊎_, inl, inr}
-use mathlib.Core.List.{List, [], _∷_, _++_}
-use mathlib.Core.Option.{Option, none, some}
+use mathlib.Core.Logic.{inl, inr}
+use mathlib.Core.List.{List}
+use mathlib.Core.Option.{Option}
 use native.Mathlib.Omega.{arith}
-use lib.ListN.{length, getD, length-append}
+use lib.ListN.{length-append}
 use Rattle.definition.specs.Refusals.{Refusal, refusalNumber}
 use Rattle.definition.specs.Value.{Value, SemanticAction}
 use Rattle.definition.specs.Walk as walks
@@ -24,12 +24,12 @@ use Rattle.refinement.specs.Pushes.{marked}
 use Rattle.refinement.specs.Seen.{seenTmp, outcome}
 use Rattle.expression.specs.Scopes.{namedTmp}
 use Rattle.semantics.specs.declared.statements.Step.{Step}
-use Rattle.semantics.specs.Walks.{Stepped, stepped, Walked, walked, besideP, readThen, stop}
-use Rattle.expression_refinement.specs.Encodings.{Small, nameAt, tmps, count}
+use Rattle.semantics.specs.Walks.{stepped, Walked, walked, besideP, readThen}
+use Rattle.expression_refinement.specs.Encodings.{Small, tmps, count}
 use Rattle.expression_refinement.specs.Answers.{acts, temps, word, Halts}
 use Rattle.semantics_refinement.specs.Views.{Beside}
 use Rattle.semantics_refinement.specs.Given.{Given, walkOf}
-use Rattle.semantics_refinement.specs.Locals.{more, declared, Declared, named-same, named-goes, named-halts, declared-stood, declared-scoped}
+use Rattle.semantics_refinement.specs.Locals.{declared, Declared, named-same, named-goes, named-halts, declared-stood, declared-scoped}
 use Rattle.semantics_refinement.specs.Standing.{Standing, Framed, Steps}
 use Rattle.semantics_refinement.specs.Stepping.{name-before, marked-below, export-more, steps-stop, steps-then}
 
@@ -137,7 +137,7 @@ module _ (s t : List ℕ) (e : Env) (p front tail marks rest : List ℕ) (we : W
       where
         go : Named naming (scope.namedTmp name size e from) → Steps s t e front tail rest we spare placing level p marks b from next (wrap (onTmp naming f g)) (on e (scope.namedTmp name size e from) k)
         go (made v u q h j) = rw (q, h) (unfold on onTmp in steps-declared v u _ _ j (i v u j))
-        go (refused r ordinal errors m q h i1) = let z = stops (refusalNumber r) m in rw (q, h) (unfold on onTmp in steps-stop s t e front tail rest we spare placing level p marks b from next _ r ordinal errors (refusalNumber r) begun (z .1) (z .0) (z .2) i1 refl begun-is (z .3))
+        go (refused r ordinal errors m q h halts) = let z = stops (refusalNumber r) m in rw (q, h) (unfold on onTmp in steps-stop s t e front tail rest we spare placing level p marks b from next _ r ordinal errors (refusalNumber r) begun (z .1) (z .0) (z .2) halts refl begun-is (z .3))
 
   -- the statement that declares a local
   pub steps-local : (level next : ℕ)
@@ -151,4 +151,4 @@ module _ (s t : List ℕ) (e : Env) (p front tail marks rest : List ℕ) (we : W
           (on e (scope.namedTmp name size e from) λ _. λ e1 st1. done tt st1)
       go (made v u q h j) = rw (q, h) (unfold on thenL readThen besideP in Steps.goes u p marks1 b refl
           (ap (λ (y : List SemanticAction). walked (Step.Next next (walkOf b (word (e .section) front tail marks1 rest u))) p (actionsIn front tail y) (temps (e .section) front tail marks1 rest u)) (sym (j .actions))) (j .stands) (j .framed level) (omega arith) (ap labelsPlaced (j .actions) ∙ omega arith))
-      go (refused r ordinal errors m q h i1) = rw (q, h) (unfold on thenL readThen besideP in Steps.stops r p (acts (e .section) front tail marks rest from) m (rw (i1 .0, i1 .1)) refl)
+      go (refused r ordinal errors m q h halts) = rw (q, h) (unfold on thenL readThen besideP in Steps.stops r p (acts (e .section) front tail marks rest from) m (rw (halts .0, halts .1)) refl)

@@ -1,11 +1,9 @@
 -- Statements of one step, as steps: unimplemented, the export, locals, builds, copies and stores.
 use Prim.Native.Nat.{ℕ, zero, suc, _+_, _≤_, _<_}
-use mathlib.Core.Path.{_≡_, refl, sym, _∙_, ap, subst}
-use mathlib.Core.List.{List, []}
-use mathlib.Core.Option.{Option, none, some}
+use mathlib.Core.Path.{_≡_, refl, sym, _∙_, subst}
+use mathlib.Core.List.{List}
 use native.Mathlib.Omega.{arith}
 use lib.ListN.{length, getD, drop}
-use lib.Dec.{eqb}
 use Rattle.cells.specs.Le.{le16}
 use Rattle.definition.specs.Refusals.{refusalNumber}
 use Rattle.definition.specs.Value.{Export}
@@ -31,7 +29,7 @@ use Rattle.semantics.specs.Simple.{unimplemented, exportStatement, localStateme
 use Rattle.semantics.specs.Stores.{storeStatement}
 use Rattle.semantics.specs.Copies.{copyStatement}
 use Rattle.semantics.specs.Statements.{simple}
-use Rattle.expression_refinement.specs.Encodings.{count, Stood}
+use Rattle.expression_refinement.specs.Encodings.{count}
 use Rattle.expression_refinement.specs.Answers.{acts, temps, word, Refines}
 use Rattle.expression_refinement.specs.Below.{Spare}
 use Rattle.expression_refinement.specs.Positions.{drop-same}
@@ -82,8 +80,16 @@ module _ (s t : List ℕ) (e : Env) (p front tail marks rest : List ℕ) (we : W
 
   framed-export : (y : Export) (u : State) → Framed s t e front tail rest we spare level p marks b from p marks b u → Framed s t e front tail rest we spare level p marks b from p marks (withExported y b) (withExport y u)
   framed-export y u f = record {
-    slots = f .slots; labels = f .labels; oldLabels = f .oldLabels; otherLabels = f .otherLabels; newLabels = f .newLabels; scopes = f .scopes;
-    temporaries = f .temporaries; oldMarks = f .oldMarks; oldNames = f .oldNames; newMarks = f .newMarks;
+    slots = f .slots;
+    labels = f .labels;
+    oldLabels = f .oldLabels;
+    otherLabels = f .otherLabels;
+    newLabels = f .newLabels;
+    scopes = f .scopes;
+    temporaries = f .temporaries;
+    oldMarks = f .oldMarks;
+    oldNames = f .oldNames;
+    newMarks = f .newMarks;
   }
 
   exported : (next : ℕ) (x : Stepped) (o : Outcome Export) → Refines (e .section) front tail marks rest spare from (λ (y : Export). (next, withExported y b)) (SoundExport (e .section)) (seenStep (orNone (from .sizing .begun)) x) o

@@ -1,13 +1,13 @@
 -- A statement's answer as a step of the walk: what stands and is framed after expressions, pushes and a new local, and how
 -- steps follow each other.
-use Prim.Native.Nat.{ℕ, zero, suc, _+_, _%_, _≤_, _<_}
+use Prim.Native.Nat.{ℕ, zero, suc, _+_, _≤_, _<_}
 use mathlib.Core.Path.{_≡_, refl, sym, _∙_, ap, subst}
-use mathlib.Core.Logic.{_≢_, _⊎_, inl, inr}
+use mathlib.Core.Logic.{inl}
 use mathlib.Core.Bool.{Bool, true, false}
 use mathlib.Core.List.{List, [], _∷_, _++_}
 use mathlib.Core.Option.{Option, none, some}
 use native.Mathlib.Omega.{arith}
-use lib.ListN.{length, getD, getElem?, length-append}
+use lib.ListN.{length, getD}
 use lib.Dec.{eqb, ltb}
 use borrow.Author.Tests.{eqb-true, ltb-true, ltb-false}
 use Rattle.definition.specs.Base.{andThen}
@@ -15,33 +15,30 @@ use Rattle.definition.specs.Refusals.{Refusal, refusalNumber}
 use Rattle.definition.specs.Value.{Value, Export, Temporary}
 use Rattle.definition.specs.Walk as walks
 use Rattle.definition.specs.Walk.{ExprValue, Scope, State, Env, Outcome, done, stopped, on}
-use Rattle.definition.specs.Scope as scope
 use Rattle.definition.specs.ActionList.{orNone, labelsPlaced}
 use Rattle.guarantee.specs.Outcomes.{positive}
 use Rattle.pcode.specs.declared.value.Value.{Value as WordValue}
 use Rattle.pcode.specs.declared.push.State.{State as WordState}
 use Rattle.pcode.specs.declared.push.Env.{Env as WordEnv}
-use Rattle.pcode.specs.declared.push.Read.{Read}
-use Rattle.pcode.specs.Base.{if_then_else_, Listed, listed}
+use Rattle.pcode.specs.Base.{if_then_else_}
 use Rattle.refinement.specs.Encoding.{encV, Sound, EachOption}
 use Rattle.refinement.specs.Marks.{marked-same, marked-other}
 use Rattle.refinement.specs.Pushes.{marked, marked-length}
-use Rattle.refinement.specs.Seen.{Seen, no, yes, seenTmp, outcome}
+use Rattle.refinement.specs.Seen.{Seen, no, yes, outcome}
 use Rattle.expression.specs.declared.scope.ExprValue.{ExprValue as WordExpr}
 use Rattle.expression.specs.declared.expr.Expr.{Expr}
 use Rattle.expression.specs.declared.expr.Operand.{Operand}
 use Rattle.expression.specs.Answers.{ExprOut, resolved, onExpr, OperandOut, operand, onOperand}
-use Rattle.expression.specs.Scopes.{namedTmp}
 use Rattle.semantics.specs.declared.statements.Step.{Step}
-use Rattle.semantics.specs.Walks.{Stepped, stepped, Walked, walked, besideP, stop}
-use Rattle.expression_refinement.specs.Encodings.{encX, SoundX, Small, nameAt, tmps, count, Stood, Later, sound-more}
+use Rattle.semantics.specs.Walks.{Stepped, stepped, Walked, walked, besideP}
+use Rattle.expression_refinement.specs.Encodings.{encX, SoundX, nameAt, tmps, count, Later, sound-more}
 use Rattle.expression_refinement.specs.Answers.{acts, temps, word, seenExpr, seenOperand, Halts, Reached, Refines}
 use Rattle.expression_refinement.specs.Scopes.{scoped-later}
 use Rattle.semantics_refinement.specs.Views.{Beside, beside, seenStep, ExportIs, Goes}
-use Rattle.semantics_refinement.specs.Given.{Given, walkOf}
+use Rattle.semantics_refinement.specs.Given.{walkOf}
 use Rattle.semantics_refinement.specs.Simple.{SoundExport}
 use Rattle.semantics_refinement.specs.Labels.{LabelsIn}
-use Rattle.semantics_refinement.specs.Locals.{more, declared, Declared, named-same, named-goes, declared-stood, declared-scoped}
+use Rattle.semantics_refinement.specs.Locals.{more}
 use Rattle.semantics_refinement.specs.Standing.{Standing, Framed, Steps}
 use Rattle.semantics_refinement.specs.Frames.{framed-trans}
 
@@ -95,8 +92,8 @@ module _ (s t : List ℕ) (e : Env) (front tail rest : List ℕ) (we : WordEnv) 
   abbrev Frame : ℕ → List ℕ → List ℕ → Beside → State → List ℕ → List ℕ → Beside → State → Type 0
   Frame level p marks b from q more c u = Framed s t e front tail rest we spare level p marks b from q more c u
 
-  abbrev Step-to : ℕ → ℕ → List ℕ → List ℕ → Beside → State → ℕ → Walked → Outcome (Unit {0}) → Type 0
-  Step-to placing level p marks b from next x o = Steps s t e front tail rest we spare placing level p marks b from next x o
+  abbrev StepsTo : ℕ → ℕ → List ℕ → List ℕ → Beside → State → ℕ → Walked → Outcome (Unit {0}) → Type 0
+  StepsTo placing level p marks b from next x o = Steps s t e front tail rest we spare placing level p marks b from next x o
 
   pub export-more : (n k : ℕ) → n ≤ k → (x : Option Export) → EachOption (SoundExport (e .section) n) x → EachOption (SoundExport (e .section) k) x
   export-more n k l none h = tt
@@ -138,25 +135,25 @@ module _ (s t : List ℕ) (e : Env) (front tail rest : List ℕ) (we : WordEnv) 
   module _ (placing level : ℕ) (p marks : List ℕ) (b : Beside) (from : State) (next : ℕ) where
     -- a refusal at the statement that has begun
     pub steps-stop : (x : Walked) (r : Refusal) (ordinal : Option ℕ) (errors n begun : ℕ) (q a m : List ℕ) → (ordinal ≡ from .sizing .begun) × (errors ≡ 0) → n ≡ refusalNumber r → begun ≡ orNone (from .sizing .begun)
-        → x ≡ walked (Step.Stop n begun) q a m → Step-to placing level p marks b from next x (stopped r ordinal errors)
+        → x ≡ walked (Step.Stop n begun) q a m → StepsTo placing level p marks b from next x (stopped r ordinal errors)
     steps-stop x r ordinal errors n begun q a m i j k h = Steps.stops r q a m (rw (i .0, i .1)) (rw (← j, ← k) h)
 
     -- what was seen, as a step
     pub steps-seen : (more : List ℕ) (c : Beside) (begun : ℕ) (x : Stepped) (o : Outcome (Unit {0})) → begun ≡ orNone (from .sizing .begun) → seenStep begun x ≡ outcome front tail more rest (λ (_ : Unit {0}). (next, c)) o
-        → Halts from o → c .placed ≡ b .placed + placing → ((u : State) → o ≡ done tt u → Stand p more c u × Frame level p marks b from p more c u × (labelsPlaced (u .actions) ≡ labelsPlaced (from .actions) + placing)) → Step-to placing level p marks b from next (besideP p x) o
+        → Halts from o → c .placed ≡ b .placed + placing → ((u : State) → o ≡ done tt u → Stand p more c u × Frame level p marks b from p more c u × (labelsPlaced (u .actions) ≡ labelsPlaced (from .actions) + placing)) → StepsTo placing level p marks b from next (besideP p x) o
     unfolding outcome
     steps-seen more c begun x (done a u) q h i k g = let j = g u refl in Steps.goes u p more c refl (seen-next begun x p (next, c) _ _ _ h) (j .0) (j .1) k (j .2)
     steps-seen more c begun x (stopped r ordinal errors) q h i k g = let j = seen-stop begun x p (refusalNumber r) (positive r) h in steps-stop (besideP p x) r ordinal errors (refusalNumber r) begun p (j .0) (j .1) (i r ordinal errors refl) refl q (j .2)
 
   pub steps-goes : (level : ℕ) (p marks : List ℕ) (b : Beside) (from : State) (next begun : ℕ) (x : Stepped) (o : Outcome (Unit {0})) → Stand p marks b from → begun ≡ orNone (from .sizing .begun)
-      → Goes (e .section) front tail marks rest spare from next b begun x o → Step-to 0 level p marks b from next (besideP p x) o
+      → Goes (e .section) front tail marks rest spare from next b begun x o → StepsTo 0 level p marks b from next (besideP p x) o
   steps-goes level p marks b from next begun x o h q r =
       steps-seen 0 level p marks b from next marks b begun x o q (r .same) (r .stops) (omega arith) λ u j. let k = r .goes tt u j .0 in (standing-later p marks b from u h k, framed-later level p marks b from u (k .later), k .later .placed ∙ omega arith)
 
   -- steps follow what is framed
   pub steps-then : (first placing all level : ℕ) (p marks : List ℕ) (b : Beside) (from : State) (q more : List ℕ) (c : Beside) (mid : State) (next : ℕ) (x : Walked) (o : Outcome (Unit {0}))
       → Frame level p marks b from q more c mid → mid .sizing .begun ≡ from .sizing .begun → c .placed ≡ b .placed + first → labelsPlaced (mid .actions) ≡ labelsPlaced (from .actions) + first → all ≡ first + placing
-      → Step-to placing level q more c mid next x o → Step-to all level p marks b from next x o
+      → StepsTo placing level q more c mid next x o → StepsTo all level p marks b from next x o
   steps-then first placing all level p marks b from q more c mid next x o g begun k n j (Steps.goes u r yet f i h stand frame l m) =
       Steps.goes u r yet f i h stand (framed-trans s t e front tail rest we spare g frame) (omega arith) (omega arith)
   steps-then first placing all level p marks b from q more c mid next x o g begun k n j (Steps.stops r y a m i h) = Steps.stops r y a m (rw (← begun) i) (rw (← begun) h)
@@ -164,12 +161,12 @@ module _ (s t : List ℕ) (e : Env) (front tail rest : List ℕ) (we : WordEnv) 
   module _ {R : Type 0} (wrap : R → Walked) (placing level : ℕ) (p marks : List ℕ) (b : Beside) (from : State) (next begun : ℕ) (stand : Stand p marks b from) (begun-is : begun ≡ orNone (from .sizing .begun)) where
     -- on from a later state
     abbrev Onwards : State → Walked → Outcome (Unit {0}) → Type 0
-    Onwards u x o = Stand p marks b u → begun ≡ orNone (u .sizing .begun) → Step-to placing level p marks b u next x o
+    Onwards u x o = Stand p marks b u → begun ≡ orNone (u .sizing .begun) → StepsTo placing level p marks b u next x o
 
     abbrev pub Refusing : (ℕ → List ℕ → List ℕ → R) → Type 0
     Refusing g = (n : ℕ) (a m : List ℕ) → wrap (g n a m) ≡ walked (Step.Stop n begun) p a m
 
-    steps-after : (u : State) (x : Walked) (o : Outcome (Unit {0})) → Reached (e .section) front tail marks rest spare from u → Onwards u x o → Step-to placing level p marks b from next x o
+    steps-after : (u : State) (x : Walked) (o : Outcome (Unit {0})) → Reached (e .section) front tail marks rest spare from u → Onwards u x o → StepsTo placing level p marks b from next x o
     steps-after u x o r f =
         steps-then 0 placing placing level p marks b from p marks b u next x o (framed-later level p marks b from u (r .later)) (r .later .begun) (omega arith) (r .later .placed ∙ omega arith) (omega arith)
         (f (standing-later p marks b from u stand r) (begun-is ∙ ap orNone (sym (r .later .begun))))
@@ -178,7 +175,7 @@ module _ (s t : List ℕ) (e : Env) (front tail rest : List ℕ) (we : WordEnv) 
         → Refines (e .section) front tail marks rest spare from (λ (x : ExprValue). (encX x, end)) (SoundX (e .section)) (seenExpr x) o → Refusing g
         → ((y : ExprValue) (u : State) → Reached (e .section) front tail marks rest spare from u → SoundX (e .section) (count u) y
         → Onwards u (wrap (f (encX y) end (word (e .section) front tail marks rest u) (acts (e .section) front tail marks rest u) (temps (e .section) front tail marks rest u))) (k y e u))
-        → Step-to placing level p marks b from next (wrap (onExpr x f g)) (on e o k)
+        → StepsTo placing level p marks b from next (wrap (onExpr x f g)) (on e o k)
     unfolding seenExpr onExpr on outcome
     steps-expr (resolved (Expr.Value v n st) a m) (done y u) end f g k r stops i =
         let z = r .same in
@@ -198,7 +195,7 @@ module _ (s t : List ℕ) (e : Env) (front tail rest : List ℕ) (we : WordEnv) 
         → Refines (e .section) front tail marks rest spare from (λ (v : Value). (encV v, end)) (Sound (e .section)) (seenOperand x) o → Refusing g
         → ((y : Value) (u : State) → Reached (e .section) front tail marks rest spare from u → Sound (e .section) (count u) y
         → Onwards u (wrap (f (encV y) end (word (e .section) front tail marks rest u) (acts (e .section) front tail marks rest u) (temps (e .section) front tail marks rest u))) (k y e u))
-        → Step-to placing level p marks b from next (wrap (onOperand x f g)) (on e o k)
+        → StepsTo placing level p marks b from next (wrap (onOperand x f g)) (on e o k)
     unfolding seenOperand onOperand on outcome
     steps-operand (operand (Operand.Value v n st) a m) (done y u) end f g k r stops i =
         let z = r .same in

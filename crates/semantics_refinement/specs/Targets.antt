@@ -1,22 +1,21 @@
 -- What a copy is written to: a name that means nothing yet becomes a local, anything else is resolved. And the two
 -- statements that write an expression's value, to a new local and to a target.
 use Prim.Native.Nat.{ℕ, zero, suc, _+_, _%_, _≤_, _<_}
-use mathlib.Core.Path.{_≡_, refl, sym, _∙_, ap, subst}
+use mathlib.Core.Path.{_≡_, refl, sym, _∙_, subst}
 use mathlib.Core.Logic.{_≢_}
 use mathlib.Core.Bool.{Bool, true, false}
-use mathlib.Core.List.{List, []}
+use mathlib.Core.List.{List}
 use mathlib.Core.Option.{Option, none, some}
 use native.Mathlib.Omega.{arith}
 use lib.ListN.{length, getD, drop}
 use lib.Dec.{eqb}
-use borrow.Author.Tests.{eqb-true, eqb-false, eq-eqb, ne-eqb}
+use borrow.Author.Tests.{eqb-true, eqb-false, ne-eqb}
 use Rattle.cells.specs.Le.{le16}
 use Rattle.definition.specs.Base.{orElse, andThen}
 use Rattle.definition.specs.Value.{Value, SemanticAction}
 use Rattle.definition.specs.Ast.{PcodeExpr, Statement}
 use Rattle.definition.specs.SectionFile.{parsed, exprWithin}
-use Rattle.definition.specs.Walk as walks
-use Rattle.definition.specs.Walk.{ExprValue, State, Env, Outcome, done, stopped, on}
+use Rattle.definition.specs.Walk.{ExprValue, State, Env, Outcome, done, on}
 use Rattle.definition.specs.Scope as scope
 use Rattle.definition.specs.Scope.{Meaning, means, wrong, innerMeaning, meaningOf}
 use Rattle.definition.specs.Expressions as expressions
@@ -32,13 +31,11 @@ use Rattle.section_refinement.specs.Inversion as at
 use Rattle.refinement.specs.Encoding.{encV, actionsIn, Sound}
 use Rattle.expression.specs.declared.scope.ExprValue.{ExprValue as WordExpr}
 use Rattle.expression.specs.declared.expr.Expr.{Expr}
-use Rattle.expression.specs.Answers.{resolved, onExpr, after}
+use Rattle.expression.specs.Answers.{resolved, onExpr}
 use Rattle.refinement.specs.Pushes.{marked}
 use Rattle.expression.specs.Scopes.{namedTmp}
 use Rattle.expression.specs.Expressions.{resolveExpr}
-use Rattle.semantics.specs.declared.statements.Walk.{Walk}
-use Rattle.semantics.specs.declared.statements.Step.{Step}
-use Rattle.semantics.specs.Walks.{Stepped, stepped, walked, besideP, stop}
+use Rattle.semantics.specs.Walks.{Stepped, stepped, besideP, stop}
 use Rattle.semantics.specs.Simple.{assign, localAssignment}
 use Rattle.semantics.specs.Copies.{copyInto, targetName, targetSize, afterTarget, newTarget, isWrong, isNew, resolveDst, copyTarget, copyStatement}
 use Rattle.expression_refinement.specs.Encodings.{encX, SoundX, Small, sound-more, x-more, count}

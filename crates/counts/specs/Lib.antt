@@ -1,0 +1,3 @@
+-- The words: what each function computes on the very lists that it has.
+pub mod Counts
+pub mod Theorem
