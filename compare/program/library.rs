@@ -1,6 +1,6 @@
 //! The library's C functions, called on lent lists that lie between guard words.
 
-use crate::words::Answer;
+use crate::{second::Counts, words::Answer};
 
 const GUARD: u64 = 0xA5A5_5A5A_C3C3_3C3C;
 const GUARDS: usize = 8;
@@ -93,17 +93,17 @@ pub fn resolve(file: &[u8], la: usize, lt: usize) -> Result<Answer, String> {
 
 /// The library's checker on an accepted list.
 pub fn check(answer: &Answer, subtables: u64, pointer_size: u64) -> bool {
-    let list = &answer.actions;
+    let [_, _, _, actions, temporaries, ..] = answer.result;
+    check_list(&answer.actions, Counts { actions, temporaries, subtables, pointer_size })
+}
+
+/// The library's checker on any list.
+pub fn check_list(list: &[u64], counts: Counts) -> bool {
+    let Counts { actions, temporaries, subtables, pointer_size } = counts;
     // SAFETY: the list is as long as is said.
     unsafe {
-        mizgalon_check(
-            list.as_ptr(),
-            list.len(),
-            answer.result[3],
-            answer.result[4],
-            subtables,
-            pointer_size,
-        ) != 0
+        let length = list.len();
+        mizgalon_check(list.as_ptr(), length, actions, temporaries, subtables, pointer_size) != 0
     }
 }
 

@@ -1,6 +1,8 @@
 //! The comparison program. Its subcommands are in README.md.
 
 mod bench;
+#[cfg(called)]
+mod check;
 mod coverage;
 #[cfg(called)]
 mod differ;
@@ -9,6 +11,8 @@ mod examples;
 mod generate;
 #[cfg(called)]
 mod library;
+#[cfg(called)]
+mod lists;
 mod maker;
 mod messages;
 #[cfg(mock)]
@@ -17,6 +21,8 @@ mod oracle;
 mod readings;
 mod replay;
 mod rng;
+#[cfg(called)]
+mod second;
 #[cfg(called)]
 mod shrink;
 mod words;
@@ -32,6 +38,7 @@ Call it as one of:
   selfcheck [COUNT] [SEED]       check the judge on document 01's sections and on random files
   coverage [COUNT] [SEED]        print what random files reach
   run [COUNT] [SEED]             compare the library with the original
+  check [COUNT] [SEED]           compare the library's checker with a second one
   bench [SEED]                   nanoseconds per section";
 
 type Done = Result<(), String>;
@@ -71,6 +78,7 @@ fn run(args: &[String]) -> Done {
         "selfcheck" => selfcheck(number(a, Some(2_000))?, number(b, Some(1))?),
         "coverage" => print_coverage(number(a, Some(20_000))?, number(b, Some(1))?),
         "run" => compare(number(a, Some(10_000))?, number(b, Some(1))?),
+        "check" => check(number(a, Some(100_000))?, number(b, Some(1))?),
         "bench" => {
             bench::run(number(a, Some(1))?);
             Ok(())
@@ -86,6 +94,16 @@ fn compare(count: u64, seed: u64) -> Done {
 
 #[cfg(not(called))]
 fn compare(_: u64, _: u64) -> Done {
+    Err("This program was built without the library.".into())
+}
+
+#[cfg(called)]
+fn check(count: u64, seed: u64) -> Done {
+    check::run(count, seed)
+}
+
+#[cfg(not(called))]
+fn check(_: u64, _: u64) -> Done {
     Err("This program was built without the library.".into())
 }
 

@@ -1,25 +1,57 @@
 -- From the words of a call to the definition.
 use Prim.Native.Nat.{ℕ, _*_, _^_, _<_}
-use mathlib.Core.Path.{_≡_, sym, _∙_, ap, subst}
+use mathlib.Core.Path.{_≡_, sym, _∙_, ap}
+use mathlib.Core.Bool.{Bool, true, false}
 use mathlib.Core.List.{List}
 use native.Mathlib.Omega.{arith}
 use lib.ListN.{length}
+use borrow.Author.Tests.{eq-eqb, ne-eqb}
+use Rattle.definition.specs.Base.{if_then_else_}
+use Rattle.definition.specs.SectionFile.{read}
 use Rattle.definition.specs.ActionList.{Answer, resolve}
+use Rattle.definition.specs.Checker.{check}
+use Rattle.definition.specs.Premise.{premise}
+use Rattle.guarantee.specs.Guarantee.{subtableCount, pointerSizeIn, refusalIn, actionsIn, temporariesIn, passes, accepted-files-pass}
+use Rattle.counts.specs.declared.Counts.{Counts}
+use Rattle.counts.specs.Counts.{counts}
 use Rattle.resolution.specs.declared.answer.Answer.{Answer as Numbers}
-use Rattle.resolution.specs.Answers.{Resolved, resolvedTo}
+use Rattle.resolution.specs.Answers.{resolvedTo}
 use Rattle.resolution.specs.Files.{resolveFile}
 use Rattle.resolution_refinement.specs.Answers.{asAnswer}
-use Rattle.resolution_refinement.specs.Sections.{Lengths}
-use Rattle.resolution_refinement.specs.Theorem.{resolved-is}
-use Rattle.mizgalon.specs.Answers.{numbers, answer}
+use Rattle.resolution_refinement.specs.Theorem.{answered-is}
+use Rattle.mizgalon.specs.Answers.{numbers, answer, checked}
 
 pub resolved : (file a m : List ℕ) (r : Numbers) (b u : List ℕ) → resolvedTo r b u ≡ resolveFile file a m → length a * 8 < 2 ^ 63 → length m * 8 < 2 ^ 63 → length b ≡ length a → length u ≡ length m
     → answer (numbers r) b u ≡ resolve file (length a) (length m)
 unfolding asAnswer
 resolved file a m r b u h short shorter p q =
-    ap asAnswer h ∙ resolved-is file a m (omega arith) (omega arith) (subst (Lengths (length a) (length m)) h (p, q))
+    answered-is file a m (omega arith) (omega arith) r b u h p q
 
 pub in-array : (x : List ℕ) (r : Numbers) (b u : List ℕ) (y : Answer) → x ≡ numbers r → answer (numbers r) b u ≡ y → answer x b u ≡ y
 in-array x r b u y h k = ap (λ (z : List ℕ). answer z b u) h ∙ k
 
-pub ruleset laws = (resolved, in-array)
+module _ (file : List ℕ) (la lt : ℕ) (r : Numbers) (b u : List ℕ) (h : answer (numbers r) b u ≡ resolve file la lt) where
+  refusal-is : r .refusal ≡ refusalIn (resolve file la lt)
+  refusal-is = ap refusalIn h
+
+  -- a refused section's list does not pass
+  pub not-checked : (r .refusal ≡ 0 → ⊥) → false ≡ checked file la lt
+  unfolding checked if_then_else_
+  not-checked k = rw (ne-eqb (refusalIn (resolve file la lt)) 0 (λ z. k (refusal-is ∙ z)))
+
+  pub vacuous : (r .refusal ≡ 0 → ⊥) → premise file la lt ≡ true → r .refusal ≡ 0 → false ≡ true
+  vacuous k p z = absurd (k z)
+
+  module _ (c : Counts) (counted : c ≡ counts (subtableCount (read file)) (pointerSizeIn (read file))) (x : Bool) (e : x ≡ check b (r .actions) (r .temporaries) (c .subtables) (c .pointer)) where
+    passes-is : x ≡ passes file la lt
+    passes-is = e ∙ ap (λ (k : Counts). check b (r .actions) (r .temporaries) (k .subtables) (k .pointer)) counted
+        ∙ ap (λ (a : Answer). check (a .actions) (actionsIn a) (temporariesIn a) (subtableCount (read file)) (pointerSizeIn (read file))) h
+
+    pub is-checked : r .refusal ≡ 0 → x ≡ checked file la lt
+    unfolding checked if_then_else_
+    is-checked z = rw (eq-eqb (refusalIn (resolve file la lt)) 0 (sym refusal-is ∙ z)) passes-is
+
+    pub held : r .refusal ≡ 0 → premise file la lt ≡ true → r .refusal ≡ 0 → x ≡ true
+    held z p q = passes-is ∙ accepted-files-pass file la lt (sym refusal-is ∙ z) p
+
+pub ruleset laws = (resolved, in-array, not-checked, vacuous, is-checked, held)

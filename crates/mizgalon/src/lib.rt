@@ -4,7 +4,15 @@ ghost use mathlib.Core.Path.{_≡_};
 ghost use lib.ListN.{length};
 ghost use Rattle.definition.specs.ActionList.{resolve};
 ghost use Rattle.definition.specs.Checker.{check};
-ghost use Rattle.mizgalon.specs.Answers.{numbers, answer};
+ghost use Rattle.definition.specs.Premise.{premise};
+ghost use mathlib.Core.Bool.{true};
+ghost use Rattle.mizgalon.specs.Answers.{numbers, answer, checked};
+
+// An answer, and whether its list passes the checker; a refused section's does not.
+pub struct Checked {
+    pub answer: Answer,
+    pub passes: bool,
+}
 
 // Every file and every pair of lists: an accepted section, or one refusal after which both lists are zero.
 pub fn resolve(file: &[u8], actions: &mut [u64], temporaries: &mut [u64]) -> Answer
@@ -44,6 +52,30 @@ pub extern "C" fn mizgalon_resolve(
 {
     let r = resolve(file, actions, temporaries);
     *result = numbers(r);
+}
+
+// Resolves and checks the outcome. Under the premise every accepted list passes.
+pub fn resolve_checked(file: &[u8], actions: &mut [u64], temporaries: &mut [u64]) -> Checked
+    ensures { λ r. ⌜ answer (numbers (r .answer)) (now (actions .exit)) (now (temporaries .exit)) ≡ resolve (now (file .entry)) (length (now (actions .entry))) (length (now (temporaries .entry))) ⌝ }
+    ensures { λ r. ⌜ r .passes ≡ checked (now (file .entry)) (length (now (actions .entry))) (length (now (temporaries .entry))) ⌝ }
+    ensures { λ r. ⌜ (premise (now (file .entry)) (length (now (actions .entry))) (length (now (temporaries .entry))) ≡ true → r .answer .refusal ≡ 0 → r .passes ≡ true) ⌝ }
+{
+    let answer = resolve(file, actions, temporaries);
+    if answer.refusal != 0 {
+        return Checked {
+            answer,
+            passes: false,
+        };
+    }
+    let c = counts::section_counts(file);
+    let passes = checker::check(
+        actions,
+        answer.actions,
+        answer.temporaries,
+        c.subtables,
+        c.pointer,
+    );
+    Checked { answer, passes }
 }
 
 // Whether a list is one that passes, whoever made it.

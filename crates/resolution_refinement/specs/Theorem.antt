@@ -12,10 +12,9 @@ use Rattle.definition.specs.Base.{orElse}
 use Rattle.definition.specs.Refusals.{Refusal, refusalNumber}
 use Rattle.definition.specs.Ast.{Section}
 use Rattle.definition.specs.SectionFile.{Parsed, parsed, refused, on, streamOf, section, read}
-use Rattle.definition.specs.Walk.{Env}
 use Rattle.definition.specs.ActionList as d
 use Rattle.definition.specs.ActionList.{orNone}
-use Rattle.guarantee.specs.Limits.{WithinLimits, read-within}
+use Rattle.guarantee.specs.Limits.{read-within}
 use Rattle.pcode.specs.Base.{if_then_else_}
 use Rattle.section.specs.Blocks.{refusalOf, joined}
 use Rattle.section.specs.Stream.{readStream}
@@ -27,8 +26,6 @@ use Rattle.resolution.specs.Answers as answers
 use Rattle.resolution.specs.Answers.{Resolved, resolvedTo}
 use Rattle.resolution.specs.Files as w
 use Rattle.resolution.specs.Files.{resolveStream, resolveFile}
-use Rattle.expression_refinement.specs.Below.{Spare}
-use Rattle.semantics_refinement.specs.Bodies.{EnterFollows, StatementFollows}
 use Rattle.semantics_refinement.specs.Statements.{statements-follow}
 use Rattle.resolution_refinement.specs.Answers.{asAnswer, refused-is}
 use Rattle.resolution_refinement.specs.BitRanges.{bit-ranges-fit}
@@ -36,12 +33,7 @@ use Rattle.resolution_refinement.specs.Start.{roomOf, frontOf, tailOf, l
 use Rattle.resolution_refinement.specs.Sections.{Lengths, section-is}
 use Rattle.resolution_refinement.specs.Walking.{section-walks}
 
--- Statements follow the definition, if macros do that are entered with as many levels left.
-abbrev pub StatementsFollow : Type 0
-StatementsFollow = (s t : List ℕ) (e : Env) (front tail rest : List ℕ) (spare : ℕ) → Spare spare tail → WithinLimits (e .section) → (deep : ℕ) → deep ≤ 16
-    → EnterFollows s t e front tail rest spare deep → StatementFollows s t e front tail rest spare deep
-
-module _ (statements : StatementsFollow) (file a m : List ℕ) (short : length a < 2 ^ 60) (shorter : length m < 2 ^ 60) where
+module _ (file a m : List ℕ) (short : length a < 2 ^ 60) (shorter : length m < 2 ^ 60) where
   refuses : (x : Resolved) (r : Refusal) (n : ℕ) → n ≡ refusalNumber r → asAnswer (if eqb n 0 then x else answers.refused a m n 65535 0) ≡ d.refusal (length a) (length m) r none 0
   unfolding orNone orElse if_then_else_
   refuses x r n h = rw (h, refusal-bad r) (refused-is a m (length a) (length m) r none 0 refl refl)
@@ -56,7 +48,7 @@ module _ (statements : StatementsFollow) (file a m : List ℕ) (short : length a
       let holds = stream-holds x (omega arith) sec left q in
       let within = read-within file left sec is in
       let tables = tables-named sec (section-named file left sec is) in
-      go (eqb (readStream x (replicate 3344 0) .refusal) 0) (eq-eqb _ 0 n) (λ k. section-is x (readStream x (replicate 3344 0) .table) sec holds within tables a m short shorter (λ room. section-walks x (readStream x (replicate 3344 0) .table) sec holds within tables (bit-ranges-fit file left sec is) few a m room (statements x (readStream x (replicate 3344 0) .table) (roomOf sec a m) (frontOf sec a) (tailOf sec a) m 0 (omega (arith, lent-length sec a room)) within)) k) l
+      go (eqb (readStream x (replicate 3344 0) .refusal) 0) (eq-eqb _ 0 n) (λ k. section-is x (readStream x (replicate 3344 0) .table) sec holds within tables a m short shorter (λ room. section-walks x (readStream x (replicate 3344 0) .table) sec holds within tables (bit-ranges-fit file left sec is) few a m room (statements-follow x (readStream x (replicate 3344 0) .table) (roomOf sec a m) (frontOf sec a) (tailOf sec a) m 0 (omega (arith, lent-length sec a room)) within)) k) l
     where
       t : List ℕ
       t = readStream x (replicate 3344 0) .table
@@ -74,9 +66,10 @@ module _ (statements : StatementsFollow) (file a m : List ℕ) (short : length a
       let f = file-stream file x rest e in
       subst (λ (z : List ℕ). Lengths (length a) (length m) (resolveStream z a m) → asAnswer (resolveStream z a m) ≡ d.resolveRead (length a) (length m) (section x)) (f .0) (stream-is x rest e (f .1) (section x) refl) l
 
-  pub resolved-by : Lengths (length a) (length m) (resolveFile file a m) → asAnswer (resolveFile file a m) ≡ d.resolve file (length a) (length m)
+  -- For every file and all lent lists: the twelve numbers and every word of both lists are the definition's.
+  pub resolved-is : Lengths (length a) (length m) (resolveFile file a m) → asAnswer (resolveFile file a m) ≡ d.resolve file (length a) (length m)
   unfolding resolveFile d.resolve read on
-  resolved-by l = go (streamOf file) refl l
+  resolved-is l = go (streamOf file) refl l
     where
       go : (p : Parsed (List ℕ)) → streamOf file ≡ p → Lengths (length a) (length m) (if eqb (refusalOf p) 0 then resolveStream (joined (length file / 512) file) a m else answers.refused a m (refusalOf p) 65535 0)
           → asAnswer (if eqb (refusalOf p) 0 then resolveStream (joined (length file / 512) file) a m else answers.refused a m (refusalOf p) 65535 0) ≡ d.resolveRead (length a) (length m) (on p (λ stream _. section stream))
@@ -84,9 +77,5 @@ module _ (statements : StatementsFollow) (file a m : List ℕ) (short : length a
       go (refused r) e l = unfold refusalOf d.resolveRead in refuses _ r (refusalNumber r) refl
 
   -- As a contract has it: of what a call leaves in the lists it knows that each is as long as it was.
-  pub answered-by : (r : WordAnswer) (b n : List ℕ) → resolvedTo r b n ≡ resolveFile file a m → length b ≡ length a → length n ≡ length m → asAnswer (resolvedTo r b n) ≡ d.resolve file (length a) (length m)
-  answered-by r b n h k l = ap asAnswer h ∙ resolved-by (subst (Lengths (length a) (length m)) h (k, l))
-
--- For every file and all lent lists: the twelve numbers and every word of both lists are the definition's.
-pub resolved-is : (file a m : List ℕ) → length a < 2 ^ 60 → length m < 2 ^ 60 → Lengths (length a) (length m) (resolveFile file a m) → asAnswer (resolveFile file a m) ≡ d.resolve file (length a) (length m)
-resolved-is = resolved-by statements-follow
+  pub answered-is : (r : WordAnswer) (b n : List ℕ) → resolvedTo r b n ≡ resolveFile file a m → length b ≡ length a → length n ≡ length m → asAnswer (resolvedTo r b n) ≡ d.resolve file (length a) (length m)
+  answered-is r b n h k l = ap asAnswer h ∙ resolved-is (subst (Lengths (length a) (length m)) h (k, l))

@@ -40,7 +40,7 @@ use Rattle.expression_refinement.specs.Reading.{toOf, and-applies, constant-sou
 use Rattle.semantics_refinement.specs.Views.{Beside, beside, seenStep, begunIn, stop-seen, mapSeen, read-seen, refines-as, step-stops, Goes, on-assoc}
 use Rattle.semantics_refinement.specs.Given.{Given, below}
 use Rattle.semantics_refinement.specs.Stores.{store-is}
-use Rattle.semantics_refinement.specs.Declarations.{read-to}
+use Rattle.semantics_refinement.specs.ReadInto.{read-to}
 
 left-applies : (u v : Value) → Applies Operation.IntLeft (u ∷ v ∷ [])
 unfolding kindOf at isSome operationNumber

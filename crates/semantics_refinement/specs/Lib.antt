@@ -6,7 +6,7 @@ pub mod Simple
 pub mod Builds
 pub mod Stores
 pub mod Locals
-pub mod Declarations
+pub mod ReadInto
 pub mod Copies
 pub mod Jumps
 pub mod Begin

@@ -46,7 +46,7 @@ use Rattle.expression_refinement.specs.Positions.{ident-ends, truncate-ends, be
 use Rattle.expression_refinement.specs.Expressions.{after-is, absent-word, small-or}
 use Rattle.semantics_refinement.specs.Views.{Beside, on-assoc}
 use Rattle.semantics_refinement.specs.Given.{Given, walkOf, expression}
-use Rattle.semantics_refinement.specs.Declarations.{read-to}
+use Rattle.semantics_refinement.specs.ReadInto.{read-to}
 use Rattle.semantics_refinement.specs.Copies.{copy-into}
 use Rattle.semantics_refinement.specs.Standing.{Standing, Steps}
 use Rattle.semantics_refinement.specs.Stepping.{steps-goes, steps-expr}
