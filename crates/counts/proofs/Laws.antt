@@ -6,7 +6,7 @@ use lib.ListN.{length, take, replicate}
 use borrow.Author.Tests.{eq-eqb, ne-eqb}
 use Rattle.cells.specs.Le.{le16}
 use Rattle.definition.specs.SectionFile.{streamOf, read}
-use Rattle.guarantee.specs.Guarantee.{subtableCount, pointerSizeIn}
+use Rattle.definition.specs.Passing.{subtableCount, pointerSizeIn}
 use Rattle.pcode.specs.Base.{if_then_else_}
 use Rattle.section.specs.Blocks.{refusalOf, joined}
 use Rattle.section.specs.Stream.{answer, readStream}

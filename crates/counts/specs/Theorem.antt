@@ -11,7 +11,7 @@ use Rattle.cells.specs.Le.{le16}
 use Rattle.definition.specs.Refusals.{refusalNumber}
 use Rattle.definition.specs.Ast.{Section}
 use Rattle.definition.specs.SectionFile.{Parsed, parsed, refused, on, streamOf, section, read}
-use Rattle.guarantee.specs.Guarantee.{subtableCount, pointerSizeIn}
+use Rattle.definition.specs.Passing.{subtableCount, pointerSizeIn}
 use Rattle.pcode.specs.Base.{if_then_else_}
 use Rattle.section.specs.Blocks.{refusalOf, joined}
 use Rattle.section.specs.Stream.{readStream}

@@ -5,7 +5,7 @@ ghost use mathlib.Core.Path.{_≡_};
 ghost use Prim.Native.Nat.{_*_, _/_, _≤_};
 ghost use lib.ListN.{length, take};
 ghost use Rattle.definition.specs.SectionFile.{read};
-ghost use Rattle.guarantee.specs.Guarantee.{subtableCount, pointerSizeIn};
+ghost use Rattle.definition.specs.Passing.{subtableCount, pointerSizeIn};
 ghost use Rattle.section.specs.Blocks.{joined};
 ghost use Rattle.counts.specs.Counts.{counts, tableCounts, streamCounts};
 

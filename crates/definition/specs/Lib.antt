@@ -16,4 +16,5 @@ pub mod End
 pub mod ActionList
 pub mod Checker
 pub mod Premise
+pub mod Passing
 pub mod Starred

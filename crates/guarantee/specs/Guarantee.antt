@@ -1,18 +1,19 @@
 -- THE GUARANTEE: the action list of a section that the definition accepts passes the checker, if the premise holds.
 use Prim.Native.Nat.{ℕ, _*_, _/_, _≤_}
 use mathlib.Core.Path.{_≡_, refl}
-use mathlib.Core.Bool.{Bool, true}
+use mathlib.Core.Bool.{true}
 use mathlib.Core.List.{List}
 use native.Mathlib.Omega.{arith}
-use lib.ListN.{length, getD}
+use lib.ListN.{length}
 use Rattle.definition.specs.Ast.{Section}
 use Rattle.definition.specs.SectionFile.{Parsed, parsed, refused, read}
 use Rattle.definition.specs.Sizes.{pointerSize}
 use Rattle.definition.specs.Walk.{State, Env, Outcome, done, stopped}
 use Rattle.definition.specs.End.{Semantics, finish, resolveStatements, resolveSection, atStart}
-use Rattle.definition.specs.ActionList.{filled, listWords, Answer, refusal, accepted, answered, roomFor, resolveRead, resolve}
+use Rattle.definition.specs.ActionList.{filled, listWords, refusal, accepted, answered, roomFor, resolveRead, resolve}
 use Rattle.definition.specs.Checker.{check}
 use Rattle.definition.specs.Premise.{lateIn, premiseFailures, none?, premise}
+use Rattle.definition.specs.Passing.{subtableCount, pointerSizeIn, refusalIn, actionsIn, temporariesIn, passes}
 use Rattle.guarantee.specs.Finish.{on-done}
 use Rattle.guarantee.specs.Ending.{end-passes}
 use Rattle.guarantee.specs.Limits.{read-within}
@@ -40,31 +41,6 @@ accepted-lists-pass file rest la lt sec x s r h p =
     (late-none e (q .1) (q .0) (q .2) held)
 
 -- The same of a file's answer alone.
-
--- the section's subtable count and pointer size
-unfoldable pub subtableCount : Parsed Section → ℕ
-subtableCount (parsed sec rest) = length (sec .subtables)
-subtableCount (refused r) = 0
-
-unfoldable pub pointerSizeIn : Parsed Section → ℕ
-pointerSizeIn (parsed sec rest) = pointerSize sec
-pointerSizeIn (refused r) = 0
-
--- the number of the refusal, 0 where the section is accepted; the actions; the temporaries
-abbrev pub refusalIn : Answer → ℕ
-refusalIn a = getD (a .result) 0 0
-
-abbrev pub actionsIn : Answer → ℕ
-actionsIn a = getD (a .result) 3 0
-
-abbrev pub temporariesIn : Answer → ℕ
-temporariesIn a = getD (a .result) 4 0
-
--- whether a file's action list passes the checker, with the answer's own counts and the section's
-abbrev pub passes : List ℕ → ℕ → ℕ → Bool
-passes file la lt =
-    let a : Answer = resolve file la lt in
-    check (a .actions) (actionsIn a) (temporariesIn a) (subtableCount (read file)) (pointerSizeIn (read file))
 
 answer-passes : (file rest : List ℕ) (la lt : ℕ) (sec : Section) (x : Outcome Semantics) → read file ≡ parsed sec rest
     → resolveSection (roomFor sec la lt) (atStart sec) ≡ x → refusalIn (answered la lt x) ≡ 0 → premise file la lt ≡ true

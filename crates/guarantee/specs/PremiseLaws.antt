@@ -23,7 +23,8 @@ use Rattle.guarantee.specs.Tests.{In, in-left, in-right, eq-of, differs,
 use Rattle.guarantee.specs.Growth.{tmpSize, Grown}
 use Rattle.guarantee.specs.Rules.{steps-grown}
 use Rattle.guarantee.specs.Forward.{filter-none, backward-grown}
-use Rattle.guarantee.specs.Guarantee.{subtableCount, pointerSizeIn, refusalIn, passes, accepted-files-pass}
+use Rattle.definition.specs.Passing.{subtableCount, pointerSizeIn, refusalIn, passes}
+use Rattle.guarantee.specs.Guarantee.{accepted-files-pass}
 
 -- locals A to D unsized; B = A; C = D; D = inst_next; C = B; A = r4
 unfoldable pub fiveCopies : List ℕ

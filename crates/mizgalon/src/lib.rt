@@ -6,7 +6,8 @@ ghost use Rattle.definition.specs.ActionList.{resolve};
 ghost use Rattle.definition.specs.Checker.{check};
 ghost use Rattle.definition.specs.Premise.{premise};
 ghost use mathlib.Core.Bool.{true};
-ghost use Rattle.mizgalon.specs.Answers.{numbers, answer, checked};
+ghost use Rattle.definition.specs.Passing.{checked};
+ghost use Rattle.mizgalon.specs.Answers.{numbers, answer};
 
 // An answer, and whether its list passes the checker; a refused section's does not.
 pub struct Checked {
