@@ -8,8 +8,8 @@ use Rattle.pcode.specs.Base.{if_then_else_, run, listed, thenL}
 use Rattle.pcode.specs.Values.{word}
 use Rattle.pcode.specs.End.{zeroFrom, assemble}
 use Rattle.pcode.proofs.LoopLaws.{run-end}
-use Rattle.semantics.specs.declared.statements.Walk.{Walk}
-use Rattle.semantics.specs.declared.statements.Export.{Export}
+use Rattle.semantics.specs.declared.walk.Walk.{Walk}
+use Rattle.semantics.specs.declared.walk.Export.{Export}
 use Rattle.resolution.specs.declared.answer.Words.{Words}
 use Rattle.resolution.specs.Answers.{resolvedTo, refusedAnswer, refused, pointsOf, clearMark, clearMarks, words, exportWords, accepted}
 

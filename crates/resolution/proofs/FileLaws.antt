@@ -14,10 +14,10 @@ use Rattle.pcode.specs.declared.value.Value.{Value}
 use Rattle.pcode.specs.Base.{if_then_else_}
 use Rattle.pcode.specs.Values.{absent, place}
 use Rattle.pcode.specs.Sizes.{entry}
-use Rattle.semantics.specs.declared.statements.Walk.{Walk}
-use Rattle.semantics.specs.declared.statements.Step.{Step}
+use Rattle.semantics.specs.declared.walk.Walk.{Walk}
+use Rattle.semantics.specs.declared.walk.Step.{Step}
 use Rattle.semantics.specs.Walks.{stepped, walked}
-use Rattle.semantics.specs.Statements.{resolveBody}
+use Rattle.bodies.specs.Statements.{resolveBody}
 use Rattle.resolution.specs.declared.answer.Answer.{Answer}
 use Rattle.resolution.specs.Answers.{resolvedTo, refused}
 use Rattle.resolution.specs.Ends.{finish}

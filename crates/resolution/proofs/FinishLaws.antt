@@ -12,8 +12,8 @@ use Rattle.pcode.specs.Values.{place}
 use Rattle.pcode.specs.Sizes.{sized, thenS}
 use Rattle.pcode.specs.Passes.{backwardPass, forwardPass}
 use Rattle.pcode.specs.End.{fixSize, finishActions}
-use Rattle.semantics.specs.declared.statements.Walk.{Walk}
-use Rattle.semantics.specs.declared.statements.Export.{Export}
+use Rattle.semantics.specs.declared.walk.Walk.{Walk}
+use Rattle.semantics.specs.declared.walk.Export.{Export}
 use Rattle.resolution.specs.declared.answer.Answer.{Answer}
 use Rattle.resolution.specs.Answers.{resolvedTo, refused, accepted}
 use Rattle.resolution.specs.Ends.{judged, exportFixed, judgedFixed, finishExport, finishDone, finishSized, actionsBetween, bothPasses, finishAll, finish}

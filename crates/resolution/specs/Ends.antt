@@ -11,8 +11,8 @@ use Rattle.pcode.specs.Values.{place}
 use Rattle.pcode.specs.Sizes.{Sized, thenS}
 use Rattle.pcode.specs.Passes.{backwardPass, forwardPass}
 use Rattle.pcode.specs.End.{fixSize, finishActions}
-use Rattle.semantics.specs.declared.statements.Walk.{Walk}
-use Rattle.semantics.specs.declared.statements.Export.{Export}
+use Rattle.semantics.specs.declared.walk.Walk.{Walk}
+use Rattle.semantics.specs.declared.walk.Export.{Export}
 use Rattle.resolution.specs.Answers.{Resolved, refused, accepted}
 
 -- size errors refuse the section

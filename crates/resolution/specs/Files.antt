@@ -11,10 +11,10 @@ use Rattle.pcode.specs.declared.push.Env.{Env}
 use Rattle.pcode.specs.Base.{if_then_else_}
 use Rattle.pcode.specs.Values.{absent, place}
 use Rattle.pcode.specs.Sizes.{entry}
-use Rattle.semantics.specs.declared.statements.Walk.{Walk}
-use Rattle.semantics.specs.declared.statements.Step.{Step}
+use Rattle.semantics.specs.declared.walk.Walk.{Walk}
+use Rattle.semantics.specs.declared.walk.Step.{Step}
 use Rattle.semantics.specs.Walks.{Stepped, stepped, Walked, walked}
-use Rattle.semantics.specs.Statements.{resolveBody}
+use Rattle.bodies.specs.Statements.{resolveBody}
 use Rattle.resolution.specs.Answers.{Resolved, refused}
 use Rattle.resolution.specs.Ends.{finish}
 

@@ -1,8 +1,8 @@
 // The answer, its twelve numbers, and what the two lent lists hold with it: zeros after a refusal, else the actions in their
 // final order and the temporaries without the marks of their scopes.
 use pcode::value::word;
-use semantics::statements::Export;
-use semantics::statements::Walk;
+use semantics::walk::Export;
+use semantics::walk::Walk;
 ghost use mathlib.Core.Path.{_≡_};
 ghost use Rattle.resolution.specs.Answers.{resolvedTo, refused, pointsOf, clearMark, clearMarks, exportWords, accepted};
 

@@ -8,9 +8,9 @@ use pcode::push::State;
 use pcode::sizes::Sizing;
 use pcode::value::absent;
 use pcode::value::place;
-use semantics::statements::Export;
-use semantics::statements::Step;
-use semantics::statements::Walk;
+use semantics::walk::Export;
+use semantics::walk::Step;
+use semantics::walk::Walk;
 ghost use mathlib.Core.Path.{_≡_};
 ghost use Prim.Native.Nat.{_*_, _/_, _≤_};
 ghost use lib.ListN.{length, take};
@@ -87,7 +87,7 @@ fn walk_section(
     let ordinal = cells::get_u16(t, 3338) as u64;
     let e = start_env(ptr);
     let w = at_start(subtables);
-    semantics::statements::body(16, s, t, &mut p, a, m, e, pos, n, ordinal, w)
+    bodies::statements::body(16, s, t, &mut p, a, m, e, pos, n, ordinal, w)
 }
 
 fn resolve_section(s: &[u8], t: &[u16], a: &mut [u64], m: &mut [u64]) -> Answer

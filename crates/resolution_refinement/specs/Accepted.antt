@@ -16,8 +16,8 @@ use Rattle.definition.specs.ActionList as d
 use Rattle.definition.specs.ActionList.{labelsPlaced, points, valueWords, Answer}
 use Rattle.pcode.specs.Base.{if_then_else_, thenL}
 use Rattle.pcode.specs.Values.{word}
-use Rattle.semantics.specs.declared.statements.Walk.{Walk}
-use Rattle.semantics.specs.declared.statements.Export.{Export as WordExport}
+use Rattle.semantics.specs.declared.walk.Walk.{Walk}
+use Rattle.semantics.specs.declared.walk.Export.{Export as WordExport}
 use Rattle.resolution.specs.declared.answer.Words.{Words}
 use Rattle.resolution.specs.Answers.{pointsOf, words, exportWords, accepted}
 use Rattle.refinement.specs.Encoding.{encV, packed, actionsIn, temporariesIn, SoundTmp, Each, EachOption}

@@ -31,8 +31,8 @@ use Rattle.pcode.specs.Values.{place}
 use Rattle.pcode.specs.Sizes.{thenS}
 use Rattle.pcode.specs.Passes.{backwardPass, forwardPass}
 use Rattle.pcode.specs.End.{fixSize, finishActions}
-use Rattle.semantics.specs.declared.statements.Walk.{Walk}
-use Rattle.semantics.specs.declared.statements.Export.{Export as WordExport}
+use Rattle.semantics.specs.declared.walk.Walk.{Walk}
+use Rattle.semantics.specs.declared.walk.Export.{Export as WordExport}
 use Rattle.resolution.specs.Answers.{Resolved, refused, accepted}
 use Rattle.resolution.specs.Ends.{judged, exportFixed, judgedFixed, finishExport, finishDone, finishSized, actionsBetween, bothPasses, finishAll, finish}
 use Rattle.refinement.specs.Encoding.{actionsIn, temporariesIn, firstError, encZ, encS, SoundTmp, Each, SoundAction, SizesHold}

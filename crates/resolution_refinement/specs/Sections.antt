@@ -23,7 +23,7 @@ use Rattle.pcode.specs.Base.{if_then_else_}
 use Rattle.pcode.specs.Values.{place}
 use Rattle.pcode.specs.End.{zeroFrom}
 use Rattle.semantics.specs.Walks.{Stepped, Walked}
-use Rattle.semantics.specs.Statements.{resolveBody}
+use Rattle.bodies.specs.Statements.{resolveBody}
 use Rattle.section_refinement.specs.Holds.{Holds}
 use Rattle.refinement.specs.Encoding.{temporaryWords}
 use Rattle.refinement.specs.FromSection.{TablesNamed, sizes-hold}

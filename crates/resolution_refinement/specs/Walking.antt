@@ -12,7 +12,7 @@ use Rattle.definition.specs.End.{atStart}
 use Rattle.definition.specs.ActionList.{labelsPlaced}
 use Rattle.guarantee.specs.Limits.{WithinLimits}
 use Rattle.guarantee.specs.Outcomes.{start-kept}
-use Rattle.semantics.specs.Statements.{resolveBody}
+use Rattle.bodies.specs.Statements.{resolveBody}
 use Rattle.section_refinement.specs.Holds.{Holds, bodies}
 use Rattle.refinement.specs.FromSection.{TablesNamed}
 use Rattle.resolution.specs.Files as w

@@ -23,8 +23,8 @@ use Rattle.expression.specs.Scopes.{resolveIdent}
 use Rattle.expression.specs.Reading.{constant, readOperand}
 use Rattle.expression.specs.Answers.{operand, onOperand, after}
 use Rattle.expression.specs.Expressions.{exprValue, resolveExpr}
-use Rattle.semantics.specs.declared.statements.Walk.{Walk}
-use Rattle.semantics.specs.declared.statements.Step.{Step}
+use Rattle.semantics.specs.declared.walk.Walk.{Walk}
+use Rattle.semantics.specs.declared.walk.Step.{Step}
 use Rattle.semantics.specs.declared.labels.Label.{Label}
 use Rattle.semantics.specs.Walks.{stepped, walked, stepPushed, besideP, stop, pushedThen}
 use Rattle.semantics.specs.Labels.{getOrInsertLabel, onLabel, resolveLabel, labelled}

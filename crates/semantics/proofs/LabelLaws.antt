@@ -11,8 +11,8 @@ use Rattle.pcode.specs.declared.push.Read.{Read}
 use Rattle.pcode.specs.declared.push.Pushed.{Pushed}
 use Rattle.pcode.specs.Base.{if_then_else_, listed}
 use Rattle.expression.proofs.scope.ExprValue as exprValue
-use Rattle.semantics.specs.declared.statements.Walk.{Walk}
-use Rattle.semantics.specs.declared.statements.Step.{Step}
+use Rattle.semantics.specs.declared.walk.Walk.{Walk}
+use Rattle.semantics.specs.declared.walk.Step.{Step}
 use Rattle.semantics.specs.declared.labels.Label.{Label}
 use Rattle.semantics.specs.Walks.{withState, stop, pushedThen, readThen}
 use Rattle.semantics.specs.Labels.{findLabel, labelKey, labelOr, getOrInsertLabel, onLabel, placeLabel, resolveLabel, labelsAfter, labelled}

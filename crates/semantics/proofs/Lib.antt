@@ -3,4 +3,3 @@ mod BranchLaws
 mod SimpleLaws
 mod CopyLaws
 mod CallLaws
-mod StatementLaws

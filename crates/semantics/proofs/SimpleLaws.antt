@@ -27,8 +27,8 @@ use Rattle.expression.specs.Reading.{setStated, takeStated, readValue, readOper
 use Rattle.expression.specs.Answers.{resolved, onExpr, operand, onOperand, after}
 use Rattle.expression.specs.Addresses.{resolveAddress}
 use Rattle.expression.specs.Expressions.{exprValue, skipExpr, resolveExpr}
-use Rattle.semantics.specs.declared.statements.Walk.{Walk}
-use Rattle.semantics.specs.declared.statements.Step.{Step}
+use Rattle.semantics.specs.declared.walk.Walk.{Walk}
+use Rattle.semantics.specs.declared.walk.Step.{Step}
 use Rattle.semantics.specs.Walks.{stepped, stepPushed, stepRead, stop, pushedThen, readThen}
 use Rattle.semantics.specs.Simple.{unimplemented, exported, exportValue, exportRead, exportOf, exportStatement, localStatement, assign, localAssignment, findSubtable, buildSubtable, buildTable, buildSymbol, build}
 use Rattle.semantics.specs.Stores.{storeStated, store, registerStated, storeRegister, storeAt, storeIn, storePointer, storeStatement}

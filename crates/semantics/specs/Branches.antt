@@ -16,7 +16,7 @@ use Rattle.expression.specs.Scopes.{resolveIdent}
 use Rattle.expression.specs.Reading.{constant, readOperand}
 use Rattle.expression.specs.Answers.{onOperand, after}
 use Rattle.expression.specs.Expressions.{exprValue, resolveExpr}
-use Rattle.semantics.specs.declared.statements.Walk.{Walk}
+use Rattle.semantics.specs.declared.walk.Walk.{Walk}
 use Rattle.semantics.specs.Walks.{Stepped, stepped, Walked, walked, stepPushed, besideP, stop, pushedThen}
 use Rattle.semantics.specs.Labels.{getOrInsertLabel, onLabel, resolveLabel, labelled}
 

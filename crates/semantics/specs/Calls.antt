@@ -18,8 +18,8 @@ use Rattle.expression.specs.Reading.{readOperand}
 use Rattle.expression.specs.Answers.{ArgsOut, passed, onArgs, after}
 use Rattle.expression.specs.Calls.{onlyInteger}
 use Rattle.expression.specs.Expressions.{resolveArgs, resolveExpr}
-use Rattle.semantics.specs.declared.statements.Walk.{Walk}
-use Rattle.semantics.specs.declared.statements.Step.{Step}
+use Rattle.semantics.specs.declared.walk.Walk.{Walk}
+use Rattle.semantics.specs.declared.walk.Step.{Step}
 use Rattle.semantics.specs.declared.calls.Called.{Called}
 use Rattle.semantics.specs.Walks.{Stepped, stepped, stop, pushedThen}
 

@@ -21,7 +21,7 @@ use Rattle.expression.specs.Scopes.{resolveIdent, namedTmp}
 use Rattle.expression.specs.Reading.{constant, byteAligned, sliced, readValue, readOperand}
 use Rattle.expression.specs.Answers.{ExprOut, resolved, onExpr, after}
 use Rattle.expression.specs.Expressions.{resolveExpr}
-use Rattle.semantics.specs.declared.statements.Walk.{Walk}
+use Rattle.semantics.specs.declared.walk.Walk.{Walk}
 use Rattle.semantics.specs.Walks.{Stepped, stepped, stepRead, stop, readThen}
 use Rattle.semantics.specs.Stores.{store}
 

@@ -5,7 +5,7 @@ use lib.ListN.{getD, set}
 use lib.Dec.{eqb, ltb, leb}
 use Rattle.pcode.specs.declared.push.State.{State}
 use Rattle.pcode.specs.Base.{if_then_else_, Listed, listed}
-use Rattle.semantics.specs.declared.statements.Walk.{Walk}
+use Rattle.semantics.specs.declared.walk.Walk.{Walk}
 use Rattle.semantics.specs.declared.labels.Label.{Label}
 
 -- the first of k labels from i on with that name and scope, or the one behind them

@@ -6,4 +6,3 @@ pub mod Simple
 pub mod Stores
 pub mod Copies
 pub mod Calls
-pub mod Statements

@@ -17,8 +17,8 @@ use Rattle.expression.specs.Scopes.{global, namedTmp}
 use Rattle.expression.specs.Reading.{readValue, readOperand}
 use Rattle.expression.specs.Answers.{onExpr, after}
 use Rattle.expression.specs.Expressions.{resolveExpr}
-use Rattle.semantics.specs.declared.statements.Walk.{Walk}
-use Rattle.semantics.specs.declared.statements.Step.{Step}
+use Rattle.semantics.specs.declared.walk.Walk.{Walk}
+use Rattle.semantics.specs.declared.walk.Step.{Step}
 use Rattle.semantics.specs.Walks.{Stepped, stepped, stepPushed, stepRead, stop, pushedThen, readThen}
 
 unfoldable pub unimplemented : List ℕ → List ℕ → List ℕ → List ℕ → Env → ℕ → Walk → Stepped

@@ -14,7 +14,7 @@ use Rattle.expression.specs.Reading.{setStated, takeStated}
 use Rattle.expression.specs.Answers.{onExpr, onOperand, after}
 use Rattle.expression.specs.Addresses.{resolveAddress}
 use Rattle.expression.specs.Expressions.{exprValue, skipExpr, resolveExpr}
-use Rattle.semantics.specs.declared.statements.Walk.{Walk}
+use Rattle.semantics.specs.declared.walk.Walk.{Walk}
 use Rattle.semantics.specs.Walks.{Stepped, stepped, stepPushed, stop, pushedThen}
 
 unfoldable pub storeStated : List ℕ → List ℕ → List ℕ → Env → Value → ℕ → Walk → Listed Stated → Stepped

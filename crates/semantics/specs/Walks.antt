@@ -6,8 +6,8 @@ use Rattle.pcode.specs.declared.push.State.{State}
 use Rattle.pcode.specs.declared.push.Read.{Read}
 use Rattle.pcode.specs.declared.push.Pushed.{Pushed}
 use Rattle.pcode.specs.Pushes.{ReadOut, read, PushedOut, pushed}
-use Rattle.semantics.specs.declared.statements.Walk.{Walk}
-use Rattle.semantics.specs.declared.statements.Step.{Step}
+use Rattle.semantics.specs.declared.walk.Walk.{Walk}
+use Rattle.semantics.specs.declared.walk.Step.{Step}
 
 -- an answer, the actions and the temporaries
 pub data Stepped : Type 0 where

@@ -1,6 +1,6 @@
 // Calls that enter no macro: the delay slot and user ops; and what a macro call is given.
-use crate::statements::Step;
-use crate::statements::Walk;
+use crate::walk::Step;
+use crate::walk::Walk;
 use crate::walk::pushed_then;
 use crate::walk::stop;
 use expression::args::Args;

@@ -1,7 +1,7 @@
 // Copies: the target is a local, a place in RAM or a range of bits, which keeps the bits around it.
-use crate::statements::Step;
-use crate::statements::Walk;
 use crate::stores::store;
+use crate::walk::Step;
+use crate::walk::Walk;
 use crate::walk::read_then;
 use crate::walk::stop;
 use expression::expr::Expr;

@@ -1,5 +1,5 @@
 // Labels. The words of the scopes keep one for each label from 1,088 on: its name, its scope, whether it is placed.
-use crate::statements::Walk;
+use crate::walk::Walk;
 use pcode::push::State;
 use pcode::value::get;
 use pcode::value::put;

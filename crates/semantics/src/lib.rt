@@ -1,9 +1,8 @@
-// The walk over the statements: labels and branches, statements and macros.
-mod branches;
-mod calls;
-mod copies;
+// The kinds of statements: labels and branches, stores and copies, calls, and the state of the walk over them.
+pub mod branches;
+pub mod calls;
+pub mod copies;
 mod labels;
-mod simple;
-pub mod statements;
-mod stores;
-mod walk;
+pub mod simple;
+pub mod stores;
+pub mod walk;

@@ -1,7 +1,7 @@
 // Statements of one step: unimplemented, the export, locals, and builds.
-use crate::statements::Export;
-use crate::statements::Step;
-use crate::statements::Walk;
+use crate::walk::Export;
+use crate::walk::Step;
+use crate::walk::Walk;
 use crate::walk::pushed_then;
 use crate::walk::read_then;
 use crate::walk::stop;

@@ -1,6 +1,6 @@
 // Stores: the value is read before the pointer.
-use crate::statements::Step;
-use crate::statements::Walk;
+use crate::walk::Step;
+use crate::walk::Walk;
 use crate::walk::pushed_then;
 use crate::walk::stop;
 use expression::address::resolve_address;

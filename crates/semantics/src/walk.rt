@@ -1,11 +1,32 @@
-// How the answer of a push or a read goes on with the walk.
-use crate::statements::Step;
-use crate::statements::Walk;
+// The state of the walk, and how the answer of a push or a read goes on with it.
 use pcode::push::Pushed;
 use pcode::push::Read;
 use pcode::push::State;
+use pcode::value::Value;
 ghost use mathlib.Core.Path.{_≡_};
 ghost use Rattle.semantics.specs.Walks.{withState, stop, pushedThen, readThen};
+
+// The export: 0 none, 1 value, 2 RAM, 3 register; its value; its access size.
+pub struct Export {
+    pub kind: u64,
+    pub v: Value,
+    pub size: u64,
+}
+
+// The walk's state above that of expressions: labels given, labels placed, statements begun, macro calls entered.
+pub struct Walk {
+    pub st: State,
+    pub labels: u64,
+    pub placed: u64,
+    pub statements: u64,
+    pub scopes: u64,
+    pub export: Export,
+}
+
+pub enum Step {
+    Next { next: usize, w: Walk },
+    Stop { refusal: u64, ordinal: u64 },
+}
 
 pub fn with_state(w: Walk, st: State) -> Walk
     ensures { λ r. ⌜ r ≡ withState st w ⌝ }

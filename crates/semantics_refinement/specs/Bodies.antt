@@ -29,11 +29,11 @@ use Rattle.section_refinement.specs.Holds.{Holds}
 use Rattle.section_refinement.specs.Inversion.{statement-at, MacroParts}
 use Rattle.refinement.specs.Encoding.{Each}
 use Rattle.expression.specs.Answers.{after}
-use Rattle.semantics.specs.declared.statements.Walk.{Walk}
-use Rattle.semantics.specs.declared.statements.Step.{Step}
+use Rattle.semantics.specs.declared.walk.Walk.{Walk}
+use Rattle.semantics.specs.declared.walk.Step.{Step}
 use Rattle.semantics.specs.Walks.{Walked, onStep}
 use Rattle.semantics.specs.Calls.{bindParams}
-use Rattle.semantics.specs.Statements.{statementBy, statementBegun, resolveStatement, resolveAll, macroEnv, paramsAt, bodyAt, entered, returned, returnedTo, macroBody, enterMacro, resolveBody}
+use Rattle.bodies.specs.Statements.{statementBy, statementBegun, resolveStatement, resolveAll, macroEnv, paramsAt, bodyAt, entered, returned, returnedTo, macroBody, enterMacro, resolveBody}
 use Rattle.expression_refinement.specs.Encodings.{SoundX, count}
 use Rattle.expression_refinement.specs.Answers.{acts, temps, word}
 use Rattle.expression_refinement.specs.Expressions.{after-is}

@@ -35,7 +35,7 @@ use Rattle.refinement.specs.Lists.{firstOf, secondOf, outputOf}
 use Rattle.refinement.specs.RuleKinds.{kindOf}
 use Rattle.refinement.specs.Seen.{seenPushed, outcome}
 use Rattle.refinement.specs.Pushes.{Stands, push-op-is, push-op-done}
-use Rattle.semantics.specs.declared.statements.Walk.{Walk}
+use Rattle.semantics.specs.declared.walk.Walk.{Walk}
 use Rattle.semantics.specs.Walks.{stepPushed, Walked, walked, besideP, stop, pushedThen}
 use Rattle.semantics.specs.Labels.{getOrInsertLabel, onLabel, resolveLabel, labelsAfter}
 use Rattle.semantics.specs.Branches.{pushLabel, labelStatement, branchLabel, labelBranch, jumpValue, afterJump, jumpTo, jumpMeant, jump, resolveBranch, branch, condBranch}

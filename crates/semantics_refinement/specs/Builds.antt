@@ -25,8 +25,8 @@ use Rattle.pcode.specs.Sizes.{entry}
 use Rattle.section_refinement.specs.Holds.{subtableAt, symbolWord}
 use Rattle.refinement.specs.Lists.{firstOf, secondOf, outputOf}
 use Rattle.expression.specs.Answers.{after}
-use Rattle.semantics.specs.declared.statements.Walk.{Walk}
-use Rattle.semantics.specs.declared.statements.Step.{Step}
+use Rattle.semantics.specs.declared.walk.Walk.{Walk}
+use Rattle.semantics.specs.declared.walk.Step.{Step}
 use Rattle.semantics.specs.Walks.{stepped, stop}
 use Rattle.semantics.specs.Simple.{findSubtable, buildSubtable, buildTable, buildSymbol, build}
 use Rattle.expression_refinement.specs.Encodings.{Stood, stood-more}

@@ -31,11 +31,11 @@ use Rattle.refinement.specs.Seen.{seenPush}
 use Rattle.refinement.specs.Lists.{firstOf, secondOf, outputOf}
 use Rattle.expression.specs.Answers.{after}
 use Rattle.expression.specs.Calls.{onlyInteger}
-use Rattle.semantics.specs.declared.statements.Walk.{Walk}
-use Rattle.semantics.specs.declared.statements.Step.{Step}
+use Rattle.semantics.specs.declared.walk.Walk.{Walk}
+use Rattle.semantics.specs.declared.walk.Step.{Step}
 use Rattle.semantics.specs.Walks.{Stepped, stepped, besideP, stop, pushedThen}
 use Rattle.semantics.specs.Calls.{called, symbolOf, calledOf, delaySlot, userOpStatement, otherCall}
-use Rattle.semantics.specs.Statements.{Enter, callNamed, callStatement}
+use Rattle.bodies.specs.Statements.{Enter, callNamed, callStatement}
 use Rattle.expression_refinement.specs.Encodings.{stood-more}
 use Rattle.expression_refinement.specs.Answers.{acts, temps, word, Refines}
 use Rattle.expression_refinement.specs.Below.{Spare}

@@ -17,7 +17,7 @@ use Rattle.section_refinement.specs.Holds.{Holds}
 use Rattle.refinement.specs.Encoding.{encV, Sound, SizesHold}
 use Rattle.refinement.specs.Pushes.{Lent}
 use Rattle.expression.specs.Expressions.{exprValue, resolveExpr}
-use Rattle.semantics.specs.declared.statements.Walk.{Walk}
+use Rattle.semantics.specs.declared.walk.Walk.{Walk}
 use Rattle.expression_refinement.specs.Encodings.{encX, SoundX, Stood}
 use Rattle.expression_refinement.specs.Answers.{acts, temps, word, seenExpr, seenOperand, Refines}
 use Rattle.expression_refinement.specs.Below.{Spare, Below}

@@ -25,7 +25,7 @@ use Rattle.refinement.specs.Encoding.{encV, Within, Sound}
 use Rattle.refinement.specs.Lists.{firstOf, secondOf}
 use Rattle.refinement.specs.RuleKinds.{kindOf}
 use Rattle.expression.specs.Answers.{after}
-use Rattle.semantics.specs.declared.statements.Walk.{Walk}
+use Rattle.semantics.specs.declared.walk.Walk.{Walk}
 use Rattle.semantics.specs.Walks.{Stepped, stepped, stop}
 use Rattle.semantics.specs.Branches.{branchTo, directAddress, direct, indirect}
 use Rattle.expression_refinement.specs.Encodings.{encX, SoundX, sound-more, count, Stood, stood-more}

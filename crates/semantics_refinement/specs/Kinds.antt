@@ -15,7 +15,7 @@ use Rattle.definition.specs.Statements as d
 use Rattle.pcode.specs.declared.push.Env.{Env as WordEnv}
 use Rattle.pcode.specs.Base.{if_then_else_}
 use Rattle.section_refinement.specs.Inversion.{statement-begun}
-use Rattle.semantics.specs.Statements.{otherStatement}
+use Rattle.bodies.specs.Statements.{otherStatement}
 use Rattle.expression_refinement.specs.Answers.{acts, temps, word}
 use Rattle.expression_refinement.specs.Below.{Spare}
 use Rattle.semantics_refinement.specs.Views.{Beside}

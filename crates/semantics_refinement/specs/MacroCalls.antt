@@ -33,11 +33,11 @@ use Rattle.refinement.specs.Seen.{outcome}
 use Rattle.expression.specs.declared.args.Args.{Args as WordArgs}
 use Rattle.expression.specs.Answers.{ArgsOut, passed, onArgs}
 use Rattle.expression.specs.Expressions.{resolveArgs, resolveExpr}
-use Rattle.semantics.specs.declared.statements.Walk.{Walk}
+use Rattle.semantics.specs.declared.walk.Walk.{Walk}
 use Rattle.semantics.specs.declared.calls.Called.{Called}
 use Rattle.semantics.specs.Walks.{Walked, walked, stop}
 use Rattle.semantics.specs.Calls.{called, symbolOf, calledOf, macroAt, counted, macroCounted, macroArgs}
-use Rattle.semantics.specs.Statements.{enterMacro, macroStatement, callNamed, callStatement}
+use Rattle.bodies.specs.Statements.{enterMacro, macroStatement, callNamed, callStatement}
 use Rattle.expression_refinement.specs.Encodings.{SoundX, count}
 use Rattle.expression_refinement.specs.Answers.{acts, temps, word, seenArgs, Reached, Refines}
 use Rattle.expression_refinement.specs.Below.{Spare}

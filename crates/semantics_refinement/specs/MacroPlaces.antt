@@ -13,7 +13,7 @@ use Rattle.definition.specs.Statements as d
 use Rattle.section_refinement.specs.Holds.{Holds, bodies}
 use Rattle.section_refinement.specs.Inversion.{statement-at, MacroParts, macro-at}
 use Rattle.semantics.specs.Calls.{macroAt}
-use Rattle.semantics.specs.Statements.{firstOrdinal}
+use Rattle.bodies.specs.Statements.{firstOrdinal}
 
 -- a macro's first ordinal is the number of statements in front of its body
 ordinal-is : (xs : List Macro) → d.ordinalAfter xs ≡ bodies xs

@@ -21,7 +21,7 @@ use Rattle.refinement.specs.Encoding.{Each}
 use Rattle.expression.specs.Scopes.{isLocal}
 use Rattle.expression.specs.Slots.{ofSlot, slotAt, paramPlace, argAt}
 use Rattle.semantics.specs.Calls.{bindParam, bindArg}
-use Rattle.semantics.specs.Statements.{macroEnv}
+use Rattle.bodies.specs.Statements.{macroEnv}
 use Rattle.expression_refinement.specs.Encodings.{SoundX, nameAt, tmps, count, params-more, mapping-more}
 use Rattle.expression_refinement.specs.Answers.{temps}
 use Rattle.expression_refinement.specs.Scopes.{encF, ParamsIn}

@@ -29,7 +29,7 @@ use Rattle.refinement.specs.RuleKinds.{kindOf}
 use Rattle.refinement.specs.Seen.{seenRead}
 use Rattle.expression.specs.Answers.{after}
 use Rattle.expression.specs.Reading.{readOperand}
-use Rattle.semantics.specs.declared.statements.Walk.{Walk}
+use Rattle.semantics.specs.declared.walk.Walk.{Walk}
 use Rattle.semantics.specs.Walks.{Stepped, stepRead}
 use Rattle.semantics.specs.Simple.{unimplemented, exportValue, exportRead, exportOf, exportStatement}
 use Rattle.expression_refinement.specs.Encodings.{encX, SoundX, count, Stood, stood-more}

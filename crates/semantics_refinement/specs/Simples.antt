@@ -28,7 +28,7 @@ use Rattle.semantics.specs.Walks.{Stepped, stepped, besideP, readThen}
 use Rattle.semantics.specs.Simple.{unimplemented, exportStatement, localStatement, localAssignment, build}
 use Rattle.semantics.specs.Stores.{storeStatement}
 use Rattle.semantics.specs.Copies.{copyStatement}
-use Rattle.semantics.specs.Statements.{simple}
+use Rattle.bodies.specs.Statements.{simple}
 use Rattle.expression_refinement.specs.Encodings.{count}
 use Rattle.expression_refinement.specs.Answers.{acts, temps, word, Refines}
 use Rattle.expression_refinement.specs.Below.{Spare}

@@ -12,7 +12,7 @@ use Rattle.definition.specs.ActionList.{orNone, labelsPlaced}
 use Rattle.guarantee.specs.Kept.{Kept}
 use Rattle.pcode.specs.declared.push.Env.{Env as WordEnv}
 use Rattle.refinement.specs.Encoding.{EachOption}
-use Rattle.semantics.specs.declared.statements.Step.{Step}
+use Rattle.semantics.specs.declared.walk.Step.{Step}
 use Rattle.semantics.specs.Walks.{Walked, walked}
 use Rattle.expression_refinement.specs.Encodings.{nameAt, tmps, count, Stood}
 use Rattle.expression_refinement.specs.Answers.{acts, temps, word}

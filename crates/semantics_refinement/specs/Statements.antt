@@ -21,7 +21,7 @@ use Rattle.pcode.specs.declared.push.Env.{Env as WordEnv}
 use Rattle.pcode.specs.Base.{if_then_else_}
 use Rattle.semantics.specs.Walks.{Walked}
 use Rattle.semantics.specs.Calls.{calledOf}
-use Rattle.semantics.specs.Statements.{otherStatement, callStatement, statementBy, enterMacro}
+use Rattle.bodies.specs.Statements.{otherStatement, callStatement, statementBy, enterMacro}
 use Rattle.expression_refinement.specs.Encodings.{Stood}
 use Rattle.expression_refinement.specs.Answers.{acts, temps, word}
 use Rattle.expression_refinement.specs.Below.{Spare}

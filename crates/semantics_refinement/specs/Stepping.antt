@@ -29,7 +29,7 @@ use Rattle.expression.specs.declared.scope.ExprValue.{ExprValue as WordExpr}
 use Rattle.expression.specs.declared.expr.Expr.{Expr}
 use Rattle.expression.specs.declared.expr.Operand.{Operand}
 use Rattle.expression.specs.Answers.{ExprOut, resolved, onExpr, OperandOut, operand, onOperand}
-use Rattle.semantics.specs.declared.statements.Step.{Step}
+use Rattle.semantics.specs.declared.walk.Step.{Step}
 use Rattle.semantics.specs.Walks.{Stepped, stepped, Walked, walked, besideP}
 use Rattle.expression_refinement.specs.Encodings.{encX, SoundX, nameAt, tmps, count, Later, sound-more}
 use Rattle.expression_refinement.specs.Answers.{acts, temps, word, seenExpr, seenOperand, Halts, Reached, Refines}

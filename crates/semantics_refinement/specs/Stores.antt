@@ -40,7 +40,7 @@ use Rattle.expression.specs.declared.read.Stated.{Stated}
 use Rattle.expression.specs.Reading.{stated, setSize, setStated, takeStated}
 use Rattle.expression.specs.Addresses.{resolveAddress}
 use Rattle.expression.specs.Expressions.{skipExpr}
-use Rattle.semantics.specs.declared.statements.Walk.{Walk}
+use Rattle.semantics.specs.declared.walk.Walk.{Walk}
 use Rattle.semantics.specs.Walks.{Stepped, stepped, stepPushed, stop, pushedThen}
 use Rattle.semantics.specs.Stores.{storeStated, store, registerStated, storeRegister, storeAt, storeIn, storePointer, storeStatement}
 use Rattle.expression_refinement.specs.Encodings.{encX, Small, SoundX, sound-more, tmps, count, Stood, stood-more}

@@ -36,7 +36,7 @@ use Rattle.refinement.specs.Lists.{list-length, list-focus, focus-at, fill, fil
 use Rattle.refinement.specs.Seen.{Seen, no, yes, seenPush}
 use Rattle.expression.specs.Slots.{slotAt, paramPlace, argAt, putArg}
 use Rattle.expression.specs.Expressions.{resolveArgs, resolveExpr}
-use Rattle.semantics.specs.declared.statements.Walk.{Walk}
+use Rattle.semantics.specs.declared.walk.Walk.{Walk}
 use Rattle.semantics.specs.Walks.{Stepped, besideP, pushedThen}
 use Rattle.semantics.specs.Calls.{writeInput, writeInputs, ArgsRead, argsRead, readArgs, pushUserOp, userOpRead, userOpArgs, stepArgs, userOpStatement}
 use Rattle.expression_refinement.specs.Encodings.{encX, SoundX, opAction, sound-more, x-more, each-more, each-last, placed-last, count, Stood}

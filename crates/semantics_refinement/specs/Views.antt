@@ -18,9 +18,9 @@ use Rattle.pcode.specs.Base.{if_then_else_, Listed, listed, thenL}
 use Rattle.pcode.specs.Pushes.{ReadOut, read, PushedOut, pushed}
 use Rattle.refinement.specs.Encoding.{encV}
 use Rattle.refinement.specs.Seen.{Seen, no, yes, seenRead, seenPushed, seenPush, outcome}
-use Rattle.semantics.specs.declared.statements.Walk.{Walk}
-use Rattle.semantics.specs.declared.statements.Step.{Step}
-use Rattle.semantics.specs.declared.statements.Export.{Export as WordExport}
+use Rattle.semantics.specs.declared.walk.Walk.{Walk}
+use Rattle.semantics.specs.declared.walk.Step.{Step}
+use Rattle.semantics.specs.declared.walk.Export.{Export as WordExport}
 use Rattle.semantics.specs.Walks.{Stepped, stepped, stepPushed, stepRead, stop, pushedThen, readThen}
 use Rattle.expression_refinement.specs.Answers.{Refines, refines-map, refines-stopped}
 

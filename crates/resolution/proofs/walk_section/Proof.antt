@@ -7,7 +7,7 @@ use Rattle.cells.proofs.get_u16.Reads as get-u16-reads
 use Rattle.cells.proofs.u16_at.Reads as u16-at-reads
 use Rattle.resolution.proofs.at_start.Reads as at-start-reads
 use Rattle.resolution.proofs.start_env.Reads as start-env-reads
-use Rattle.semantics.proofs.statements.body.Reads as body-reads
+use Rattle.bodies.proofs.statements.body.Reads as body-reads
 use Rattle.resolution.proofs.FileLaws.{file-laws}
 
 -- src/lib.rt:78:15

@@ -1,11 +1,11 @@
 use borrow.Author.Needs.{needs}
-use Rattle.semantics.proofs.statements.begin.Statement.{statement}
-use Rattle.semantics.proofs.statements.begin.Tie as tie
-use Rattle.semantics.proofs.statements.begin.Reads as reads
-use Rattle.semantics.proofs.statements.begin.Lts as lts
-use Rattle.semantics.proofs.statements.begun.Reads as begun-reads
-use Rattle.semantics.proofs.StatementLaws.{code-laws}
-use Rattle.semantics.proofs.StatementLaws.{begin-laws}
+use Rattle.bodies.proofs.statements.begin.Statement.{statement}
+use Rattle.bodies.proofs.statements.begin.Tie as tie
+use Rattle.bodies.proofs.statements.begin.Reads as reads
+use Rattle.bodies.proofs.statements.begin.Lts as lts
+use Rattle.bodies.proofs.statements.begun.Reads as begun-reads
+use Rattle.bodies.proofs.StatementLaws.{code-laws}
+use Rattle.bodies.proofs.StatementLaws.{begin-laws}
 
 -- src/statements.rt:106:9
 returns : tie.Need-returns

@@ -1,10 +1,10 @@
 use borrow.Author.Needs.{needs}
-use Rattle.semantics.proofs.statements.returned.Statement.{statement}
-use Rattle.semantics.proofs.statements.returned.Tie as tie
-use Rattle.semantics.proofs.statements.returned.Reads as reads
-use Rattle.semantics.proofs.statements.returned.Lts as lts
-use Rattle.semantics.proofs.StatementLaws.{code-laws}
-use Rattle.semantics.proofs.StatementLaws.{begin-laws}
+use Rattle.bodies.proofs.statements.returned.Statement.{statement}
+use Rattle.bodies.proofs.statements.returned.Tie as tie
+use Rattle.bodies.proofs.statements.returned.Reads as reads
+use Rattle.bodies.proofs.statements.returned.Lts as lts
+use Rattle.bodies.proofs.StatementLaws.{code-laws}
+use Rattle.bodies.proofs.StatementLaws.{begin-laws}
 
 -- src/statements.rt:142:22
 enum-known-r : tie.Need-enum-known-r

@@ -1,52 +1,31 @@
 // Statements and macro bodies, which resolve each other: a macro call one level deeper.
-use crate::branches::branch;
-use crate::branches::cond_branch;
-use crate::branches::label_statement;
-use crate::calls::bind_params;
-use crate::calls::called_of;
-use crate::calls::macro_args;
-use crate::calls::macro_at;
-use crate::calls::other_call;
-use crate::copies::copy_statement;
-use crate::simple::build;
-use crate::simple::export_statement;
-use crate::simple::local_assignment;
-use crate::simple::local_statement;
-use crate::simple::unimplemented;
-use crate::stores::store_statement;
-use crate::walk::stop;
 use expression::args::Args;
 use expression::expr::after;
 use expression::scope::u16_in;
 use pcode::push::Env;
 use pcode::push::State;
 use pcode::sizes::Sizing;
-use pcode::value::Value;
+use semantics::branches::branch;
+use semantics::branches::cond_branch;
+use semantics::branches::label_statement;
+use semantics::calls::bind_params;
+use semantics::calls::called_of;
+use semantics::calls::macro_args;
+use semantics::calls::macro_at;
+use semantics::calls::other_call;
+use semantics::copies::copy_statement;
+use semantics::simple::build;
+use semantics::simple::export_statement;
+use semantics::simple::local_assignment;
+use semantics::simple::local_statement;
+use semantics::simple::unimplemented;
+use semantics::stores::store_statement;
+use semantics::walk::Step;
+use semantics::walk::Walk;
+use semantics::walk::stop;
 ghost use mathlib.Core.Path.{_≡_};
 ghost use Rattle.semantics.specs.Walks.{stepped, walked};
-ghost use Rattle.semantics.specs.Statements.{simple, otherStatement, begun, begin, entered, returned, paramsAt, macroEnv, bodyAt, firstOrdinal, callStatement, macroStatement, enterMacro, resolveStatement, resolveBody};
-
-// The export: 0 none, 1 value, 2 RAM, 3 register; its value; its access size.
-pub struct Export {
-    pub kind: u64,
-    pub v: Value,
-    pub size: u64,
-}
-
-// The walk's state above that of expressions: labels given, labels placed, statements begun, macro calls entered.
-pub struct Walk {
-    pub st: State,
-    pub labels: u64,
-    pub placed: u64,
-    pub statements: u64,
-    pub scopes: u64,
-    pub export: Export,
-}
-
-pub enum Step {
-    Next { next: usize, w: Walk },
-    Stop { refusal: u64, ordinal: u64 },
-}
+ghost use Rattle.bodies.specs.Statements.{simple, otherStatement, begun, begin, entered, returned, paramsAt, macroEnv, bodyAt, firstOrdinal, callStatement, macroStatement, enterMacro, resolveStatement, resolveBody};
 
 fn simple(
     code: u64,

@@ -1,11 +1,11 @@
 use borrow.Author.Needs.{needs}
-use Rattle.semantics.proofs.statements.first_ordinal.Statement.{statement}
-use Rattle.semantics.proofs.statements.first_ordinal.Tie as tie
-use Rattle.semantics.proofs.statements.first_ordinal.Reads as reads
-use Rattle.semantics.proofs.statements.first_ordinal.Lts as lts
+use Rattle.bodies.proofs.statements.first_ordinal.Statement.{statement}
+use Rattle.bodies.proofs.statements.first_ordinal.Tie as tie
+use Rattle.bodies.proofs.statements.first_ordinal.Reads as reads
+use Rattle.bodies.proofs.statements.first_ordinal.Lts as lts
 use Rattle.cells.proofs.get_u16.Reads as get-u16-reads
-use Rattle.semantics.proofs.StatementLaws.{code-laws}
-use Rattle.semantics.proofs.StatementLaws.{begin-laws}
+use Rattle.bodies.proofs.StatementLaws.{code-laws}
+use Rattle.bodies.proofs.StatementLaws.{begin-laws}
 
 -- src/statements.rt:176:23
 add-get-u16 : tie.Need-add-get-u16

@@ -1,10 +1,10 @@
 use borrow.Author.Needs.{needs}
-use Rattle.semantics.proofs.statements.params_at.Statement.{statement}
-use Rattle.semantics.proofs.statements.params_at.Tie as tie
-use Rattle.semantics.proofs.statements.params_at.Reads as reads
-use Rattle.semantics.proofs.statements.params_at.Lts as lts
-use Rattle.semantics.proofs.StatementLaws.{code-laws}
-use Rattle.semantics.proofs.StatementLaws.{begin-laws}
+use Rattle.bodies.proofs.statements.params_at.Statement.{statement}
+use Rattle.bodies.proofs.statements.params_at.Tie as tie
+use Rattle.bodies.proofs.statements.params_at.Reads as reads
+use Rattle.bodies.proofs.statements.params_at.Lts as lts
+use Rattle.bodies.proofs.StatementLaws.{code-laws}
+use Rattle.bodies.proofs.StatementLaws.{begin-laws}
 
 -- src/statements.rt:151:6
 sub-result : tie.Need-sub-result

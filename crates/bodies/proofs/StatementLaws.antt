@@ -12,16 +12,16 @@ use Rattle.pcode.specs.Base.{if_then_else_, listed, thenL}
 use Rattle.expression.proofs.scope.ExprValue as exprValue
 use Rattle.expression.specs.declared.args.Args.{Args}
 use Rattle.expression.specs.Answers.{passed, onArgs, after}
-use Rattle.semantics.specs.declared.statements.Walk.{Walk}
-use Rattle.semantics.specs.declared.statements.Step.{Step}
+use Rattle.semantics.specs.declared.walk.Walk.{Walk}
+use Rattle.semantics.specs.declared.walk.Step.{Step}
 use Rattle.semantics.specs.declared.calls.Called.{Called}
 use Rattle.semantics.specs.Walks.{stepped, Walked, walked, besideP, onStep, stop}
 use Rattle.semantics.specs.Branches.{branch, condBranch, labelStatement}
 use Rattle.semantics.specs.Simple.{unimplemented, exportStatement, localStatement, localAssignment, build}
 use Rattle.semantics.specs.Stores.{storeStatement}
 use Rattle.semantics.specs.Copies.{copyStatement}
 use Rattle.semantics.specs.Calls.{calledOf, otherCall, bindParams, macroAt, macroArgs}
-use Rattle.semantics.specs.Statements.{simple, otherStatement, begun, begin, entered, returned, returnedTo, paramsAt, macroEnv, bodyAt, firstOrdinal, Enter, macroStatement, callNamed, callStatement, statementBy, statementBegun, resolveStatement, Statement, resolveAll, macroBody, enterMacro, resolveBody}
+use Rattle.bodies.specs.Statements.{simple, otherStatement, begun, begin, entered, returned, returnedTo, paramsAt, macroEnv, bodyAt, firstOrdinal, Enter, macroStatement, callNamed, callStatement, statementBy, statementBegun, resolveStatement, Statement, resolveAll, macroBody, enterMacro, resolveBody}
 
 module _ (code : ℕ) (s t p a m : List ℕ) (e : Env) (pos : ℕ) (w : Walk) (z : Step) where
   pub code-unimplemented : (a1 m1 : List ℕ) → code ≡ 0 → stepped z a1 m1 ≡ unimplemented s t a m e pos w → stepped z a1 m1 ≡ simple code s t p a m e pos w

@@ -1,14 +1,14 @@
 use borrow.Author.Needs.{needs}
-use Rattle.semantics.proofs.statements.other_statement.Statement.{statement}
-use Rattle.semantics.proofs.statements.other_statement.Tie as tie
-use Rattle.semantics.proofs.statements.other_statement.Reads as reads
-use Rattle.semantics.proofs.statements.other_statement.Lts as lts
+use Rattle.bodies.proofs.statements.other_statement.Statement.{statement}
+use Rattle.bodies.proofs.statements.other_statement.Tie as tie
+use Rattle.bodies.proofs.statements.other_statement.Reads as reads
+use Rattle.bodies.proofs.statements.other_statement.Lts as lts
 use Rattle.semantics.proofs.branches.branch.Reads as branch-reads
 use Rattle.semantics.proofs.branches.cond_branch.Reads as cond-branch-reads
 use Rattle.semantics.proofs.branches.label_statement.Reads as label-statement-reads
-use Rattle.semantics.proofs.statements.simple.Reads as simple-reads
-use Rattle.semantics.proofs.StatementLaws.{code-laws}
-use Rattle.semantics.proofs.StatementLaws.{begin-laws}
+use Rattle.bodies.proofs.statements.simple.Reads as simple-reads
+use Rattle.bodies.proofs.StatementLaws.{code-laws}
+use Rattle.bodies.proofs.StatementLaws.{begin-laws}
 
 -- src/statements.rt:70:14
 branch-requires : tie.Need-branch-requires

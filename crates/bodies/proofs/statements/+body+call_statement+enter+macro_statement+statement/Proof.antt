@@ -1,52 +1,52 @@
 use borrow.Author.Needs.{needs}
 use mathlib.Core.Path.{_≡_}
 use lib.ListN.{length}
-use Rattle.semantics.specs.Statements.{enterMacro, resolveStatement, resolveAll, resolveBody}
-use Rattle.semantics.proofs.StatementLaws.{statement-laws}
+use Rattle.bodies.specs.Statements.{enterMacro, resolveStatement, resolveAll, resolveBody}
+use Rattle.bodies.proofs.StatementLaws.{statement-laws}
 use Prim.Native.Nat.{ℕ, _<_, _+_, _*_, _-_}
 use borrow.Fn.Kinds.{In}
 use borrow.Fn.PlainCycle.{Measures, is, falls, and}
-use Rattle.semantics.proofs.statements.body.Reads as body
-use Rattle.semantics.proofs.statements.body.Kinds as body-kinds
-use Rattle.semantics.proofs.statements.+body+call_statement+enter+macro_statement+statement.Lts-body as body-lts
-use Rattle.semantics.proofs.statements.call_statement.Reads as call-statement
-use Rattle.semantics.proofs.statements.call_statement.Kinds as call-statement-kinds
-use Rattle.semantics.proofs.statements.+body+call_statement+enter+macro_statement+statement.Lts-call_statement as call-statement-lts
-use Rattle.semantics.proofs.statements.enter.Reads as enter
-use Rattle.semantics.proofs.statements.enter.Kinds as enter-kinds
-use Rattle.semantics.proofs.statements.+body+call_statement+enter+macro_statement+statement.Lts-enter as enter-lts
-use Rattle.semantics.proofs.statements.macro_statement.Reads as macro-statement
-use Rattle.semantics.proofs.statements.macro_statement.Kinds as macro-statement-kinds
-use Rattle.semantics.proofs.statements.+body+call_statement+enter+macro_statement+statement.Lts-macro_statement as macro-statement-lts
-use Rattle.semantics.proofs.statements.statement.Reads as statement′
-use Rattle.semantics.proofs.statements.statement.Kinds as statement-kinds
-use Rattle.semantics.proofs.statements.+body+call_statement+enter+macro_statement+statement.Lts-statement as statement-lts
+use Rattle.bodies.proofs.statements.body.Reads as body
+use Rattle.bodies.proofs.statements.body.Kinds as body-kinds
+use Rattle.bodies.proofs.statements.+body+call_statement+enter+macro_statement+statement.Lts-body as body-lts
+use Rattle.bodies.proofs.statements.call_statement.Reads as call-statement
+use Rattle.bodies.proofs.statements.call_statement.Kinds as call-statement-kinds
+use Rattle.bodies.proofs.statements.+body+call_statement+enter+macro_statement+statement.Lts-call_statement as call-statement-lts
+use Rattle.bodies.proofs.statements.enter.Reads as enter
+use Rattle.bodies.proofs.statements.enter.Kinds as enter-kinds
+use Rattle.bodies.proofs.statements.+body+call_statement+enter+macro_statement+statement.Lts-enter as enter-lts
+use Rattle.bodies.proofs.statements.macro_statement.Reads as macro-statement
+use Rattle.bodies.proofs.statements.macro_statement.Kinds as macro-statement-kinds
+use Rattle.bodies.proofs.statements.+body+call_statement+enter+macro_statement+statement.Lts-macro_statement as macro-statement-lts
+use Rattle.bodies.proofs.statements.statement.Reads as statement′
+use Rattle.bodies.proofs.statements.statement.Kinds as statement-kinds
+use Rattle.bodies.proofs.statements.+body+call_statement+enter+macro_statement+statement.Lts-statement as statement-lts
 use Rattle.cells.proofs.byte.Reads as byte-reads
 use Rattle.expression.proofs.expr.after.Reads as after-reads
 use Rattle.expression.proofs.scope.u16_in.Reads as u16-in-reads
 use Rattle.semantics.proofs.calls.bind_params.Reads as bind-params-reads
 use Rattle.semantics.proofs.calls.called_of.Reads as called-of-reads
 use Rattle.semantics.proofs.calls.macro_args.Reads as macro-args-reads
 use Rattle.semantics.proofs.calls.macro_at.Reads as macro-at-reads
 use Rattle.semantics.proofs.calls.other_call.Reads as other-call-reads
-use Rattle.semantics.proofs.statements.begin.Reads as begin-reads
-use Rattle.semantics.proofs.statements.body_at.Reads as body-at-reads
-use Rattle.semantics.proofs.statements.entered.Reads as entered-reads
-use Rattle.semantics.proofs.statements.first_ordinal.Reads as first-ordinal-reads
-use Rattle.semantics.proofs.statements.macro_env.Reads as macro-env-reads
-use Rattle.semantics.proofs.statements.other_statement.Reads as other-statement-reads
-use Rattle.semantics.proofs.statements.params_at.Reads as params-at-reads
-use Rattle.semantics.proofs.statements.returned.Reads as returned-reads
+use Rattle.bodies.proofs.statements.begin.Reads as begin-reads
+use Rattle.bodies.proofs.statements.body_at.Reads as body-at-reads
+use Rattle.bodies.proofs.statements.entered.Reads as entered-reads
+use Rattle.bodies.proofs.statements.first_ordinal.Reads as first-ordinal-reads
+use Rattle.bodies.proofs.statements.macro_env.Reads as macro-env-reads
+use Rattle.bodies.proofs.statements.other_statement.Reads as other-statement-reads
+use Rattle.bodies.proofs.statements.params_at.Reads as params-at-reads
+use Rattle.bodies.proofs.statements.returned.Reads as returned-reads
 use Rattle.semantics.proofs.walk.stop.Reads as stop-reads
 use Rattle.std.proofs.num.wrapping_add_u64.Reads as wrapping-add-u64-reads
-use Rattle.semantics.proofs.statements.+body+call_statement+enter+macro_statement+statement.{
+use Rattle.bodies.proofs.statements.+body+call_statement+enter+macro_statement+statement.{
   statement,
 }
-use Rattle.semantics.proofs.statements.+body+call_statement+enter+macro_statement+statement.Tie.{
+use Rattle.bodies.proofs.statements.+body+call_statement+enter+macro_statement+statement.Tie.{
   close,
 }
 use native.Mathlib.Omega.{arith}
-use Rattle.semantics.proofs.StatementLaws.{enter-body, body-next}
+use Rattle.bodies.proofs.StatementLaws.{enter-body, body-next}
 
 abbrev μ-body : Measures 5 body-kinds.ps ℕ
 μ-body κs a = 5 * a .0 + 4

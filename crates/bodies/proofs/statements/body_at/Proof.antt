@@ -1,11 +1,11 @@
 use borrow.Author.Needs.{needs}
-use Rattle.semantics.proofs.statements.body_at.Statement.{statement}
-use Rattle.semantics.proofs.statements.body_at.Tie as tie
-use Rattle.semantics.proofs.statements.body_at.Reads as reads
-use Rattle.semantics.proofs.statements.body_at.Lts as lts
+use Rattle.bodies.proofs.statements.body_at.Statement.{statement}
+use Rattle.bodies.proofs.statements.body_at.Tie as tie
+use Rattle.bodies.proofs.statements.body_at.Reads as reads
+use Rattle.bodies.proofs.statements.body_at.Lts as lts
 use Rattle.expression.proofs.expr.after.Reads as after-reads
-use Rattle.semantics.proofs.StatementLaws.{code-laws}
-use Rattle.semantics.proofs.StatementLaws.{begin-laws}
+use Rattle.bodies.proofs.StatementLaws.{code-laws}
+use Rattle.bodies.proofs.StatementLaws.{begin-laws}
 
 -- src/statements.rt:169:19
 mul-after : tie.Need-mul-after

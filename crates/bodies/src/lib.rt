@@ -1,0 +1,2 @@
+// Statements and macro bodies, which resolve each other.
+pub mod statements;
