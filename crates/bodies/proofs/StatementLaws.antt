@@ -9,8 +9,8 @@ use Rattle.cells.specs.Le.{le16}
 use Rattle.pcode.specs.declared.push.State.{State}
 use Rattle.pcode.specs.declared.push.Env.{Env}
 use Rattle.pcode.specs.Base.{if_then_else_, listed, thenL}
-use Rattle.expression.proofs.scope.ExprValue as exprValue
-use Rattle.expression.specs.declared.args.Args.{Args}
+use Rattle.meaning.proofs.scope.ExprValue as exprValue
+use Rattle.meaning.specs.declared.args.Args.{Args}
 use Rattle.expression.specs.Answers.{passed, onArgs, after}
 use Rattle.semantics.specs.declared.walk.Walk.{Walk}
 use Rattle.semantics.specs.declared.walk.Step.{Step}

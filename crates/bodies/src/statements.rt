@@ -1,7 +1,7 @@
 // Statements and macro bodies, which resolve each other: a macro call one level deeper.
-use expression::args::Args;
 use expression::expr::after;
-use expression::scope::u16_in;
+use meaning::args::Args;
+use meaning::scope::u16_in;
 use pcode::push::Env;
 use pcode::push::State;
 use pcode::sizes::Sizing;

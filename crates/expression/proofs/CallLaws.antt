@@ -16,13 +16,13 @@ use Rattle.pcode.specs.declared.push.Pushed.{Pushed}
 use Rattle.pcode.specs.Base.{if_then_else_}
 use Rattle.pcode.specs.Values.{absent, noOutput}
 use Rattle.pcode.specs.Pushes.{PushedOut, pushed, pushOp, read, onRead, onPushed}
-use Rattle.expression.specs.declared.scope.ExprValue.{ExprValue}
-use Rattle.expression.specs.declared.scope.Meaning.{Meaning}
+use Rattle.meaning.specs.declared.scope.ExprValue.{ExprValue}
+use Rattle.meaning.specs.declared.scope.Meaning.{Meaning}
 use Rattle.expression.specs.declared.expr.Expr.{Expr}
 use Rattle.expression.specs.declared.calls.Callee.{Callee}
-use Rattle.expression.specs.Slots.{argAt}
-use Rattle.expression.specs.Scopes.{global, resolveIdent}
-use Rattle.expression.specs.Reading.{readOperand}
+use Rattle.meaning.specs.Slots.{argAt}
+use Rattle.meaning.specs.Scopes.{global, resolveIdent}
+use Rattle.meaning.specs.Reading.{readOperand}
 use Rattle.expression.specs.Answers.{resolved, exprOf, after}
 use Rattle.expression.specs.Calls.{callee, symbolOf, inbuiltOr, calleeOf, passArg, passFrom, passArgs, applied, userOpTwo, userOpSome, callUserOp, onlyInteger, subpieceFrom, subpieceOf, subpieceMeant, subpiece}
 

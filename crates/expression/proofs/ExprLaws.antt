@@ -18,17 +18,17 @@ use Rattle.pcode.specs.declared.push.Read.{Read}
 use Rattle.pcode.specs.Base.{if_then_else_}
 use Rattle.pcode.specs.Values.{absent}
 use Rattle.pcode.specs.Pushes.{read}
-use Rattle.expression.specs.declared.scope.ExprValue.{ExprValue}
-use Rattle.expression.proofs.scope.ExprValue as exprValues
-use Rattle.expression.specs.declared.scope.Meaning.{Meaning}
+use Rattle.meaning.specs.declared.scope.ExprValue.{ExprValue}
+use Rattle.meaning.proofs.scope.ExprValue as exprValues
+use Rattle.meaning.specs.declared.scope.Meaning.{Meaning}
 use Rattle.expression.specs.declared.expr.Expr.{Expr}
 use Rattle.expression.specs.declared.expr.Operand.{Operand}
 use Rattle.expression.specs.declared.expr.Order.{Order}
-use Rattle.expression.specs.declared.args.Args.{Args}
+use Rattle.meaning.specs.declared.args.Args.{Args}
 use Rattle.expression.specs.declared.calls.Callee.{Callee}
-use Rattle.expression.specs.Slots.{putArg}
-use Rattle.expression.specs.Scopes.{resolveIdent}
-use Rattle.expression.specs.Reading.{readOperand}
+use Rattle.meaning.specs.Slots.{putArg}
+use Rattle.meaning.specs.Scopes.{resolveIdent}
+use Rattle.meaning.specs.Reading.{readOperand}
 use Rattle.expression.specs.Answers.{resolved, onExpr, operand, onOperand, ArgsOut, passed, onArgs, operandOf, appliedTo, after}
 use Rattle.expression.specs.Slices.{sliceBits}
 use Rattle.expression.specs.Addresses.{resolveAddress}

@@ -20,12 +20,12 @@ use Rattle.pcode.specs.Base.{if_then_else_}
 use Rattle.pcode.specs.Values.{withSize, absent}
 use Rattle.pcode.specs.Sizes.{entry}
 use Rattle.pcode.specs.Pushes.{read, onRead}
-use Rattle.expression.specs.declared.scope.ExprValue.{ExprValue}
-use Rattle.expression.proofs.scope.ExprValue as exprValue
+use Rattle.meaning.specs.declared.scope.ExprValue.{ExprValue}
+use Rattle.meaning.proofs.scope.ExprValue as exprValue
 use Rattle.expression.specs.declared.expr.Expr.{Expr}
 use Rattle.expression.specs.declared.address.Space.{Space}
-use Rattle.expression.specs.Scopes.{global}
-use Rattle.expression.specs.Reading.{neededBytes, readSlice, readOperand}
+use Rattle.meaning.specs.Scopes.{global}
+use Rattle.meaning.specs.Reading.{neededBytes, readSlice, readOperand}
 use Rattle.expression.specs.Answers.{resolved, exprOf}
 use Rattle.expression.specs.Slices.{lowBits, unboundThen, sliceRead, constBytes, sliceConst, sliceRange, sliceBits}
 use Rattle.expression.specs.Addresses.{orSize, inConstSpace, kindOfSpace, spaceOf, namedSpace, defaultSpace, resolveSpace, referenceTo, reference, inSpace, addressIn, resolveAddress}

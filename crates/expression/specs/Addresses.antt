@@ -11,11 +11,11 @@ use Rattle.pcode.specs.declared.push.Read.{Read}
 use Rattle.pcode.specs.Base.{if_then_else_}
 use Rattle.pcode.specs.Values.{withSize}
 use Rattle.pcode.specs.Sizes.{entry}
-use Rattle.expression.specs.declared.scope.ExprValue.{ExprValue}
+use Rattle.meaning.specs.declared.scope.ExprValue.{ExprValue}
 use Rattle.expression.specs.declared.expr.Expr.{Expr}
 use Rattle.expression.specs.declared.address.Space.{Space}
-use Rattle.expression.specs.Scopes.{global}
-use Rattle.expression.specs.Reading.{readOperand}
+use Rattle.meaning.specs.Scopes.{global}
+use Rattle.meaning.specs.Reading.{readOperand}
 use Rattle.expression.specs.Answers.{ExprOut, resolved, exprOf}
 
 unfoldable pub orSize : ℕ → ℕ → ℕ

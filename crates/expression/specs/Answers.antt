@@ -7,10 +7,10 @@ use Rattle.pcode.specs.declared.push.State.{State}
 use Rattle.pcode.specs.declared.push.Read.{Read}
 use Rattle.pcode.specs.Base.{if_then_else_}
 use Rattle.pcode.specs.Pushes.{ReadOut, read}
-use Rattle.expression.specs.declared.scope.ExprValue.{ExprValue}
+use Rattle.meaning.specs.declared.scope.ExprValue.{ExprValue}
 use Rattle.expression.specs.declared.expr.Expr.{Expr}
 use Rattle.expression.specs.declared.expr.Operand.{Operand}
-use Rattle.expression.specs.declared.args.Args.{Args}
+use Rattle.meaning.specs.declared.args.Args.{Args}
 
 -- an answer, the actions and the temporaries
 pub data ExprOut : Type 0 where

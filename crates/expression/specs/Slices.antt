@@ -10,9 +10,9 @@ use Rattle.pcode.specs.declared.push.Read.{Read}
 use Rattle.pcode.specs.Base.{if_then_else_}
 use Rattle.pcode.specs.Values.{absent}
 use Rattle.pcode.specs.Pushes.{onRead}
-use Rattle.expression.specs.declared.scope.ExprValue.{ExprValue}
+use Rattle.meaning.specs.declared.scope.ExprValue.{ExprValue}
 use Rattle.expression.specs.declared.expr.Expr.{Expr}
-use Rattle.expression.specs.Reading.{neededBytes, readSlice, readOperand}
+use Rattle.meaning.specs.Reading.{neededBytes, readSlice, readOperand}
 use Rattle.expression.specs.Answers.{ExprOut, resolved, exprOf}
 
 -- so many bits of a number, 64 at most, from a bit on

@@ -1,8 +1,8 @@
 // Addresses: the place that a pointer in a space refers to.
 use crate::expr::Expr;
-use crate::read::read_operand;
-use crate::scope::ExprValue;
-use crate::scope::global;
+use meaning::read::read_operand;
+use meaning::scope::ExprValue;
+use meaning::scope::global;
 use pcode::push::Env;
 use pcode::push::Read;
 use pcode::push::State;

@@ -1,12 +1,12 @@
 // Calls in expressions: built-in functions come before any symbol, then user ops; the rest is a subpiece of a local.
-use crate::args::arg_at;
 use crate::expr::Expr;
 use crate::expr::after;
-use crate::read::read_operand;
-use crate::scope::ExprValue;
-use crate::scope::Meaning;
-use crate::scope::global;
-use crate::scope::resolve_ident;
+use meaning::args::arg_at;
+use meaning::read::read_operand;
+use meaning::scope::ExprValue;
+use meaning::scope::Meaning;
+use meaning::scope::global;
+use meaning::scope::resolve_ident;
 use pcode::push::Env;
 use pcode::push::Pushed;
 use pcode::push::Read;
@@ -21,7 +21,7 @@ ghost use mathlib.Core.Path.{_≡_};
 ghost use Rattle.pcode.specs.Pushes.{pushed};
 ghost use Rattle.expression.specs.Answers.{resolved};
 ghost use Rattle.expression.specs.Calls.{symbolOf, inbuiltOr, calleeOf, passArg, passArgs, applied, userOpTwo, userOpSome, callUserOp, onlyInteger, subpieceOf, subpiece};
-ghost use Rattle.expression.specs.Scopes.{global};
+ghost use Rattle.meaning.specs.Scopes.{global};
 
 // What a call's name is: 0 a built-in operation, 1 a user op, 2 a refusal, 3 a local.
 pub struct Callee {

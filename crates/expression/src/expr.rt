@@ -1,17 +1,17 @@
 // Expressions, resolved by a walk over their prefix code: each part one level deeper.
 use crate::address::resolve_address;
-use crate::args::Args;
-use crate::args::put_arg;
 use crate::calls::applied;
 use crate::calls::call_user_op;
 use crate::calls::callee_of;
 use crate::calls::subpiece;
-use crate::read::read_operand;
-use crate::scope::ExprValue;
-use crate::scope::Meaning;
-use crate::scope::resolve_ident;
-use crate::scope::u16_in;
 use crate::slices::slice_bits;
+use meaning::args::Args;
+use meaning::args::put_arg;
+use meaning::read::read_operand;
+use meaning::scope::ExprValue;
+use meaning::scope::Meaning;
+use meaning::scope::resolve_ident;
+use meaning::scope::u16_in;
 use pcode::push::Env;
 use pcode::push::Read;
 use pcode::push::State;

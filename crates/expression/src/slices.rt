@@ -1,9 +1,9 @@
 // Slices of bits: a local's has no bound, and what cannot be sliced unread is read first.
 use crate::expr::Expr;
-use crate::read::needed_bytes;
-use crate::read::read_operand;
-use crate::read::read_slice;
-use crate::scope::ExprValue;
+use meaning::read::needed_bytes;
+use meaning::read::read_operand;
+use meaning::read::read_slice;
+use meaning::scope::ExprValue;
 use pcode::push::Env;
 use pcode::push::Read;
 use pcode::push::State;

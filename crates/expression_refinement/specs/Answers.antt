@@ -18,10 +18,10 @@ use Rattle.pcode.specs.Base.{if_then_else_, Listed, listed}
 use Rattle.pcode.specs.Pushes.{ReadOut, read, PushedOut, pushed, onRead, onPushed, onTmp}
 use Rattle.refinement.specs.Encoding.{actionsIn, temporariesIn, encS}
 use Rattle.refinement.specs.Seen.{Seen, no, yes, seenRead, seenPushed, seenTmp, outcome}
-use Rattle.expression.specs.declared.scope.ExprValue.{ExprValue as WordExpr}
+use Rattle.meaning.specs.declared.scope.ExprValue.{ExprValue as WordExpr}
 use Rattle.expression.specs.declared.expr.Expr.{Expr}
 use Rattle.expression.specs.declared.expr.Operand.{Operand}
-use Rattle.expression.specs.declared.args.Args.{Args}
+use Rattle.meaning.specs.declared.args.Args.{Args}
 use Rattle.expression.specs.Answers.{ExprOut, resolved, onExpr, OperandOut, operand, onOperand, ArgsOut, passed, onArgs}
 use Rattle.expression_refinement.specs.Encodings.{count, Stood, Later, later-refl, later-trans}
 

@@ -33,9 +33,9 @@ use Rattle.refinement.specs.Lists.{firstOf, secondOf}
 use Rattle.refinement.specs.Seen.{yes, no, seenRead, seenPushed}
 use Rattle.expression.specs.declared.expr.Expr.{Expr}
 use Rattle.expression.specs.declared.calls.Callee.{Callee}
-use Rattle.expression.specs.Slots.{argAt}
+use Rattle.meaning.specs.Slots.{argAt}
 use Rattle.expression.specs.Answers.{ExprOut, resolved, exprOf, after}
-use Rattle.expression.specs.Reading.{readOperand}
+use Rattle.meaning.specs.Reading.{readOperand}
 use Rattle.expression.specs.Calls.{callee, symbolOf, inbuiltOr, calleeOf, passArg, passFrom, passArgs, applied, userOpTwo, userOpSome, callUserOp, onlyInteger, subpieceFrom, subpieceOf, subpieceMeant, subpiece}
 use Rattle.expression_refinement.specs.Encodings.{encX, SoundX, Applies, sound-more, x-more, each-more, count, Stood}
 use Rattle.expression_refinement.specs.Answers.{acts, temps, word, seenExpr, Refines, refines-done, refines-stopped, bind, bind-read, bind-pushed, bind-unless}

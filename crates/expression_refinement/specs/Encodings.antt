@@ -16,7 +16,7 @@ use Rattle.definition.specs.ActionList.{orNone, placesLabel, labelsPlaced}
 use Rattle.refinement.specs.Encoding.{encV, Within, Sound, SoundTmp, Each, EachOption, SoundAction}
 use Rattle.refinement.specs.Lists.{firstOf, secondOf}
 use Rattle.refinement.specs.RuleKinds.{kindOf, Operands}
-use Rattle.expression.specs.declared.scope.ExprValue.{ExprValue as WordExpr}
+use Rattle.meaning.specs.declared.scope.ExprValue.{ExprValue as WordExpr}
 
 -- what an expression means; Apply has its inputs, none, one or two, with absent ones behind them
 unfoldable pub encX : ExprValue → WordExpr

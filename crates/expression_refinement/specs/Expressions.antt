@@ -39,12 +39,12 @@ use Rattle.section_refinement.specs.Inversion.{OpAt, CallAt, expr-begun, nothin
 use Rattle.refinement.specs.Encoding.{encV, Sound, Each}
 use Rattle.refinement.specs.Lists.{firstOf, secondOf}
 use Rattle.refinement.specs.Seen.{yes, no, seenRead, outcome}
-use Rattle.expression.specs.declared.scope.ExprValue.{ExprValue as WordExpr}
+use Rattle.meaning.specs.declared.scope.ExprValue.{ExprValue as WordExpr}
 use Rattle.expression.specs.declared.expr.Expr.{Expr}
 use Rattle.expression.specs.declared.expr.Operand.{Operand}
 use Rattle.expression.specs.Answers.{ExprOut, resolved, OperandOut, operand, operandOf, appliedTo, after}
-use Rattle.expression.specs.Slots.{argAt, putArg}
-use Rattle.expression.specs.Reading.{readOperand}
+use Rattle.meaning.specs.Slots.{argAt, putArg}
+use Rattle.meaning.specs.Reading.{readOperand}
 use Rattle.expression.specs.Calls as calls
 use Rattle.expression.specs.Calls.{inbuiltOr, callUserOp, subpiece}
 use Rattle.expression.specs.Slices.{sliceBits}

@@ -24,14 +24,14 @@ use Rattle.pcode.specs.Sizes.{entry}
 use Rattle.section_refinement.specs.Holds.{Holds, bitRangeAt, symbolWord}
 use Rattle.refinement.specs.Encoding.{encV, markedWord, temporaryWords, Sound, SoundTmp, Each}
 use Rattle.refinement.specs.Operands.{size-word}
-use Rattle.expression.specs.declared.scope.ExprValue.{ExprValue as WordExpr}
-use Rattle.expression.specs.declared.scope.Meaning.{Meaning as WordMeaning}
-use Rattle.expression.specs.declared.scope.Found.{Found}
+use Rattle.meaning.specs.declared.scope.ExprValue.{ExprValue as WordExpr}
+use Rattle.meaning.specs.declared.scope.Meaning.{Meaning as WordMeaning}
+use Rattle.meaning.specs.declared.scope.Found.{Found}
 use Rattle.expression.specs.Answers.{resolved}
 use Rattle.expression.specs.Expressions.{meansAt}
-use Rattle.expression.specs.Slots.{ofSlot, slotAt, paramPlace}
-use Rattle.expression.specs.Scopes as words
-use Rattle.expression.specs.Scopes.{findParam, isLocal, findLocal, ownLocal, tmpOf, tmpLocal, orTmp, lookupLocal, global, bitsAt, bitRange, foundOr, paramOr}
+use Rattle.meaning.specs.Slots.{ofSlot, slotAt, paramPlace}
+use Rattle.meaning.specs.Scopes as words
+use Rattle.meaning.specs.Scopes.{findParam, isLocal, findLocal, ownLocal, tmpOf, tmpLocal, orTmp, lookupLocal, global, bitsAt, bitRange, foundOr, paramOr}
 use Rattle.expression_refinement.specs.Encodings.{encX, SoundX, nameAt, tmps, count, Stood, Later}
 use Rattle.expression_refinement.specs.Answers.{acts, temps, word, Refines, refines-done, refines-stopped, seenExpr}
 

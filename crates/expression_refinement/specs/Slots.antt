@@ -15,9 +15,9 @@ use Rattle.pcode.specs.Values.{absent, word, valueOf, valueAt, putValue}
 use Rattle.refinement.specs.Encoding.{encV, Sound, Each}
 use Rattle.refinement.specs.Operands.{word-is, value-back}
 use Rattle.refinement.specs.Lists.{firstOf, secondOf}
-use Rattle.expression.specs.declared.scope.ExprValue.{ExprValue as WordExpr}
-use Rattle.expression.specs.declared.scope.Slot.{Slot}
-use Rattle.expression.specs.Slots.{slot, slotOf, ofParts, ofSlot, putSlot, slotAt, paramPlace, argAt, putArg}
+use Rattle.meaning.specs.declared.scope.ExprValue.{ExprValue as WordExpr}
+use Rattle.meaning.specs.declared.scope.Slot.{Slot}
+use Rattle.meaning.specs.Slots.{slot, slotOf, ofParts, ofSlot, putSlot, slotAt, paramPlace, argAt, putArg}
 use Rattle.expression_refinement.specs.Encodings.{encX, SoundX}
 
 -- writing one word after another

@@ -15,12 +15,12 @@ use Rattle.pcode.specs.declared.push.Pushed.{Pushed}
 use Rattle.pcode.specs.Base.{if_then_else_, listed}
 use Rattle.pcode.specs.Values.{absent, noOutput}
 use Rattle.pcode.specs.Pushes.{read, pushed, onRead, pushOp}
-use Rattle.expression.specs.declared.scope.ExprValue.{ExprValue}
-use Rattle.expression.proofs.scope.ExprValue as exprValue
-use Rattle.expression.specs.declared.scope.Meaning.{Meaning}
+use Rattle.meaning.specs.declared.scope.ExprValue.{ExprValue}
+use Rattle.meaning.proofs.scope.ExprValue as exprValue
+use Rattle.meaning.specs.declared.scope.Meaning.{Meaning}
 use Rattle.expression.specs.declared.expr.Operand.{Operand}
-use Rattle.expression.specs.Scopes.{resolveIdent}
-use Rattle.expression.specs.Reading.{constant, readOperand}
+use Rattle.meaning.specs.Scopes.{resolveIdent}
+use Rattle.meaning.specs.Reading.{constant, readOperand}
 use Rattle.expression.specs.Answers.{operand, onOperand, after}
 use Rattle.expression.specs.Expressions.{exprValue, resolveExpr}
 use Rattle.semantics.specs.declared.walk.Walk.{Walk}

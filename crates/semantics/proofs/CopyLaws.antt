@@ -17,12 +17,12 @@ use Rattle.pcode.specs.Base.{if_then_else_, listed, thenL}
 use Rattle.pcode.specs.Values.{absent}
 use Rattle.pcode.specs.Sizes.{sizeOf}
 use Rattle.pcode.specs.Pushes.{read, onRead, onTmp, addTmp, opTo}
-use Rattle.expression.specs.declared.scope.ExprValue.{ExprValue}
-use Rattle.expression.proofs.scope.ExprValue as exprValue
-use Rattle.expression.specs.declared.scope.Meaning.{Meaning}
+use Rattle.meaning.specs.declared.scope.ExprValue.{ExprValue}
+use Rattle.meaning.proofs.scope.ExprValue as exprValue
+use Rattle.meaning.specs.declared.scope.Meaning.{Meaning}
 use Rattle.expression.specs.declared.expr.Expr.{Expr}
-use Rattle.expression.specs.Scopes.{resolveIdent, namedTmp}
-use Rattle.expression.specs.Reading.{constant, byteAligned, sliced, readValue, readOperand}
+use Rattle.meaning.specs.Scopes.{resolveIdent, namedTmp}
+use Rattle.meaning.specs.Reading.{constant, byteAligned, sliced, readValue, readOperand}
 use Rattle.expression.specs.Answers.{resolved, onExpr, after}
 use Rattle.expression.specs.Expressions.{exprValue, resolveExpr}
 use Rattle.semantics.specs.declared.walk.Walk.{Walk}

@@ -10,7 +10,7 @@ use Rattle.pcode.specs.declared.push.State.{State}
 use Rattle.pcode.specs.declared.push.Read.{Read}
 use Rattle.pcode.specs.declared.push.Pushed.{Pushed}
 use Rattle.pcode.specs.Base.{if_then_else_, listed}
-use Rattle.expression.proofs.scope.ExprValue as exprValue
+use Rattle.meaning.proofs.scope.ExprValue as exprValue
 use Rattle.semantics.specs.declared.walk.Walk.{Walk}
 use Rattle.semantics.specs.declared.walk.Step.{Step}
 use Rattle.semantics.specs.declared.labels.Label.{Label}

@@ -17,13 +17,13 @@ use Rattle.pcode.specs.Base.{if_then_else_, listed, thenL}
 use Rattle.pcode.specs.Values.{absent, noOutput}
 use Rattle.pcode.specs.Sizes.{entry}
 use Rattle.pcode.specs.Pushes.{read, pushed, onTmp, push, pushOp}
-use Rattle.expression.specs.declared.scope.ExprValue.{ExprValue}
-use Rattle.expression.proofs.scope.ExprValue as exprValue
+use Rattle.meaning.specs.declared.scope.ExprValue.{ExprValue}
+use Rattle.meaning.proofs.scope.ExprValue as exprValue
 use Rattle.expression.specs.declared.expr.Expr.{Expr}
 use Rattle.expression.specs.declared.expr.Operand.{Operand}
-use Rattle.expression.specs.declared.read.Stated.{Stated}
-use Rattle.expression.specs.Scopes.{global, namedTmp}
-use Rattle.expression.specs.Reading.{setStated, takeStated, readValue, readOperand}
+use Rattle.meaning.specs.declared.read.Stated.{Stated}
+use Rattle.meaning.specs.Scopes.{global, namedTmp}
+use Rattle.meaning.specs.Reading.{setStated, takeStated, readValue, readOperand}
 use Rattle.expression.specs.Answers.{resolved, onExpr, operand, onOperand, after}
 use Rattle.expression.specs.Addresses.{resolveAddress}
 use Rattle.expression.specs.Expressions.{exprValue, skipExpr, resolveExpr}

@@ -10,10 +10,10 @@ use Rattle.pcode.specs.declared.push.Env.{Env}
 use Rattle.pcode.specs.Base.{if_then_else_}
 use Rattle.pcode.specs.Values.{absent, noOutput}
 use Rattle.pcode.specs.Pushes.{onRead, pushOp}
-use Rattle.expression.specs.declared.scope.ExprValue.{ExprValue}
-use Rattle.expression.specs.declared.scope.Meaning.{Meaning}
-use Rattle.expression.specs.Scopes.{resolveIdent}
-use Rattle.expression.specs.Reading.{constant, readOperand}
+use Rattle.meaning.specs.declared.scope.ExprValue.{ExprValue}
+use Rattle.meaning.specs.declared.scope.Meaning.{Meaning}
+use Rattle.meaning.specs.Scopes.{resolveIdent}
+use Rattle.meaning.specs.Reading.{constant, readOperand}
 use Rattle.expression.specs.Answers.{onOperand, after}
 use Rattle.expression.specs.Expressions.{exprValue, resolveExpr}
 use Rattle.semantics.specs.declared.walk.Walk.{Walk}

@@ -10,11 +10,11 @@ use Rattle.pcode.specs.declared.push.Pushed.{Pushed}
 use Rattle.pcode.specs.Base.{if_then_else_, run, Listed, listed, thenL}
 use Rattle.pcode.specs.Values.{absent, noOutput, valueAt, putValue}
 use Rattle.pcode.specs.Pushes.{onRead, onPush, push}
-use Rattle.expression.specs.declared.scope.Slot.{Slot}
-use Rattle.expression.specs.declared.args.Args.{Args}
-use Rattle.expression.specs.Slots.{putSlot, slotAt, paramPlace, argAt}
-use Rattle.expression.specs.Scopes.{global}
-use Rattle.expression.specs.Reading.{readOperand}
+use Rattle.meaning.specs.declared.scope.Slot.{Slot}
+use Rattle.meaning.specs.declared.args.Args.{Args}
+use Rattle.meaning.specs.Slots.{putSlot, slotAt, paramPlace, argAt}
+use Rattle.meaning.specs.Scopes.{global}
+use Rattle.meaning.specs.Reading.{readOperand}
 use Rattle.expression.specs.Answers.{ArgsOut, passed, onArgs, after}
 use Rattle.expression.specs.Calls.{onlyInteger}
 use Rattle.expression.specs.Expressions.{resolveArgs, resolveExpr}

@@ -14,11 +14,11 @@ use Rattle.pcode.specs.Base.{if_then_else_, Listed, listed, thenL}
 use Rattle.pcode.specs.Values.{absent}
 use Rattle.pcode.specs.Sizes.{sizeOf}
 use Rattle.pcode.specs.Pushes.{ReadOut, read, onRead, onTmp, addTmp, opTo}
-use Rattle.expression.specs.declared.scope.ExprValue.{ExprValue}
-use Rattle.expression.specs.declared.scope.Meaning.{Meaning}
+use Rattle.meaning.specs.declared.scope.ExprValue.{ExprValue}
+use Rattle.meaning.specs.declared.scope.Meaning.{Meaning}
 use Rattle.expression.specs.declared.expr.Expr.{Expr}
-use Rattle.expression.specs.Scopes.{resolveIdent, namedTmp}
-use Rattle.expression.specs.Reading.{constant, byteAligned, sliced, readValue, readOperand}
+use Rattle.meaning.specs.Scopes.{resolveIdent, namedTmp}
+use Rattle.meaning.specs.Reading.{constant, byteAligned, sliced, readValue, readOperand}
 use Rattle.expression.specs.Answers.{ExprOut, resolved, onExpr, after}
 use Rattle.expression.specs.Expressions.{resolveExpr}
 use Rattle.semantics.specs.declared.walk.Walk.{Walk}

@@ -12,9 +12,9 @@ use Rattle.pcode.specs.Base.{if_then_else_, Listed, listed, thenL}
 use Rattle.pcode.specs.Values.{absent, noOutput}
 use Rattle.pcode.specs.Sizes.{entry}
 use Rattle.pcode.specs.Pushes.{onTmp, push, pushOp}
-use Rattle.expression.specs.declared.scope.ExprValue.{ExprValue}
-use Rattle.expression.specs.Scopes.{global, namedTmp}
-use Rattle.expression.specs.Reading.{readValue, readOperand}
+use Rattle.meaning.specs.declared.scope.ExprValue.{ExprValue}
+use Rattle.meaning.specs.Scopes.{global, namedTmp}
+use Rattle.meaning.specs.Reading.{readValue, readOperand}
 use Rattle.expression.specs.Answers.{onExpr, after}
 use Rattle.expression.specs.Expressions.{resolveExpr}
 use Rattle.semantics.specs.declared.walk.Walk.{Walk}

@@ -8,9 +8,9 @@ use Rattle.pcode.specs.declared.push.Env.{Env}
 use Rattle.pcode.specs.Base.{Listed, listed, thenL}
 use Rattle.pcode.specs.Values.{absent, noOutput}
 use Rattle.pcode.specs.Pushes.{push, pushOp}
-use Rattle.expression.specs.declared.scope.ExprValue.{ExprValue}
-use Rattle.expression.specs.declared.read.Stated.{Stated}
-use Rattle.expression.specs.Reading.{setStated, takeStated}
+use Rattle.meaning.specs.declared.scope.ExprValue.{ExprValue}
+use Rattle.meaning.specs.declared.read.Stated.{Stated}
+use Rattle.meaning.specs.Reading.{setStated, takeStated}
 use Rattle.expression.specs.Answers.{onExpr, onOperand, after}
 use Rattle.expression.specs.Addresses.{resolveAddress}
 use Rattle.expression.specs.Expressions.{exprValue, skipExpr, resolveExpr}

@@ -27,8 +27,8 @@ use Rattle.refinement.specs.Encoding.{encV, markedWord, temporaryWords, tempora
 use Rattle.refinement.specs.Marks.{tmp-at, tmp-name, tmp-mark, marked-same}
 use Rattle.refinement.specs.Pushes.{Stands, Made, marked, words-marked, words-length, marked-length, named-is, add-done}
 use Rattle.refinement.specs.Seen.{seenTmp, outcome}
-use Rattle.expression.specs.declared.scope.Found.{Found}
-use Rattle.expression.specs.Scopes.{isLocal, findLocal, ownLocal, tmpOf, tmpLocal, orTmp, lookupLocal, undeclared, namedTmp}
+use Rattle.meaning.specs.declared.scope.Found.{Found}
+use Rattle.meaning.specs.Scopes.{isLocal, findLocal, ownLocal, tmpOf, tmpLocal, orTmp, lookupLocal, undeclared, namedTmp}
 use Rattle.expression_refinement.specs.Encodings.{Small, tmps, count, Stood, params-more, mapping-more, actions-more}
 use Rattle.expression_refinement.specs.Answers.{acts, temps, word, Halts, halts-done, halts-here, halts-on}
 use Rattle.expression_refinement.specs.Pushing.{add-halts}

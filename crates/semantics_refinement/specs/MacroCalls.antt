@@ -30,7 +30,7 @@ use Rattle.section_refinement.specs.Holds.{Holds, symbolWord}
 use Rattle.section_refinement.specs.Inversion.{CallStatementAt, call-statement-at}
 use Rattle.refinement.specs.Encoding.{Each}
 use Rattle.refinement.specs.Seen.{outcome}
-use Rattle.expression.specs.declared.args.Args.{Args as WordArgs}
+use Rattle.meaning.specs.declared.args.Args.{Args as WordArgs}
 use Rattle.expression.specs.Answers.{ArgsOut, passed, onArgs}
 use Rattle.expression.specs.Expressions.{resolveArgs, resolveExpr}
 use Rattle.semantics.specs.declared.walk.Walk.{Walk}

@@ -18,8 +18,8 @@ use Rattle.pcode.specs.declared.push.Env.{Env as WordEnv}
 use Rattle.pcode.specs.Base.{run}
 use Rattle.pcode.specs.Values.{word, valueOf, valueAt}
 use Rattle.refinement.specs.Encoding.{Each}
-use Rattle.expression.specs.Scopes.{isLocal}
-use Rattle.expression.specs.Slots.{ofSlot, slotAt, paramPlace, argAt}
+use Rattle.meaning.specs.Scopes.{isLocal}
+use Rattle.meaning.specs.Slots.{ofSlot, slotAt, paramPlace, argAt}
 use Rattle.semantics.specs.Calls.{bindParam, bindArg}
 use Rattle.bodies.specs.Statements.{macroEnv}
 use Rattle.expression_refinement.specs.Encodings.{SoundX, nameAt, tmps, count, params-more, mapping-more}

@@ -22,7 +22,7 @@ use Rattle.refinement.specs.Encoding.{encV, actionsIn, Sound}
 use Rattle.refinement.specs.Marks.{marked-same, marked-other}
 use Rattle.refinement.specs.Pushes.{marked}
 use Rattle.refinement.specs.Seen.{seenTmp, outcome}
-use Rattle.expression.specs.Scopes.{namedTmp}
+use Rattle.meaning.specs.Scopes.{namedTmp}
 use Rattle.semantics.specs.declared.walk.Step.{Step}
 use Rattle.semantics.specs.Walks.{stepped, Walked, walked, besideP, readThen}
 use Rattle.expression_refinement.specs.Encodings.{Small, tmps, count}

@@ -20,9 +20,9 @@ use Rattle.pcode.specs.Base.{if_then_else_}
 use Rattle.pcode.specs.Values.{valueAt}
 use Rattle.refinement.specs.Encoding.{temporariesIn, SoundTmp, Each}
 use Rattle.refinement.specs.Marks.{tmp-at, tmp-name, tmp-mark}
-use Rattle.expression.specs.declared.scope.Found.{Found}
-use Rattle.expression.specs.Slots.{slotAt, paramPlace}
-use Rattle.expression.specs.Scopes.{isLocal, findLocal, ownLocal, tmpOf, tmpLocal, orTmp, lookupLocal}
+use Rattle.meaning.specs.declared.scope.Found.{Found}
+use Rattle.meaning.specs.Slots.{slotAt, paramPlace}
+use Rattle.meaning.specs.Scopes.{isLocal, findLocal, ownLocal, tmpOf, tmpLocal, orTmp, lookupLocal}
 use Rattle.semantics.specs.Labels.{findLabel, labelKey}
 use Rattle.expression_refinement.specs.Encodings.{nameAt}
 use Rattle.expression_refinement.specs.Scopes.{ParamsIn}

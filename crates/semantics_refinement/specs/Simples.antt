@@ -23,7 +23,7 @@ use Rattle.section_refinement.specs.Holds.{absentAt}
 use Rattle.section_refinement.specs.Inversion.{unimplemented-at, export-at, local-at, local-assignment-at, build-at, copy-at, store-at}
 use Rattle.refinement.specs.Seen.{outcome}
 use Rattle.expression.specs.Answers.{after}
-use Rattle.expression.specs.Scopes.{namedTmp}
+use Rattle.meaning.specs.Scopes.{namedTmp}
 use Rattle.semantics.specs.Walks.{Stepped, stepped, besideP, readThen}
 use Rattle.semantics.specs.Simple.{unimplemented, exportStatement, localStatement, localAssignment, build}
 use Rattle.semantics.specs.Stores.{storeStatement}

@@ -25,7 +25,7 @@ use Rattle.refinement.specs.Encoding.{encV, Sound, EachOption}
 use Rattle.refinement.specs.Marks.{marked-same, marked-other}
 use Rattle.refinement.specs.Pushes.{marked, marked-length}
 use Rattle.refinement.specs.Seen.{Seen, no, yes, outcome}
-use Rattle.expression.specs.declared.scope.ExprValue.{ExprValue as WordExpr}
+use Rattle.meaning.specs.declared.scope.ExprValue.{ExprValue as WordExpr}
 use Rattle.expression.specs.declared.expr.Expr.{Expr}
 use Rattle.expression.specs.declared.expr.Operand.{Operand}
 use Rattle.expression.specs.Answers.{ExprOut, resolved, onExpr, OperandOut, operand, onOperand}

@@ -29,11 +29,11 @@ use Rattle.section_refinement.specs.Holds.{absentAt}
 use Rattle.section_refinement.specs.Inversion.{LocalAssignmentAt, CopyAt}
 use Rattle.section_refinement.specs.Inversion as at
 use Rattle.refinement.specs.Encoding.{encV, actionsIn, Sound}
-use Rattle.expression.specs.declared.scope.ExprValue.{ExprValue as WordExpr}
+use Rattle.meaning.specs.declared.scope.ExprValue.{ExprValue as WordExpr}
 use Rattle.expression.specs.declared.expr.Expr.{Expr}
 use Rattle.expression.specs.Answers.{resolved, onExpr}
 use Rattle.refinement.specs.Pushes.{marked}
-use Rattle.expression.specs.Scopes.{namedTmp}
+use Rattle.meaning.specs.Scopes.{namedTmp}
 use Rattle.expression.specs.Expressions.{resolveExpr}
 use Rattle.semantics.specs.Walks.{Stepped, stepped, besideP, stop}
 use Rattle.semantics.specs.Simple.{assign, localAssignment}

@@ -34,7 +34,7 @@ use Rattle.refinement.specs.Encoding.{encV, packed, actionsIn, Sound, Each}
 use Rattle.refinement.specs.Operands.{word-is, value-back, outNumber, outWord, words-of}
 use Rattle.refinement.specs.Lists.{list-length, list-focus, focus-at, fill, fill-is}
 use Rattle.refinement.specs.Seen.{Seen, no, yes, seenPush}
-use Rattle.expression.specs.Slots.{slotAt, paramPlace, argAt, putArg}
+use Rattle.meaning.specs.Slots.{slotAt, paramPlace, argAt, putArg}
 use Rattle.expression.specs.Expressions.{resolveArgs, resolveExpr}
 use Rattle.semantics.specs.declared.walk.Walk.{Walk}
 use Rattle.semantics.specs.Walks.{Stepped, besideP, pushedThen}

@@ -23,7 +23,7 @@ use Rattle.bodies.proofs.statements.statement.Kinds as statement-kinds
 use Rattle.bodies.proofs.statements.+body+call_statement+enter+macro_statement+statement.Lts-statement as statement-lts
 use Rattle.cells.proofs.byte.Reads as byte-reads
 use Rattle.expression.proofs.expr.after.Reads as after-reads
-use Rattle.expression.proofs.scope.u16_in.Reads as u16-in-reads
+use Rattle.meaning.proofs.scope.u16_in.Reads as u16-in-reads
 use Rattle.semantics.proofs.calls.bind_params.Reads as bind-params-reads
 use Rattle.semantics.proofs.calls.called_of.Reads as called-of-reads
 use Rattle.semantics.proofs.calls.macro_args.Reads as macro-args-reads

@@ -4,7 +4,7 @@ use Rattle.expression.proofs.address.named_space.Tie as tie
 use Rattle.expression.proofs.address.named_space.Reads as reads
 use Rattle.expression.proofs.address.named_space.Lts as lts
 use Rattle.expression.proofs.address.kind_of_space.Reads as kind-of-space-reads
-use Rattle.expression.proofs.scope.global.Reads as global-reads
+use Rattle.meaning.proofs.scope.global.Reads as global-reads
 use Rattle.expression.proofs.SliceLaws.{address-laws}
 
 -- src/address.rt:56:9

@@ -4,7 +4,7 @@ use Rattle.expression.proofs.calls.inbuilt_or.Tie as tie
 use Rattle.expression.proofs.calls.inbuilt_or.Reads as reads
 use Rattle.expression.proofs.calls.inbuilt_or.Lts as lts
 use Rattle.expression.proofs.calls.symbol_of.Reads as symbol-of-reads
-use Rattle.expression.proofs.scope.global.Reads as global-reads
+use Rattle.meaning.proofs.scope.global.Reads as global-reads
 use Rattle.expression.proofs.CallLaws.{call-laws}
 
 -- src/calls.rt:57:26

@@ -2,7 +2,7 @@ use Rattle.expression.proofs.calls.pass_args.Statement.{statement}
 use Rattle.expression.proofs.calls.pass_args.Tie as tie
 use Rattle.expression.proofs.calls.pass_args.Reads as reads
 use Rattle.expression.proofs.calls.pass_args.Lts as lts
-use Rattle.expression.proofs.args.arg_at.Reads as arg-at-reads
+use Rattle.meaning.proofs.args.arg_at.Reads as arg-at-reads
 use Rattle.expression.proofs.calls.pass_arg.Reads as pass-arg-reads
 use Rattle.expression.proofs.CallLaws.{call-laws, args-start, args-no, args-more, args-done}
 use borrow.Author.Needs.{needs}

@@ -4,8 +4,8 @@ use Rattle.expression.proofs.calls.subpiece.Tie as tie
 use Rattle.expression.proofs.calls.subpiece.Reads as reads
 use Rattle.expression.proofs.calls.subpiece.Lts as lts
 use Rattle.expression.proofs.calls.subpiece_of.Reads as subpiece-of-reads
-use Rattle.expression.proofs.read.read_operand.Reads as read-operand-reads
-use Rattle.expression.proofs.scope.resolve_ident.Reads as resolve-ident-reads
+use Rattle.meaning.proofs.read.read_operand.Reads as read-operand-reads
+use Rattle.meaning.proofs.scope.resolve_ident.Reads as resolve-ident-reads
 use Rattle.expression.proofs.CallLaws.{call-laws}
 
 -- src/calls.rt:188:11

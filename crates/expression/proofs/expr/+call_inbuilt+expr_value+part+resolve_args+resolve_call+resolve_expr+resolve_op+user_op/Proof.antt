@@ -26,7 +26,7 @@ use Rattle.expression.proofs.expr.user_op.Reads as user-op
 use Rattle.expression.proofs.expr.user_op.Kinds as user-op-kinds
 use Rattle.expression.proofs.expr.+call_inbuilt+expr_value+part+resolve_args+resolve_call+resolve_expr+resolve_op+user_op.Lts-user_op as user-op-lts
 use Rattle.cells.proofs.byte.Reads as byte-reads
-use Rattle.expression.proofs.args.put_arg.Reads as put-arg-reads
+use Rattle.meaning.proofs.args.put_arg.Reads as put-arg-reads
 use Rattle.expression.proofs.calls.call_user_op.Reads as call-user-op-reads
 use Rattle.expression.proofs.calls.callee_of.Reads as callee-of-reads
 use Rattle.expression.proofs.calls.subpiece.Reads as subpiece-reads
@@ -38,8 +38,8 @@ use Rattle.expression.proofs.expr.operands_of.Reads as operands-of-read
 use Rattle.expression.proofs.expr.part_at.Reads as part-at-reads
 use Rattle.expression.proofs.expr.value_then.Reads as value-then-reads
 use Rattle.expression.proofs.expr.with_part.Reads as with-part-reads
-use Rattle.expression.proofs.read.read_operand.Reads as read-operand-reads
-use Rattle.expression.proofs.scope.u16_in.Reads as u16-in-reads
+use Rattle.meaning.proofs.read.read_operand.Reads as read-operand-reads
+use Rattle.meaning.proofs.scope.u16_in.Reads as u16-in-reads
 use Rattle.expression.proofs.expr.+call_inbuilt+expr_value+part+resolve_args+resolve_call+resolve_expr+resolve_op+user_op.{statement}
 use Rattle.expression.proofs.expr.+call_inbuilt+expr_value+part+resolve_args+resolve_call+resolve_expr+resolve_op+user_op.Tie.{close}
 use Rattle.expression.proofs.ExprLaws.{walk-laws, args-start, args-no, args-more, args-done}

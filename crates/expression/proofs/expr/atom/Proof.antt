@@ -7,8 +7,8 @@ use Rattle.cells.proofs.u64_at.Reads as u64-at-reads
 use Rattle.expression.proofs.expr.address_of.Reads as address-of-reads
 use Rattle.expression.proofs.expr.after.Reads as after-reads
 use Rattle.expression.proofs.expr.means_at.Reads as means-at-reads
-use Rattle.expression.proofs.scope.resolve_ident.Reads as resolve-ident-reads
-use Rattle.expression.proofs.scope.u16_in.Reads as u16-in-reads
+use Rattle.meaning.proofs.scope.resolve_ident.Reads as resolve-ident-reads
+use Rattle.meaning.proofs.scope.u16_in.Reads as u16-in-reads
 use Rattle.expression.proofs.ExprLaws.{expr-laws}
 
 -- src/expr.rt:99:56

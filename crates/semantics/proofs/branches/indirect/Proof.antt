@@ -3,7 +3,7 @@ use Rattle.semantics.proofs.branches.indirect.Statement.{statement}
 use Rattle.semantics.proofs.branches.indirect.Tie as tie
 use Rattle.semantics.proofs.branches.indirect.Reads as reads
 use Rattle.semantics.proofs.branches.indirect.Lts as lts
-use Rattle.expression.proofs.read.read_operand.Reads as read-operand-reads
+use Rattle.meaning.proofs.read.read_operand.Reads as read-operand-reads
 use Rattle.semantics.proofs.branches.branch_to.Reads as branch-to-reads
 use Rattle.semantics.proofs.walk.stop.Reads as stop-reads
 use Rattle.semantics.proofs.BranchLaws.{branch-laws}

@@ -6,8 +6,8 @@ use Rattle.semantics.proofs.branches.jump_value.Lts as lts
 use Rattle.cells.proofs.byte.Reads as byte-reads
 use Rattle.cells.proofs.u64_at.Reads as u64-at-reads
 use Rattle.expression.proofs.expr.after.Reads as after-reads
-use Rattle.expression.proofs.scope.resolve_ident.Reads as resolve-ident-reads
-use Rattle.expression.proofs.scope.u16_in.Reads as u16-in-reads
+use Rattle.meaning.proofs.scope.resolve_ident.Reads as resolve-ident-reads
+use Rattle.meaning.proofs.scope.u16_in.Reads as u16-in-reads
 use Rattle.semantics.proofs.BranchLaws.{branch-laws}
 use Rattle.semantics.proofs.BranchLaws.{jump-integer}
 

@@ -3,7 +3,7 @@ use Rattle.semantics.proofs.calls.bind_param.Statement.{statement}
 use Rattle.semantics.proofs.calls.bind_param.Tie as tie
 use Rattle.semantics.proofs.calls.bind_param.Reads as reads
 use Rattle.semantics.proofs.calls.bind_param.Lts as lts
-use Rattle.expression.proofs.scope.put_slot.Reads as put-slot-reads
+use Rattle.meaning.proofs.scope.put_slot.Reads as put-slot-reads
 use Rattle.pcode.proofs.value.put.Reads as put-reads
 use Rattle.semantics.proofs.CallLaws.{call-laws}
 

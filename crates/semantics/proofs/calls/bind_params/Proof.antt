@@ -2,9 +2,9 @@ use Rattle.semantics.proofs.calls.bind_params.Statement.{statement}
 use Rattle.semantics.proofs.calls.bind_params.Tie as tie
 use Rattle.semantics.proofs.calls.bind_params.Reads as reads
 use Rattle.semantics.proofs.calls.bind_params.Lts as lts
-use Rattle.expression.proofs.scope.param_place.Reads as param-place-reads
-use Rattle.expression.proofs.scope.slot_at.Reads as slot-at-reads
-use Rattle.expression.proofs.scope.u16_in.Reads as u16-in-reads
+use Rattle.meaning.proofs.scope.param_place.Reads as param-place-reads
+use Rattle.meaning.proofs.scope.slot_at.Reads as slot-at-reads
+use Rattle.meaning.proofs.scope.u16_in.Reads as u16-in-reads
 use Rattle.semantics.proofs.calls.bind_param.Reads as bind-param-reads
 use borrow.Author.Needs.{needs}
 use mathlib.Core.Path.{_≡_, refl}

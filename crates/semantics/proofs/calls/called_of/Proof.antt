@@ -4,7 +4,7 @@ use Rattle.semantics.proofs.calls.called_of.Tie as tie
 use Rattle.semantics.proofs.calls.called_of.Reads as reads
 use Rattle.semantics.proofs.calls.called_of.Lts as lts
 use Rattle.cells.proofs.u16_at.Reads as u16-at-reads
-use Rattle.expression.proofs.scope.global.Reads as global-reads
+use Rattle.meaning.proofs.scope.global.Reads as global-reads
 use Rattle.semantics.proofs.calls.symbol_of.Reads as symbol-of-reads
 use Rattle.semantics.proofs.CallLaws.{call-laws}
 use Rattle.semantics.proofs.CallLaws.{called-symbol}

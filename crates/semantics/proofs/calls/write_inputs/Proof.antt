@@ -2,7 +2,7 @@ use Rattle.semantics.proofs.calls.write_inputs.Statement.{statement}
 use Rattle.semantics.proofs.calls.write_inputs.Tie as tie
 use Rattle.semantics.proofs.calls.write_inputs.Reads as reads
 use Rattle.semantics.proofs.calls.write_inputs.Lts as lts
-use Rattle.expression.proofs.scope.param_place.Reads as param-place-reads
+use Rattle.meaning.proofs.scope.param_place.Reads as param-place-reads
 use Rattle.pcode.proofs.value.put_value.Reads as put-value-reads
 use Rattle.pcode.proofs.value.value_at.Reads as value-at-reads
 use borrow.Author.Needs.{needs}

@@ -3,7 +3,7 @@ use Rattle.semantics.proofs.copies.copy_bits.Statement.{statement}
 use Rattle.semantics.proofs.copies.copy_bits.Tie as tie
 use Rattle.semantics.proofs.copies.copy_bits.Reads as reads
 use Rattle.semantics.proofs.copies.copy_bits.Lts as lts
-use Rattle.expression.proofs.read.read_operand.Reads as read-operand-reads
+use Rattle.meaning.proofs.read.read_operand.Reads as read-operand-reads
 use Rattle.semantics.proofs.copies.write_bits.Reads as write-bits-reads
 use Rattle.semantics.proofs.CopyLaws.{bit-laws}
 use Rattle.semantics.proofs.CopyLaws.{copy-laws}

@@ -3,8 +3,8 @@ use Rattle.semantics.proofs.copies.copy_bytes.Statement.{statement}
 use Rattle.semantics.proofs.copies.copy_bytes.Tie as tie
 use Rattle.semantics.proofs.copies.copy_bytes.Reads as reads
 use Rattle.semantics.proofs.copies.copy_bytes.Lts as lts
-use Rattle.expression.proofs.read.read_value.Reads as read-value-reads
-use Rattle.expression.proofs.read.sliced.Reads as sliced-reads
+use Rattle.meaning.proofs.read.read_value.Reads as read-value-reads
+use Rattle.meaning.proofs.read.sliced.Reads as sliced-reads
 use Rattle.semantics.proofs.CopyLaws.{bit-laws}
 use Rattle.semantics.proofs.CopyLaws.{copy-laws}
 

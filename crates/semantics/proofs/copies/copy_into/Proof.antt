@@ -3,7 +3,7 @@ use Rattle.semantics.proofs.copies.copy_into.Statement.{statement}
 use Rattle.semantics.proofs.copies.copy_into.Tie as tie
 use Rattle.semantics.proofs.copies.copy_into.Reads as reads
 use Rattle.semantics.proofs.copies.copy_into.Lts as lts
-use Rattle.expression.proofs.read.read_value.Reads as read-value-reads
+use Rattle.meaning.proofs.read.read_value.Reads as read-value-reads
 use Rattle.semantics.proofs.copies.copy_ram.Reads as copy-ram-reads
 use Rattle.semantics.proofs.copies.copy_range.Reads as copy-range-reads
 use Rattle.semantics.proofs.walk.read_then.Reads as read-then-reads

@@ -3,7 +3,7 @@ use Rattle.semantics.proofs.copies.copy_ram.Statement.{statement}
 use Rattle.semantics.proofs.copies.copy_ram.Tie as tie
 use Rattle.semantics.proofs.copies.copy_ram.Reads as reads
 use Rattle.semantics.proofs.copies.copy_ram.Lts as lts
-use Rattle.expression.proofs.read.read_operand.Reads as read-operand-reads
+use Rattle.meaning.proofs.read.read_operand.Reads as read-operand-reads
 use Rattle.semantics.proofs.stores.store.Reads as store-reads
 use Rattle.semantics.proofs.walk.stop.Reads as stop-reads
 use Rattle.semantics.proofs.CopyLaws.{bit-laws}

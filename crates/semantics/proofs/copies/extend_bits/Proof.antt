@@ -4,7 +4,7 @@ use Rattle.semantics.proofs.copies.extend_bits.Tie as tie
 use Rattle.semantics.proofs.copies.extend_bits.Reads as reads
 use Rattle.semantics.proofs.copies.extend_bits.Lts as lts
 use Rattle.cells.proofs.mask.Reads as mask-reads
-use Rattle.expression.proofs.read.constant.Reads as constant-reads
+use Rattle.meaning.proofs.read.constant.Reads as constant-reads
 use Rattle.pcode.proofs.push.op_to.Reads as op-to-reads
 use Rattle.pcode.proofs.value.absent.Reads as absent-reads
 use Rattle.semantics.proofs.CopyLaws.{bit-laws}

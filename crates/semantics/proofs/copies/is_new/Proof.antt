@@ -3,7 +3,7 @@ use Rattle.semantics.proofs.copies.is_new.Statement.{statement}
 use Rattle.semantics.proofs.copies.is_new.Tie as tie
 use Rattle.semantics.proofs.copies.is_new.Reads as reads
 use Rattle.semantics.proofs.copies.is_new.Lts as lts
-use Rattle.expression.proofs.scope.resolve_ident.Reads as resolve-ident-reads
+use Rattle.meaning.proofs.scope.resolve_ident.Reads as resolve-ident-reads
 use Rattle.semantics.proofs.copies.is_wrong.Reads as is-wrong-reads
 use Rattle.semantics.proofs.CopyLaws.{bit-laws}
 use Rattle.semantics.proofs.CopyLaws.{copy-laws}

@@ -3,7 +3,7 @@ use Rattle.semantics.proofs.copies.keep_bits.Statement.{statement}
 use Rattle.semantics.proofs.copies.keep_bits.Tie as tie
 use Rattle.semantics.proofs.copies.keep_bits.Reads as reads
 use Rattle.semantics.proofs.copies.keep_bits.Lts as lts
-use Rattle.expression.proofs.read.constant.Reads as constant-reads
+use Rattle.meaning.proofs.read.constant.Reads as constant-reads
 use Rattle.pcode.proofs.push.op_to.Reads as op-to-reads
 use Rattle.semantics.proofs.copies.insert_bits.Reads as insert-bits-reads
 use Rattle.semantics.proofs.copies.mask_but.Reads as mask-but-reads

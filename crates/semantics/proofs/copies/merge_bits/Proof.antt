@@ -3,7 +3,7 @@ use Rattle.semantics.proofs.copies.merge_bits.Statement.{statement}
 use Rattle.semantics.proofs.copies.merge_bits.Tie as tie
 use Rattle.semantics.proofs.copies.merge_bits.Reads as reads
 use Rattle.semantics.proofs.copies.merge_bits.Lts as lts
-use Rattle.expression.proofs.read.constant.Reads as constant-reads
+use Rattle.meaning.proofs.read.constant.Reads as constant-reads
 use Rattle.pcode.proofs.push.op_to.Reads as op-to-reads
 use Rattle.semantics.proofs.CopyLaws.{bit-laws}
 use Rattle.semantics.proofs.CopyLaws.{copy-laws}

@@ -3,7 +3,7 @@ use Rattle.semantics.proofs.copies.new_target.Statement.{statement}
 use Rattle.semantics.proofs.copies.new_target.Tie as tie
 use Rattle.semantics.proofs.copies.new_target.Reads as reads
 use Rattle.semantics.proofs.copies.new_target.Lts as lts
-use Rattle.expression.proofs.scope.named_tmp.Reads as named-tmp-reads
+use Rattle.meaning.proofs.scope.named_tmp.Reads as named-tmp-reads
 use Rattle.semantics.proofs.copies.after_target.Reads as after-target-reads
 use Rattle.semantics.proofs.copies.target_size.Reads as target-size-reads
 use Rattle.semantics.proofs.CopyLaws.{bit-laws}

@@ -4,7 +4,7 @@ use Rattle.semantics.proofs.copies.target_name.Tie as tie
 use Rattle.semantics.proofs.copies.target_name.Reads as reads
 use Rattle.semantics.proofs.copies.target_name.Lts as lts
 use Rattle.cells.proofs.byte.Reads as byte-reads
-use Rattle.expression.proofs.scope.u16_in.Reads as u16-in-reads
+use Rattle.meaning.proofs.scope.u16_in.Reads as u16-in-reads
 use Rattle.semantics.proofs.CopyLaws.{bit-laws}
 use Rattle.semantics.proofs.CopyLaws.{copy-laws}
 use Rattle.semantics.proofs.CopyLaws.{name-part, name-none}

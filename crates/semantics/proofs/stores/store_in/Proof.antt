@@ -4,7 +4,7 @@ use Rattle.semantics.proofs.stores.store_in.Tie as tie
 use Rattle.semantics.proofs.stores.store_in.Reads as reads
 use Rattle.semantics.proofs.stores.store_in.Lts as lts
 use Rattle.expression.proofs.address.resolve_address.Reads as resolve-address-reads
-use Rattle.expression.proofs.scope.u16_in.Reads as u16-in-reads
+use Rattle.meaning.proofs.scope.u16_in.Reads as u16-in-reads
 use Rattle.semantics.proofs.stores.store_at.Reads as store-at-reads
 use Rattle.semantics.proofs.walk.stop.Reads as stop-reads
 use Rattle.semantics.proofs.SimpleLaws.{store-laws}

@@ -3,7 +3,7 @@ use Rattle.semantics.proofs.stores.store_register.Statement.{statement}
 use Rattle.semantics.proofs.stores.store_register.Tie as tie
 use Rattle.semantics.proofs.stores.store_register.Reads as reads
 use Rattle.semantics.proofs.stores.store_register.Lts as lts
-use Rattle.expression.proofs.read.set_stated.Reads as set-stated-reads
+use Rattle.meaning.proofs.read.set_stated.Reads as set-stated-reads
 use Rattle.pcode.proofs.push.push.Reads as push-reads
 use Rattle.pcode.proofs.value.absent.Reads as absent-reads
 use Rattle.semantics.proofs.walk.pushed_then.Reads as pushed-then-reads

@@ -1,0 +1,108 @@
+-- What a name means: a macro parameter, inst_next, inst_start, a local, a global register or bit range. In all of these s is
+-- the stream, t the section's table, p the words of the scopes, m the temporaries.
+use Prim.Native.Nat.{ℕ, zero, suc, _+_, _-_, _*_, _/_, _%_}
+use mathlib.Core.Bool.{Bool, false}
+use mathlib.Core.List.{List}
+use lib.ListN.{getD}
+use lib.Dec.{eqb, ltb}
+use Rattle.cells.specs.Le.{le16}
+use Rattle.pcode.specs.declared.value.Value.{Value}
+use Rattle.pcode.specs.declared.push.State.{State}
+use Rattle.pcode.specs.declared.push.Env.{Env}
+use Rattle.pcode.specs.declared.push.Read.{Read}
+use Rattle.pcode.specs.Base.{if_then_else_, Listed, listed}
+use Rattle.pcode.specs.Values.{local}
+use Rattle.pcode.specs.Sizes.{entry}
+use Rattle.pcode.specs.Pushes.{addTmp, onTmp}
+use Rattle.meaning.specs.declared.scope.ExprValue.{ExprValue}
+use Rattle.meaning.specs.declared.scope.Meaning.{Meaning}
+use Rattle.meaning.specs.declared.scope.Found.{Found}
+use Rattle.meaning.specs.Slots.{ofSlot, slotAt, paramPlace}
+
+-- one more than the number of the last of so many parameters that has the name, or 0
+unfoldable pub findParam : ℕ → List ℕ → ℕ → ℕ → ℕ
+findParam zero p params name = 0
+findParam (suc i) p params name =
+    if eqb (getD p (paramPlace params i + 0) 0) name then suc i else findParam i p params name
+
+-- whether a temporary's word has this name in this scope
+unfoldable pub isLocal : ℕ → ℕ → ℕ → Bool
+isLocal w name scope = if eqb (w % 65536) name then eqb (w / 1125899906842624) scope else false
+
+-- the first such of k temporaries from i on, or the one behind them
+unfoldable pub findLocal : ℕ → ℕ → List ℕ → ℕ → ℕ → ℕ
+findLocal zero i m name scope = i
+findLocal (suc k) i m name scope = if isLocal (getD m i 0) name scope then i else findLocal k (suc i) m name scope
+
+-- a field is 1 + 2 × its number, a subtable 2 + 2 × its number
+unfoldable pub ownOf : ℕ → Found
+ownOf k =
+    if eqb k 0 then Found.Nothing
+    else if eqb (k % 2) 1 then Found.Is (local 3 (k / 2))
+    else Found.Is (local 4 (k / 2 - 1))
+
+unfoldable pub ownLocal : List ℕ → ℕ → Found
+ownLocal t name = ownOf (getD t (2048 + name % 1024) 0)
+
+unfoldable pub tmpOf : ℕ → ℕ → Found
+tmpOf i n = if ltb i n then Found.Is (local 6 i) else Found.Nothing
+
+unfoldable pub tmpLocal : List ℕ → ℕ → ℕ → ℕ → Found
+tmpLocal m n name scope = tmpOf (findLocal n 0 m name scope) n
+
+unfoldable pub orTmp : Found → List ℕ → ℕ → ℕ → ℕ → Found
+orTmp (Found.Is v) m n name scope = Found.Is v
+orTmp Found.Nothing m n name scope = tmpLocal m n name scope
+
+unfoldable pub lookupLocal : List ℕ → List ℕ → ℕ → ℕ → ℕ → Found
+lookupLocal t m scope n name =
+    if eqb scope 0 then orTmp (ownLocal t name) m n name scope else tmpLocal m n name scope
+
+-- 0, or 1 + kind + 8 × the place in that kind's list
+unfoldable pub global : List ℕ → ℕ → ℕ
+global t name = getD t (1024 + name % 1024) 0
+
+-- what stands at an entry of the list of bit ranges
+unfoldable pub bitsAt : List ℕ → ℕ → ExprValue
+bitsAt s at = ExprValue.BitRange (local 2 (le16 s (at + 2))) (le16 s (at + 4)) (le16 s (at + 6))
+
+unfoldable pub bitRange : List ℕ → List ℕ → ℕ → ExprValue
+bitRange s t i = bitsAt s (entry t 2 (i % 65536 * 8))
+
+unfoldable pub globalMeaning : List ℕ → List ℕ → ℕ → Meaning
+globalMeaning s t g =
+    if eqb g 0 then Meaning.Wrong 22
+    else if eqb ((g - 1) % 8) 1 then Meaning.Means (ExprValue.Local (local 2 ((g - 1) / 8)))
+    else if eqb ((g - 1) % 8) 2 then Meaning.Means (bitRange s t ((g - 1) / 8))
+    else Meaning.Wrong 23
+
+unfoldable pub foundOr : Found → Meaning → Meaning
+foundOr (Found.Is v) other = Meaning.Means (ExprValue.Local v)
+foundOr Found.Nothing other = other
+
+-- inst_next, else inst_start, else a local, else a global
+unfoldable pub innerMeaning : List ℕ → List ℕ → List ℕ → Env → State → ℕ → Meaning
+innerMeaning s t m e st name =
+    if eqb name (le16 s 28) then Meaning.Means (ExprValue.Local (local 1 0))
+    else if eqb name (le16 s 26) then Meaning.Means (ExprValue.Local (local 0 0))
+    else foundOr (lookupLocal t m (e .scope) (st .temporaries) name) (globalMeaning s t (global t name))
+
+-- parameter number i - 1, unless i is 0
+unfoldable pub paramOr : ℕ → List ℕ → Env → Meaning → Meaning
+paramOr i p e other = if ltb 0 i then Meaning.Means (ofSlot (slotAt p (paramPlace (e .params) (i - 1)))) else other
+
+unfoldable pub resolveIdent : List ℕ → List ℕ → List ℕ → List ℕ → Env → State → ℕ → Meaning
+resolveIdent s t p m e st name =
+    paramOr (findParam (e .count) p (e .params) name) p e (innerMeaning s t m e st name)
+
+-- 21 where there was one of this name
+unfoldable pub undeclared : Found → Value → State → Read
+undeclared (Found.Is w) v st = Read.No 21
+undeclared Found.Nothing v st = Read.Value v st
+
+-- a temporary is made, then declared under its name
+unfoldable pub namedTmp : List ℕ → List ℕ → Env → ℕ → ℕ → State → Listed Read
+namedTmp t m e name size st =
+    onTmp (addTmp m name size (e .scope) st)
+    (λ v st1 w. listed (undeclared (lookupLocal t w (e .scope) (st .temporaries) name) v st1) w)
+    (λ n w. listed (Read.No n) w)

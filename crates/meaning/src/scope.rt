@@ -1,0 +1,344 @@
+// What a name means: a macro parameter, inst_next, inst_start, a local, a global register or bit range.
+use pcode::push::Env;
+use pcode::push::Read;
+use pcode::push::State;
+use pcode::push::add_tmp;
+use pcode::sizes::entry;
+use pcode::value::Value;
+use pcode::value::absent;
+use pcode::value::get;
+use pcode::value::local;
+use pcode::value::put;
+use pcode::value::put_value;
+use pcode::value::value_at;
+ghost use mathlib.Core.Path.{_≡_};
+ghost use Prim.Native.Nat.{_+_, _<_};
+ghost use Rattle.cells.specs.Le.{le16};
+ghost use Rattle.pcode.specs.Base.{listed};
+ghost use Rattle.meaning.specs.Slots.{oneValue, slotOf, ofSlot, putSlot, slotAt, paramPlace};
+ghost use Rattle.meaning.specs.Scopes.{findParam, isLocal, findLocal, ownLocal, tmpLocal, orTmp, lookupLocal, global, bitRange, globalMeaning, innerMeaning, resolveIdent, namedTmp};
+
+// What an expression means before it is read.
+pub enum ExprValue {
+    Local(Value),
+    Unbound(Value),
+    Const {
+        value: u64,
+        size: u64,
+    },
+    Apply {
+        op: u64,
+        number: u64,
+        count: u64,
+        a: Value,
+        b: Value,
+    },
+    RamRef {
+        pointer: Value,
+        size: u64,
+    },
+    RegisterRef {
+        pointer: Value,
+        size: u64,
+    },
+    AddressOf {
+        base: Value,
+        size: u64,
+    },
+    BitRange {
+        v: Value,
+        from: u64,
+        bits: u64,
+    },
+}
+
+pub enum Meaning {
+    Means(ExprValue),
+    Wrong(u64),
+}
+
+// An expression's value as a parameter's slot of eight words keeps it: its name, which constructor, two numbers, two
+// values.
+pub struct Slot {
+    pub tag: u64,
+    pub x: u64,
+    pub y: u64,
+    pub a: Value,
+    pub b: Value,
+}
+
+// The number of two bytes, i after a position.
+pub fn u16_in(s: &[u8], at: usize, i: usize) -> u64
+    requires { ⌜ i < 16 ⌝ }
+    ensures { λ r. ⌜ (r ≡ le16 (now (s .entry)) (at + i)) × (r < 65536) ⌝ }
+{
+    cells::byte(s, at, i) + 256 * cells::byte(s, at, i + 1)
+}
+
+fn one_value(tag: u64, x: u64, y: u64, a: Value) -> Slot
+    ensures { λ r. ⌜ r ≡ oneValue tag x y a ⌝ }
+{
+    Slot {
+        tag,
+        x,
+        y,
+        a,
+        b: absent(),
+    }
+}
+
+pub fn slot_of(x: ExprValue) -> Slot
+    ensures { λ r. ⌜ r ≡ slotOf x ⌝ }
+{
+    match x {
+        ExprValue::Local(v) => one_value(0, 0, 0, v),
+        ExprValue::Unbound(v) => one_value(1, 0, 0, v),
+        ExprValue::Const { value, size } => one_value(2, value, size, absent()),
+        ExprValue::Apply {
+            op,
+            number,
+            count,
+            a,
+            b,
+        } => Slot {
+            tag: 3,
+            x: op % 256 + count % 256 * 256,
+            y: number,
+            a,
+            b,
+        },
+        ExprValue::RamRef { pointer, size } => one_value(4, size, 0, pointer),
+        ExprValue::RegisterRef { pointer, size } => one_value(5, size, 0, pointer),
+        ExprValue::AddressOf { base, size } => one_value(6, size, 0, base),
+        ExprValue::BitRange { v, from, bits } => one_value(7, from, bits, v),
+    }
+}
+
+pub fn of_slot(k: Slot) -> ExprValue
+    ensures { λ r. ⌜ r ≡ ofSlot k ⌝ }
+{
+    let tag = k.tag;
+    let x = k.x;
+    let y = k.y;
+    let a = k.a;
+    let b = k.b;
+    match tag {
+        0 => ExprValue::Local(a),
+        1 => ExprValue::Unbound(a),
+        2 => ExprValue::Const { value: x, size: y },
+        3 => ExprValue::Apply {
+            op: x % 256,
+            number: y,
+            count: x / 256,
+            a,
+            b,
+        },
+        4 => ExprValue::RamRef {
+            pointer: a,
+            size: x,
+        },
+        5 => ExprValue::RegisterRef {
+            pointer: a,
+            size: x,
+        },
+        6 => ExprValue::AddressOf { base: a, size: x },
+        _ => ExprValue::BitRange {
+            v: a,
+            from: x,
+            bits: y,
+        },
+    }
+}
+
+pub fn put_slot(p: &mut [u64], at: usize, k: Slot)
+    ensures { λ _. ⌜ now (p .exit) ≡ putSlot (now (p .entry)) at k ⌝ }
+{
+    put(p, at, 1, k.tag);
+    put(p, at, 2, k.x);
+    put(p, at, 3, k.y);
+    put_value(p, at, 4, k.a);
+    put_value(p, at, 6, k.b);
+}
+
+pub fn slot_at(p: &[u64], at: usize) -> Slot
+    ensures { λ r. ⌜ r ≡ slotAt (now (p .entry)) at ⌝ }
+{
+    Slot {
+        tag: get(p, at, 1),
+        x: get(p, at, 2),
+        y: get(p, at, 3),
+        a: value_at(p, at, 4),
+        b: value_at(p, at, 6),
+    }
+}
+
+// Where the slot of parameter i stands: eight words each, from a place on.
+pub fn param_place(params: usize, i: usize) -> usize
+    ensures { λ r. ⌜ r ≡ paramPlace params i ⌝ }
+{
+    params % 2048 + i % 8 * 8
+}
+
+// One more than the number of the last parameter of that name, or 0.
+fn find_param(p: &[u64], params: usize, count: usize, name: u64) -> usize
+    ensures { λ r. ⌜ r ≡ findParam count (now (p .entry)) params name ⌝ }
+{
+    let mut i = count;
+    while 0 < i {
+        if get(p, param_place(params, i - 1), 0) == name {
+            return i;
+        }
+        i -= 1;
+    }
+    0
+}
+
+fn is_local(w: u64, name: u64, scope: u64) -> bool
+    ensures { λ r. ⌜ r ≡ isLocal w name scope ⌝ }
+{
+    if w % 65536 == name {
+        w / 1125899906842624 == scope
+    } else {
+        false
+    }
+}
+
+// The first of n temporaries that has this name in this scope, or n.
+fn find_local(m: &[u64], n: usize, name: u64, scope: u64) -> usize
+    ensures { λ r. ⌜ r ≡ findLocal n 0 (now (m .entry)) name scope ⌝ }
+{
+    let mut i = 0;
+    while i < n {
+        if is_local(cells::get(m, i), name, scope) {
+            return i;
+        }
+        i += 1;
+    }
+    i
+}
+
+pub enum Found {
+    Is(Value),
+    Nothing,
+}
+
+// A field or a subtable, which only the section's own scope has.
+fn own_local(t: &[u16], name: u64) -> Found
+    ensures { λ r. ⌜ r ≡ ownLocal (now (t .entry)) name ⌝ }
+{
+    let k = cells::get_u16(t, 2048 + (name % 1024) as usize) as u64;
+    if k == 0 {
+        return Found::Nothing;
+    }
+    if k % 2 == 1 {
+        return Found::Is(local(3, k / 2));
+    }
+    Found::Is(local(4, k / 2 - 1))
+}
+
+fn tmp_local(m: &[u64], n: usize, name: u64, scope: u64) -> Found
+    ensures { λ r. ⌜ r ≡ tmpLocal (now (m .entry)) n name scope ⌝ }
+{
+    let i = find_local(m, n, name, scope);
+    if i < n {
+        return Found::Is(local(6, i as u64));
+    }
+    Found::Nothing
+}
+
+fn or_tmp(x: Found, m: &[u64], n: usize, name: u64, scope: u64) -> Found
+    ensures { λ r. ⌜ r ≡ orTmp x (now (m .entry)) n name scope ⌝ }
+{
+    match x {
+        Found::Is(v) => Found::Is(v),
+        Found::Nothing => tmp_local(m, n, name, scope),
+    }
+}
+
+fn lookup_local(t: &[u16], m: &[u64], scope: u64, n: usize, name: u64) -> Found
+    ensures { λ r. ⌜ r ≡ lookupLocal (now (t .entry)) (now (m .entry)) scope n name ⌝ }
+{
+    if scope == 0 {
+        return or_tmp(own_local(t, name), m, n, name, scope);
+    }
+    tmp_local(m, n, name, scope)
+}
+
+// A global of a name: 0, or 1 + kind + 8 × its place in that kind's list.
+pub fn global(t: &[u16], name: u64) -> u64
+    ensures { λ r. ⌜ r ≡ global (now (t .entry)) name ⌝ }
+{
+    cells::get_u16(t, 1024 + (name % 1024) as usize) as u64
+}
+
+fn bit_range(s: &[u8], t: &[u16], i: u64) -> ExprValue
+    ensures { λ r. ⌜ r ≡ bitRange (now (s .entry)) (now (t .entry)) i ⌝ }
+{
+    let at = entry(t, 2, i % 65536 * 8);
+    ExprValue::BitRange {
+        v: local(2, u16_in(s, at, 2)),
+        from: u16_in(s, at, 4),
+        bits: u16_in(s, at, 6),
+    }
+}
+
+fn global_meaning(s: &[u8], t: &[u16], name: u64) -> Meaning
+    ensures { λ r. ⌜ r ≡ globalMeaning (now (s .entry)) (now (t .entry)) (global (now (t .entry)) name) ⌝ }
+{
+    let g = global(t, name);
+    if g == 0 {
+        return Meaning::Wrong(22);
+    }
+    let kind = (g - 1) % 8;
+    match kind {
+        1 => Meaning::Means(ExprValue::Local(local(2, (g - 1) / 8))),
+        2 => Meaning::Means(bit_range(s, t, (g - 1) / 8)),
+        _ => Meaning::Wrong(23),
+    }
+}
+
+fn inner_meaning(s: &[u8], t: &[u16], m: &[u64], e: Env, st: State, name: u64) -> Meaning
+    ensures { λ r. ⌜ r ≡ innerMeaning (now (s .entry)) (now (t .entry)) (now (m .entry)) e st name ⌝ }
+{
+    if name == cells::u16_at(s, 28) {
+        return Meaning::Means(ExprValue::Local(local(1, 0)));
+    }
+    if name == cells::u16_at(s, 26) {
+        return Meaning::Means(ExprValue::Local(local(0, 0)));
+    }
+    match lookup_local(t, m, e.scope, st.temporaries, name) {
+        Found::Is(v) => Meaning::Means(ExprValue::Local(v)),
+        Found::Nothing => global_meaning(s, t, name),
+    }
+}
+
+pub fn resolve_ident(
+    s: &[u8],
+    t: &[u16],
+    p: &[u64],
+    m: &[u64],
+    e: Env,
+    st: State,
+    name: u64,
+) -> Meaning
+    ensures { λ r. ⌜ r ≡ resolveIdent (now (s .entry)) (now (t .entry)) (now (p .entry)) (now (m .entry)) e st name ⌝ }
+{
+    let i = find_param(p, e.params, e.count, name);
+    if 0 < i {
+        return Meaning::Means(of_slot(slot_at(p, param_place(e.params, i - 1))));
+    }
+    inner_meaning(s, t, m, e, st, name)
+}
+
+// A named temporary is made, then declared.
+pub fn named_tmp(t: &[u16], m: &mut [u64], e: Env, name: u64, size: u64, st: State) -> Read
+    ensures { λ r. ⌜ listed r (now (m .exit)) ≡ namedTmp (now (t .entry)) (now (m .entry)) e name size st ⌝ }
+{
+    match add_tmp(m, name, size, e.scope, st) {
+        Read::No(n) => Read::No(n),
+        Read::Value { v, st: next } => match lookup_local(t, m, e.scope, st.temporaries, name) {
+            Found::Is(_) => Read::No(21),
+            Found::Nothing => Read::Value { v, st: next },
+        },
+    }
+}
