@@ -3,5 +3,3 @@ pub mod ValueLaws
 pub mod SizeLaws
 pub mod RuleLaws
 pub mod PushLaws
-mod PassLaws
-mod EndLaws

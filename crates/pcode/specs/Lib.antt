@@ -4,5 +4,3 @@ pub mod Values
 pub mod Sizes
 pub mod Rules
 pub mod Pushes
-pub mod Passes
-pub mod End

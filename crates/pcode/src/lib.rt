@@ -1,6 +1,4 @@
-// Values, the pushes that make actions of them, the size rules and the passes over the action list.
-pub mod end;
-pub mod passes;
+// Values, the pushes that make actions of them, and the size rules.
 pub mod push;
 pub mod rules;
 pub mod sizes;

@@ -18,7 +18,7 @@ use Rattle.definition.specs.End.{isBuild, builds}
 use Rattle.definition.specs.ActionList.{inputWords, actionKindNumber, operationWord, filled, actionWords, listWords}
 use Rattle.pcode.specs.Base.{if_then_else_, run, Listed, listed, thenL}
 use Rattle.pcode.specs.Values.{place}
-use Rattle.pcode.specs.End.{markBuild, markAction, markBuilt, zeroAction, writeBuild, implicitBuild, implicitBuilds, moveWord, moveAction, moveTo, moveDown, zeroFrom, assemble}
+use Rattle.ending.specs.End.{markBuild, markAction, markBuilt, zeroAction, writeBuild, implicitBuild, implicitBuilds, moveWord, moveAction, moveTo, moveDown, zeroFrom, assemble}
 use Rattle.refinement.specs.Encoding.{actionsIn}
 use Rattle.refinement.specs.Framing.{get-in, set-in}
 use Rattle.refinement.specs.Operands.{words-of, outNumber, outWord, action-length}

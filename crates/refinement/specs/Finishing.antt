@@ -22,10 +22,10 @@ use Rattle.definition.specs.End.{slicedInputs, isBuild, builds}
 use Rattle.definition.specs.ActionList.{orNone, inputWords, valueWords, actionKindNumber, operationWord, filled, actionWords, listWords}
 use Rattle.pcode.specs.declared.value.Value.{Value as WordValue}
 use Rattle.pcode.specs.declared.sizes.Sizing.{Sizing as WordSizing}
-use Rattle.pcode.specs.declared.end.Finished.{Finished}
+use Rattle.ending.specs.declared.end.Finished.{Finished}
 use Rattle.pcode.specs.Base.{if_then_else_, Listed, listed, thenL}
 use Rattle.pcode.specs.Values.{word, valueAt, putValue, place}
-use Rattle.pcode.specs.End.{finished, writeCopy, copyOf, subpieceCopy, finishFixed, finishOp, thenF, finishFrom, finishActions, fixOperands}
+use Rattle.ending.specs.End.{finished, writeCopy, copyOf, subpieceCopy, finishFixed, finishOp, thenF, finishFrom, finishActions, fixOperands}
 use Rattle.refinement.specs.Encoding.{encV, packed, actionsIn, temporariesIn, encZ, Sound, SoundTmp, Each, EachOption, SoundAction, SizesHold}
 use Rattle.refinement.specs.Framing.{get-in, set-in}
 use Rattle.refinement.specs.Operands.{word-is, words-of, outNumber, outWord, action-length, value-at}

@@ -17,11 +17,11 @@ use Rattle.definition.specs.Ast.{Section}
 use Rattle.definition.specs.Sizes as d
 use Rattle.definition.specs.Sizes.{Sizing, pointerSize, fallbackSize}
 use Rattle.definition.specs.ActionList.{orNone, valueWords, inputWords, actionKindNumber, operationWord, filled, actionWords}
-use Rattle.pcode.specs.declared.end.Fixed.{Fixed}
+use Rattle.ending.specs.declared.end.Fixed.{Fixed}
 use Rattle.pcode.specs.Base.{if_then_else_, run, listed, thenL}
 use Rattle.pcode.specs.Values.{valueAt, putValue, withSize}
 use Rattle.pcode.specs.Sizes.{sizeOf, error, fallsBack}
-use Rattle.pcode.specs.End.{fixed, fixSize, putFixed, fixOperand, fixInput, fixInputs, fixOutput, fixOperands}
+use Rattle.ending.specs.End.{fixed, fixSize, putFixed, fixOperand, fixInput, fixInputs, fixOutput, fixOperands}
 use Rattle.refinement.specs.Encoding.{encV, packed, temporariesIn, encZ, Sound, SoundTmp, Each, EachOption, SoundAction, SizesHold}
 use Rattle.refinement.specs.Framing.{get-in}
 use Rattle.refinement.specs.Operands.{kind-small, word-is, value-back, words-of, outNumber, outWord, action-length}

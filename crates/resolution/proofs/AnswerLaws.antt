@@ -6,7 +6,7 @@ use lib.ListN.{length, getD, set, take, replicate}
 use borrow.Author.Tests.{eq-eqb, ne-eqb, lt-ltb, le-ltb}
 use Rattle.pcode.specs.Base.{if_then_else_, run, listed, thenL}
 use Rattle.pcode.specs.Values.{word}
-use Rattle.pcode.specs.End.{zeroFrom, assemble}
+use Rattle.ending.specs.End.{zeroFrom, assemble}
 use Rattle.pcode.proofs.LoopLaws.{run-end}
 use Rattle.semantics.specs.declared.walk.Walk.{Walk}
 use Rattle.semantics.specs.declared.walk.Export.{Export}

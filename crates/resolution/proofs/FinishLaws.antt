@@ -5,13 +5,13 @@ use Prim.Native.Nat.{ℕ, _-_, _/_, _≤_, _<_}
 use borrow.Author.Tests.{eq-eqb, ne-eqb, lt-ltb, le-ltb}
 use Rattle.cells.specs.Le.{le16}
 use Rattle.pcode.specs.declared.sizes.Sizing.{Sizing}
-use Rattle.pcode.specs.declared.end.Fixed.{Fixed}
-use Rattle.pcode.specs.declared.end.Finished.{Finished}
+use Rattle.ending.specs.declared.end.Fixed.{Fixed}
+use Rattle.ending.specs.declared.end.Finished.{Finished}
 use Rattle.pcode.specs.Base.{if_then_else_, listed, thenL}
 use Rattle.pcode.specs.Values.{place}
 use Rattle.pcode.specs.Sizes.{sized, thenS}
-use Rattle.pcode.specs.Passes.{backwardPass, forwardPass}
-use Rattle.pcode.specs.End.{fixSize, finishActions}
+use Rattle.ending.specs.Passes.{backwardPass, forwardPass}
+use Rattle.ending.specs.End.{fixSize, finishActions}
 use Rattle.semantics.specs.declared.walk.Walk.{Walk}
 use Rattle.semantics.specs.declared.walk.Export.{Export}
 use Rattle.resolution.specs.declared.answer.Answer.{Answer}

@@ -5,7 +5,7 @@ use lib.ListN.{getD, set}
 use lib.Dec.{eqb, ltb}
 use Rattle.pcode.specs.Base.{if_then_else_, run, thenL}
 use Rattle.pcode.specs.Values.{word}
-use Rattle.pcode.specs.End.{zeroFrom, assemble}
+use Rattle.ending.specs.End.{zeroFrom, assemble}
 use Rattle.semantics.specs.declared.walk.Walk.{Walk}
 use Rattle.semantics.specs.declared.walk.Export.{Export}
 use Rattle.resolution.specs.declared.answer.Answer.{Answer}

@@ -102,7 +102,7 @@ pub fn accepted(
 ) -> Answer
     ensures { λ r. ⌜ resolvedTo r (now (a .exit)) (now (m .exit)) ≡ accepted (now (a .entry)) (now (m .entry)) subtables n w x ⌝ }
 {
-    let k = pcode::end::assemble(a, subtables, n);
+    let k = ending::end::assemble(a, subtables, n);
     let nt = w.st.temporaries;
     clear_marks(m, nt);
     cells::zero_from(m, nt);

@@ -47,7 +47,7 @@ fn finish_export(
         return judged(a, m, subtables, n, w, x, z);
     }
     let v = x.v;
-    let f = pcode::end::fix_size(s, t, m, v, ptr, z);
+    let f = ending::end::fix_size(s, t, m, v, ptr, z);
     let fixed = f.v;
     let y = Export {
         kind: x.kind,
@@ -71,7 +71,7 @@ fn finish_sized(
 ) -> Answer
     ensures { λ r. ⌜ resolvedTo r (now (a .exit)) (now (m .exit)) ≡ finishSized (now (s .entry)) (now (t .entry)) (now (a .entry)) (now (m .entry)) subtables n ptr w z ⌝ }
 {
-    let f = pcode::end::finish_actions(s, t, a, m, place(0, subtables), n, ptr, z);
+    let f = ending::end::finish_actions(s, t, a, m, place(0, subtables), n, ptr, z);
     if f.refusal != 0 {
         let y = f.z;
         return refused(a, m, f.refusal, y.begun, 0);
@@ -101,8 +101,8 @@ fn both_passes(
 ) -> Sizing
     ensures { λ r. ⌜ sized r (now (a .exit)) (now (m .exit)) ≡ bothPasses (now (s .entry)) (now (t .entry)) (now (a .entry)) (now (m .entry)) base n ptr z ⌝ }
 {
-    let y = pcode::passes::backward_pass(s, t, a, m, base, n, ptr, z);
-    pcode::passes::forward_pass(s, t, a, m, base, n, ptr, y)
+    let y = ending::passes::backward_pass(s, t, a, m, base, n, ptr, z);
+    ending::passes::forward_pass(s, t, a, m, base, n, ptr, y)
 }
 
 pub fn finish(s: &[u8], t: &[u16], a: &mut [u64], m: &mut [u64], ptr: u64, w: Walk) -> Answer

@@ -8,7 +8,7 @@ use lib.ListN.{length, replicate}
 use Rattle.definition.specs.Refusals.{Refusal, refusalNumber}
 use Rattle.definition.specs.ActionList as d
 use Rattle.definition.specs.ActionList.{orNone, filled, Answer}
-use Rattle.pcode.specs.End.{zeroFrom}
+use Rattle.ending.specs.End.{zeroFrom}
 use Rattle.resolution.specs.Answers.{Resolved, resolvedTo, refused}
 
 unfoldable pub asAnswer : Resolved → Answer

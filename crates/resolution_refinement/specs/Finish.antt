@@ -25,12 +25,12 @@ use Rattle.guarantee.specs.Finish as ends
 use Rattle.guarantee.specs.Layout.{SmallSection, Rough, backward-rough, forward-rough}
 use Rattle.guarantee.specs.Kept.{Kept}
 use Rattle.pcode.specs.declared.sizes.Sizing.{Sizing as WordSizing}
-use Rattle.pcode.specs.declared.end.Finished.{Finished}
+use Rattle.ending.specs.declared.end.Finished.{Finished}
 use Rattle.pcode.specs.Base.{if_then_else_, Listed, listed, thenL}
 use Rattle.pcode.specs.Values.{place}
 use Rattle.pcode.specs.Sizes.{thenS}
-use Rattle.pcode.specs.Passes.{backwardPass, forwardPass}
-use Rattle.pcode.specs.End.{fixSize, finishActions}
+use Rattle.ending.specs.Passes.{backwardPass, forwardPass}
+use Rattle.ending.specs.End.{fixSize, finishActions}
 use Rattle.semantics.specs.declared.walk.Walk.{Walk}
 use Rattle.semantics.specs.declared.walk.Export.{Export as WordExport}
 use Rattle.resolution.specs.Answers.{Resolved, refused, accepted}

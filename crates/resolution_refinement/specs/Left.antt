@@ -17,12 +17,12 @@ use Rattle.definition.specs.Walk.{State, Env, Outcome, done, stopped, on, Walk,
 use Rattle.definition.specs.End as d
 use Rattle.pcode.specs.declared.value.Value.{Value as WordValue}
 use Rattle.pcode.specs.declared.sizes.Sizing.{Sizing as WordSizing}
-use Rattle.pcode.specs.declared.end.Fixed.{Fixed}
-use Rattle.pcode.specs.declared.end.Finished.{Finished}
+use Rattle.ending.specs.declared.end.Fixed.{Fixed}
+use Rattle.ending.specs.declared.end.Finished.{Finished}
 use Rattle.pcode.specs.Base.{if_then_else_, run, Listed, listed, thenL}
 use Rattle.pcode.specs.Values.{withSize, valueAt, putValue, place}
 use Rattle.pcode.specs.Sizes.{sizeOf, error, fallsBack}
-use Rattle.pcode.specs.End.{fixed, finished, fixSize, putFixed, fixOperand, fixInput, fixInputs, fixOutput, fixOperands, writeCopy, copyOf, subpieceCopy, finishFixed, finishOp, thenF, finishFrom, finishActions}
+use Rattle.ending.specs.End.{fixed, finished, fixSize, putFixed, fixOperand, fixInput, fixInputs, fixOutput, fixOperands, writeCopy, copyOf, subpieceCopy, finishFixed, finishOp, thenF, finishFrom, finishActions}
 
 -- the words
 

@@ -21,7 +21,7 @@ use Rattle.guarantee.specs.Limits.{WithinLimits}
 use Rattle.guarantee.specs.Kept.{Kept, small-section}
 use Rattle.pcode.specs.Base.{if_then_else_}
 use Rattle.pcode.specs.Values.{place}
-use Rattle.pcode.specs.End.{zeroFrom}
+use Rattle.ending.specs.End.{zeroFrom}
 use Rattle.semantics.specs.Walks.{Stepped, Walked}
 use Rattle.bodies.specs.Statements.{resolveBody}
 use Rattle.section_refinement.specs.Holds.{Holds}

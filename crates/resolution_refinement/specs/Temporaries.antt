@@ -8,7 +8,7 @@ use lib.Seq.{getD-at, set-at, take-at}
 use Rattle.definition.specs.Value.{Temporary}
 use Rattle.definition.specs.ActionList.{filled, temporaryWord}
 use Rattle.pcode.specs.Base.{run}
-use Rattle.pcode.specs.End.{zeroFrom}
+use Rattle.ending.specs.End.{zeroFrom}
 use Rattle.resolution.specs.Answers.{clearMark, clearMarks}
 use Rattle.refinement.specs.Encoding.{markedWord, temporaryWords, temporariesIn, SoundTmp, Each}
 use Rattle.refinement.specs.Fixing.{filled-append}

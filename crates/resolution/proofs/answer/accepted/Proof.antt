@@ -4,7 +4,7 @@ use Rattle.resolution.proofs.answer.accepted.Tie as tie
 use Rattle.resolution.proofs.answer.accepted.Reads as reads
 use Rattle.resolution.proofs.answer.accepted.Lts as lts
 use Rattle.cells.proofs.zero_from.Reads as zero-from-reads
-use Rattle.pcode.proofs.end.assemble.Reads as assemble-reads
+use Rattle.ending.proofs.end.assemble.Reads as assemble-reads
 use Rattle.resolution.proofs.answer.clear_marks.Reads as clear-marks-reads
 use Rattle.resolution.proofs.answer.export_words.Reads as export-words-reads
 use Rattle.resolution.proofs.answer.points.Reads as points-reads

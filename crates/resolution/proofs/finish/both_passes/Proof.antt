@@ -3,8 +3,8 @@ use Rattle.resolution.proofs.finish.both_passes.Statement.{statement}
 use Rattle.resolution.proofs.finish.both_passes.Tie as tie
 use Rattle.resolution.proofs.finish.both_passes.Reads as reads
 use Rattle.resolution.proofs.finish.both_passes.Lts as lts
-use Rattle.pcode.proofs.passes.backward_pass.Reads as backward-pass-reads
-use Rattle.pcode.proofs.passes.forward_pass.Reads as forward-pass-reads
+use Rattle.ending.proofs.passes.backward_pass.Reads as backward-pass-reads
+use Rattle.ending.proofs.passes.forward_pass.Reads as forward-pass-reads
 use Rattle.resolution.proofs.FinishLaws.{finish-laws}
 
 -- src/finish.rt:94:9

@@ -3,7 +3,7 @@ use Rattle.resolution.proofs.finish.finish_export.Statement.{statement}
 use Rattle.resolution.proofs.finish.finish_export.Tie as tie
 use Rattle.resolution.proofs.finish.finish_export.Reads as reads
 use Rattle.resolution.proofs.finish.finish_export.Lts as lts
-use Rattle.pcode.proofs.end.fix_size.Reads as fix-size-reads
+use Rattle.ending.proofs.end.fix_size.Reads as fix-size-reads
 use Rattle.resolution.proofs.finish.judged.Reads as judged-reads
 use Rattle.resolution.proofs.FinishLaws.{finish-laws}
 

@@ -3,7 +3,7 @@ use Rattle.resolution.proofs.finish.finish_sized.Statement.{statement}
 use Rattle.resolution.proofs.finish.finish_sized.Tie as tie
 use Rattle.resolution.proofs.finish.finish_sized.Reads as reads
 use Rattle.resolution.proofs.finish.finish_sized.Lts as lts
-use Rattle.pcode.proofs.end.finish_actions.Reads as finish-actions-reads
+use Rattle.ending.proofs.end.finish_actions.Reads as finish-actions-reads
 use Rattle.pcode.proofs.value.place.Reads as place-reads
 use Rattle.resolution.proofs.answer.refused.Reads as refused-reads
 use Rattle.resolution.proofs.finish.finish_export.Reads as finish-export-reads

@@ -1,0 +1,33 @@
+use borrow.Author.Needs.{needs}
+use Rattle.ending.proofs.end.fix_operand.Statement.{statement}
+use Rattle.ending.proofs.end.fix_operand.Tie as tie
+use Rattle.ending.proofs.end.fix_operand.Reads as reads
+use Rattle.ending.proofs.end.fix_operand.Lts as lts
+use Rattle.ending.proofs.end.fix_size.Reads as fix-size-reads
+use Rattle.pcode.proofs.value.put_value.Reads as put-value-reads
+use Rattle.pcode.proofs.value.value_at.Reads as value-at-reads
+use Rattle.ending.proofs.EndLaws.{end-laws}
+
+-- src/end.rt:56:31
+value-at-requires : tie.Need-value-at-requires
+value-at-requires c κs = search (end-laws, needs)
+
+-- src/end.rt:56:9
+fix-size-requires : tie.Need-fix-size-requires
+fix-size-requires c κs = search (end-laws, needs)
+
+-- src/end.rt:57:5
+put-value-requires : tie.Need-put-value-requires
+put-value-requires c κs = search (end-laws, needs)
+
+-- src/end.rt:43:1
+same-length : tie.Need-same-length
+same-length c = search (end-laws, needs)
+
+-- src/end.rt:43:1
+returns : tie.Need-returns
+returns c = search (end-laws, needs)
+
+pub fix-operand-spec : {M : Type 1} → statement M
+fix-operand-spec =
+    tie.close (tie.spec value-at-requires fix-size-requires put-value-requires same-length returns)

@@ -1,0 +1,3 @@
+// The passes over the action list, and the end.
+pub mod end;
+pub mod passes;
