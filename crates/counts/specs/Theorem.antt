@@ -1,13 +1,12 @@
 -- The counts that the words give are those of the section that the definition reads.
 use Prim.Native.Nat.{ℕ, _/_, _≤_}
-use mathlib.Core.Path.{_≡_, refl, sym, _∙_, ap, subst}
-use mathlib.Core.Bool.{Bool, true, false}
+use mathlib.Core.Path.{_≡_, refl, _∙_, subst}
+use mathlib.Core.Bool.{true}
 use mathlib.Core.List.{List}
 use native.Mathlib.Omega.{arith}
 use lib.ListN.{length, replicate}
 use lib.Dec.{eqb}
 use borrow.Author.Tests.{eq-eqb}
-use Rattle.cells.specs.Le.{le16}
 use Rattle.definition.specs.Refusals.{refusalNumber}
 use Rattle.definition.specs.Ast.{Section}
 use Rattle.definition.specs.SectionFile.{Parsed, parsed, refused, on, streamOf, section, read}
@@ -18,7 +17,6 @@ use Rattle.section.specs.Stream.{readStream}
 use Rattle.section_refinement.specs.Agree.{refusal-bad}
 use Rattle.section_refinement.specs.FileTheorem.{noTable, stream-refusal, stream-holds, file-stream}
 use Rattle.resolution_refinement.specs.Start.{pointer-is}
-use Rattle.counts.specs.declared.Counts.{Counts}
 use Rattle.counts.specs.Counts.{counts, tableCounts, readCounts, streamCounts}
 
 stream-counts : (x : List ℕ) → length x ≤ 65280 → (y : Parsed Section) → section x ≡ y → streamCounts x ≡ counts (subtableCount y) (pointerSizeIn y)

@@ -8,7 +8,6 @@ use native.Mathlib.Omega.{arith}
 use lib.ListN.{length, getD, getElem?, take, drop}
 use lib.Dec.{eqb, leb, ltb}
 use borrow.Author.Tests.{lt-ltb, ne-eqb}
-use Rattle.definition.specs.Base as definition
 use Rattle.definition.specs.Refusals.{refusalNumber, subpieceArgument}
 use Rattle.definition.specs.Operations.{Operation, operationNumber}
 use Rattle.definition.specs.Value.{Value}

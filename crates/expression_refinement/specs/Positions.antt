@@ -39,7 +39,7 @@ passed v n len lim k c z h = go (eqb (c .bad) 0) (leb (c .at + n) len) (ltb v li
     go true false l p q r = let x : _≡_ {A = ℕ} 3 0 = rw (p, q) at h in absurd (omega arith)
     go false b l p q r = let x : c .bad ≡ 0 = rw p at h in absurd (eqb-false (c .bad) 0 p x)
 
-skipped : (s : List ℕ) (n p v : ℕ) → skip s n (cursor p 0 v) .bad ≡ 0 → skip s n (cursor p 0 v) .at ≡ p + n
+pub skipped : (s : List ℕ) (n p v : ℕ) → skip s n (cursor p 0 v) .bad ≡ 0 → skip s n (cursor p 0 v) .at ≡ p + n
 unfolding skip number if_then_else_
 skipped s n p v h = go (leb (p + n) (length s)) refl
   where
@@ -53,7 +53,7 @@ unfolding run
 run-stuck zero i f h c q = refl
 run-stuck (suc n) i f h c q = rw (h .stays c q) (run-stuck n (suc i) f h c q)
 
-run-good : (n i : ℕ) (f : Cursor → Cursor) → Stuck f → (c : Cursor) → run n i (λ _. f) c .bad ≡ 0 → c .bad ≡ 0
+pub run-good : (n i : ℕ) (f : Cursor → Cursor) → Stuck f → (c : Cursor) → run n i (λ _. f) c .bad ≡ 0 → c .bad ≡ 0
 run-good n i f h c q = go (eqb (c .bad) 0) refl
   where
     go : (b : Bool) → eqb (c .bad) 0 ≡ b → c .bad ≡ 0

@@ -140,7 +140,7 @@ local-get (t ∷ ts) marks behind name scope (suc i) h f = local-get ts (drop 1 
     shifted [] i = refl
     shifted (x ∷ xs) i = refl
 
-nameless : (ts : List Temporary) (i : ℕ) → length ts ≤ i → nameAt ts i ≡ none
+pub nameless : (ts : List Temporary) (i : ℕ) → length ts ≤ i → nameAt ts i ≡ none
 unfolding nameAt andThen
 nameless [] i h = refl
 nameless (t ∷ ts) zero h = absurd (omega arith)

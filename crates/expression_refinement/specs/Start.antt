@@ -1,16 +1,15 @@
 -- The section's own scope at the start: the table gives its fields and subtables, and there is no temporary.
-use Prim.Native.Nat.{ℕ, zero, suc, _+_, _-_, _*_, _/_, _%_, _<_}
-use mathlib.Core.Path.{_≡_, refl, sym, _∙_, ap}
+use Prim.Native.Nat.{ℕ, suc, _+_, _-_, _*_, _/_, _%_, _<_}
+use mathlib.Core.Path.{_≡_, refl}
 use mathlib.Core.Bool.{Bool, true, false}
 use mathlib.Core.List.{List, [], _∷_, _++_, map}
 use mathlib.Core.Option.{Option, none, some}
 use native.Mathlib.Omega.{arith}
-use lib.ListN.{getD}
 use lib.Dec.{eqb}
 use borrow.Author.Tests.{ne-eqb}
 use Rattle.definition.specs.Base as definition
 use Rattle.definition.specs.Base.{_or_, andThen, first, position, base-opens}
-use Rattle.definition.specs.Value.{Kind, kindNumber, Value, local}
+use Rattle.definition.specs.Value.{Kind, kindNumber, local}
 use Rattle.definition.specs.Ast.{Field, Subtable, Section}
 use Rattle.definition.specs.Scope.{find, locals, sectionScope}
 use Rattle.definition.specs.ActionList.{orNone}

@@ -202,7 +202,7 @@ module _ (e : Env) (s : State) (front tail marks rest : List ℕ) (lent : Lent e
             (24 * length (s .actions)) tail,
       ) (omega (arith, stands .actions))
 
-  push-test : leb (length front + 24 * length (s .actions) + 24) (length (actionsIn front tail (s .actions)))
+  pub push-test : leb (length front + 24 * length (s .actions) + 24) (length (actionsIn front tail (s .actions)))
       ≡ leb (length (s .actions) + 1 + length (e .section .subtables)) (e .actionRoom)
   push-test = rw list-long (go (leb (length front + 24 * length (s .actions) + 24) (length front + length tail)) refl)
     where

@@ -1,6 +1,6 @@
 -- The end of `resolve`: the passes, the actions finished, the export's size fixed, errors judged. What the words answer is
 -- what the definition answers.
-use Prim.Native.Nat.{ℕ, suc, _+_, _-_, _*_, _^_, _≤_, _<_}
+use Prim.Native.Nat.{ℕ, suc, _+_, _*_, _^_, _≤_, _<_}
 use mathlib.Core.Path.{_≡_, refl, sym, _∙_, ap, subst}
 use mathlib.Core.Bool.{Bool, true, false}
 use mathlib.Core.List.{List, [], _∷_, _++_}
@@ -10,7 +10,6 @@ use lib.ListN.{length, length-append, length-drop}
 use lib.Dec.{eqb}
 use borrow.Author.Tests.{eq-eqb, ne-eqb, le-ltb}
 use Rattle.cells.specs.Le.{le16}
-use Rattle.definition.specs.Base.{_or_}
 use Rattle.definition.specs.Refusals.{Refusal, refusalNumber, errorsRecorded}
 use Rattle.definition.specs.Value.{Value, SemanticAction, ExportKind, Export}
 use Rattle.definition.specs.Ast.{Section}

@@ -8,7 +8,7 @@ use mathlib.Core.Option.{Option, none, some}
 use lib.ListN.{length, getD, length-set}
 use lib.Dec.{eqb, leb, ltb}
 use Rattle.definition.specs.Base as definition
-use Rattle.definition.specs.Base.{_or_, andThen, base-opens}
+use Rattle.definition.specs.Base.{andThen, base-opens}
 use Rattle.definition.specs.Refusals.{Refusal, subpieceSize, offsetTooFar}
 use Rattle.definition.specs.Operations.{Operation, isOp}
 use Rattle.definition.specs.Value.{Value, SemanticAction, operationOf}

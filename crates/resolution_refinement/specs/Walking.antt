@@ -13,7 +13,7 @@ use Rattle.definition.specs.ActionList.{labelsPlaced}
 use Rattle.guarantee.specs.Limits.{WithinLimits}
 use Rattle.guarantee.specs.Outcomes.{start-kept}
 use Rattle.bodies.specs.Statements.{resolveBody}
-use Rattle.section_refinement.specs.Holds.{Holds, bodies}
+use Rattle.section_refinement.specs.Holds.{Holds}
 use Rattle.refinement.specs.FromSection.{TablesNamed}
 use Rattle.resolution.specs.Files as w
 use Rattle.resolution.specs.Files.{startEnv}
@@ -21,15 +21,10 @@ use Rattle.expression_refinement.specs.Answers.{acts, temps, word}
 use Rattle.expression_refinement.specs.Scopes.{BitRangesFit}
 use Rattle.semantics_refinement.specs.Given.{walkOf}
 use Rattle.semantics_refinement.specs.Standing.{Follows}
-use Rattle.semantics_refinement.specs.MacroPlaces.{ordinal-small}
+use Rattle.semantics_refinement.specs.MacroPlaces.{ordinal-is, ordinal-small}
 use Rattle.semantics_refinement.specs.Bodies.{Between, EnterFollows, StatementFollows, body-follows}
 use Rattle.resolution_refinement.specs.Start.{noScopes, roomOf, startBeside, frontOf, tailOf, start-given, start-standing}
 use Rattle.resolution_refinement.specs.Sections.{Walks}
-
-ordinal-is : (xs : List Macro) → d.ordinalAfter xs ≡ bodies xs
-unfolding d.ordinalAfter sum bodies
-ordinal-is [] = refl
-ordinal-is (x ∷ xs) = rw (← ordinal-is xs)
 
 all-taken : {A : Type 0} (xs : List A) → take (length xs) xs ≡ xs
 all-taken [] = refl

@@ -33,7 +33,7 @@ use Rattle.semantics.specs.declared.walk.Walk.{Walk}
 use Rattle.semantics.specs.declared.walk.Step.{Step}
 use Rattle.semantics.specs.Walks.{Walked, onStep}
 use Rattle.semantics.specs.Calls.{bindParams}
-use Rattle.bodies.specs.Statements.{statementBy, statementBegun, resolveStatement, resolveAll, macroEnv, paramsAt, bodyAt, entered, returned, returnedTo, macroBody, enterMacro, resolveBody}
+use Rattle.bodies.specs.Statements.{statementBy, statementBegun, resolveStatement, resolveAll, macroEnv, paramsAt, bodyAt, returned, returnedTo, macroBody, enterMacro, resolveBody}
 use Rattle.expression_refinement.specs.Encodings.{SoundX, count}
 use Rattle.expression_refinement.specs.Answers.{acts, temps, word}
 use Rattle.expression_refinement.specs.Expressions.{after-is}

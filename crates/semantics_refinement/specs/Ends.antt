@@ -1,26 +1,24 @@
 -- Where a statement that was read ends, by its code, where its last part does not say so; and the same of what a branch
 -- goes to.
-use Prim.Native.Nat.{ℕ, zero, suc, _+_, _≤_}
+use Prim.Native.Nat.{ℕ, _+_, _≤_}
 use mathlib.Core.Path.{_≡_, refl, sym, _∙_, ap}
-use mathlib.Core.Bool.{Bool, true, false}
 use mathlib.Core.List.{List}
 use native.Mathlib.Omega.{arith}
 use lib.ListN.{length, getD, drop}
-use lib.Dec.{eqb, leb}
-use borrow.Author.Tests.{eqb-true, le-leb, lt-ltb}
+use borrow.Author.Tests.{le-leb, lt-ltb}
 use Rattle.cells.specs.Le.{le16}
 use Rattle.definition.specs.Base.{if_then_else_}
 use Rattle.definition.specs.Ast.{PcodeExpr, JumpLabel, BranchDst, Statement}
 use Rattle.definition.specs.SectionFile.{parsed, refused, Read, exprWithin}
 use Rattle.definition.specs.SectionFile as d
 use Rattle.section.specs.declared.cursor.Cursor.{Cursor}
-use Rattle.section.specs.Cursors.{cursor, number, u8, u16, u16or, skip, run}
+use Rattle.section.specs.Cursors.{cursor, number, u8, u16, u16or, skip}
 use Rattle.section.specs.Expressions as expressions
 use Rattle.section.specs.Statements as section
-use Rattle.section_refinement.specs.Agree.{Agrees, went, stopped, Stuck, Any}
+use Rattle.section_refinement.specs.Agree.{Agrees, went, stopped, Any}
 use Rattle.section_refinement.specs.AgreeCode.{Reads, expr-agrees, jump-agrees, target-agrees, statement-agrees}
 use Rattle.section_refinement.specs.Inversion.{Begun, jump-begun, branch-dst-begun, statement-begun}
-use Rattle.expression_refinement.specs.Positions.{drop-same, passed, ends}
+use Rattle.expression_refinement.specs.Positions.{drop-same, skipped, run-good, passed, ends}
 
 -- a cursor comes to where a reading ends
 cursor-ends : {A : Type 0} (s : List ℕ) (r : Read A) (f : Cursor → Cursor) → Reads s Any r f → (pos v : ℕ) (x : A) (next : ℕ) → r (drop pos s) ≡ parsed x (drop next s) → pos ≤ length s → next ≤ length s → (w : ℕ) × (f (cursor pos 0 v) ≡ cursor next 0 w)
@@ -36,27 +34,6 @@ cursor-ends {A} s r f reads pos v x next h i j = go (reads .agrees pos v i)
 coded : (s : List ℕ) (n pos v : ℕ) → Begun s pos n → u8 s n 3 (cursor pos 0 v) ≡ cursor (pos + 1) 0 (getD s pos 0)
 unfolding u8 number if_then_else_
 coded s n pos v b = let i = b .inside in rw (le-leb (pos + 1) (length s) (omega arith), lt-ltb (getD s pos 0) n (b .known))
-
-skipped : (s : List ℕ) (n p v : ℕ) → skip s n (cursor p 0 v) .bad ≡ 0 → skip s n (cursor p 0 v) .at ≡ p + n
-unfolding skip number if_then_else_
-skipped s n p v h = go (leb (p + n) (length s)) refl
-  where
-    go : (b : Bool) → leb (p + n) (length s) ≡ b → skip s n (cursor p 0 v) .at ≡ p + n
-    go true q = rw q
-    go false q = let x : _≡_ {A = ℕ} 3 0 = rw q at h in absurd (omega arith)
-
--- a refused cursor passes the parts unchanged
-run-stuck : (n i : ℕ) (f : Cursor → Cursor) → Stuck f → (c : Cursor) → eqb (c .bad) 0 ≡ false → run n i (λ _. f) c ≡ c
-unfolding run
-run-stuck zero i f h c q = refl
-run-stuck (suc n) i f h c q = rw (h .stays c q) (run-stuck n (suc i) f h c q)
-
-run-good : (n i : ℕ) (f : Cursor → Cursor) → Stuck f → (c : Cursor) → run n i (λ _. f) c .bad ≡ 0 → c .bad ≡ 0
-run-good n i f h c q = go (eqb (c .bad) 0) refl
-  where
-    go : (b : Bool) → eqb (c .bad) 0 ≡ b → c .bad ≡ 0
-    go true r = eqb-true (c .bad) 0 r
-    go false r = rw (run-stuck n i f h c r) at q
 
 -- behind a name
 name-ends : (s : List ℕ) (m pos v next w : ℕ) → u16 s m 5 (cursor pos 0 v) ≡ cursor next 0 w → next ≡ pos + 2

@@ -16,7 +16,7 @@ use Rattle.semantics.specs.Calls.{macroAt}
 use Rattle.bodies.specs.Statements.{firstOrdinal}
 
 -- a macro's first ordinal is the number of statements in front of its body
-ordinal-is : (xs : List Macro) → d.ordinalAfter xs ≡ bodies xs
+pub ordinal-is : (xs : List Macro) → d.ordinalAfter xs ≡ bodies xs
 unfolding d.ordinalAfter sum bodies
 ordinal-is [] = refl
 ordinal-is (x ∷ xs) = rw (← ordinal-is xs)

@@ -4,7 +4,7 @@ use Prim.Native.Nat.{ℕ, _+_, _/_, _%_, _≤_, _<_}
 use mathlib.Core.Path.{_≡_}
 use mathlib.Core.Logic.{_≢_, _⊎_}
 use mathlib.Core.List.{List}
-use mathlib.Core.Option.{Option, none, some}
+use mathlib.Core.Option.{none, some}
 use lib.ListN.{length, getD}
 use Rattle.definition.specs.Refusals.{Refusal, refusalNumber}
 use Rattle.definition.specs.Walk.{State, Env, Outcome, done, stopped}

@@ -1,6 +1,6 @@
 -- Any statement follows the definition, where entering a macro does: a call by what it calls, every other kind by its code.
-use Prim.Native.Nat.{ℕ, _+_, _*_, _^_, _≤_, _<_}
-use mathlib.Core.Path.{_≡_, refl, sym, _∙_, ap, subst}
+use Prim.Native.Nat.{ℕ, _+_, _^_, _≤_, _<_}
+use mathlib.Core.Path.{_≡_, refl}
 use mathlib.Core.Bool.{Bool, true, false}
 use mathlib.Core.List.{List, [], _∷_}
 use native.Mathlib.Omega.{arith}
@@ -22,12 +22,11 @@ use Rattle.pcode.specs.Base.{if_then_else_}
 use Rattle.semantics.specs.Walks.{Walked}
 use Rattle.semantics.specs.Calls.{calledOf}
 use Rattle.bodies.specs.Statements.{otherStatement, callStatement, statementBy, enterMacro}
-use Rattle.expression_refinement.specs.Encodings.{Stood}
 use Rattle.expression_refinement.specs.Answers.{acts, temps, word}
 use Rattle.expression_refinement.specs.Below.{Spare}
 use Rattle.semantics_refinement.specs.Views.{Beside}
 use Rattle.semantics_refinement.specs.Given.{walkOf}
-use Rattle.semantics_refinement.specs.Standing.{Standing, Steps, Follows}
+use Rattle.semantics_refinement.specs.Standing.{Steps, Follows}
 use Rattle.semantics_refinement.specs.Ends.{call-inside}
 use Rattle.semantics_refinement.specs.Kinds.{labelsOf, other-statement-steps}
 use Rattle.semantics_refinement.specs.CallKinds.{other-call-steps}

@@ -33,7 +33,7 @@ use Rattle.semantics.specs.declared.walk.Step.{Step}
 use Rattle.semantics.specs.Walks.{Stepped, stepped, Walked, walked, besideP}
 use Rattle.expression_refinement.specs.Encodings.{encX, SoundX, nameAt, tmps, count, Later, sound-more}
 use Rattle.expression_refinement.specs.Answers.{acts, temps, word, seenExpr, seenOperand, Halts, Reached, Refines}
-use Rattle.expression_refinement.specs.Scopes.{scoped-later}
+use Rattle.expression_refinement.specs.Scopes.{nameless, scoped-later}
 use Rattle.semantics_refinement.specs.Views.{Beside, beside, seenStep, ExportIs, Goes}
 use Rattle.semantics_refinement.specs.Given.{walkOf}
 use Rattle.semantics_refinement.specs.Simple.{SoundExport}
@@ -59,12 +59,6 @@ seen-stop begun (stepped (Step.Stop n ordinal) b u) p k l h = (b, u, go (eqb ord
     go false q h = let i : 0 ≡ k = cc in absurd (omega arith)
 
 -- Names and marks of temporaries.
-
-nameless : (ts : List Temporary) (i : ℕ) → length ts ≤ i → nameAt ts i ≡ none
-unfolding nameAt andThen
-nameless [] i h = refl
-nameless (t ∷ ts) zero h = absurd (omega arith)
-nameless (t ∷ ts) (suc i) h = nameless ts i (omega arith)
 
 pub name-before : (ts us : List Temporary) (i : ℕ) → i < length ts → nameAt (ts ++ us) i ≡ nameAt ts i
 unfolding nameAt andThen

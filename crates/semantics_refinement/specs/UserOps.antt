@@ -8,7 +8,7 @@ use native.Mathlib.Omega.{arith}
 use lib.ListN.{length, getD, set, drop, replicate, length-append, length-drop, length-set, length-replicate}
 use lib.Seq.{drop-drop, getD-set-same, getD-set-other}
 use lib.Dec.{leb}
-use borrow.Author.Tests.{eq-eqb, leb-true, leb-false, le-leb, lt-leb}
+use borrow.Author.Tests.{eq-eqb, leb-true}
 use Rattle.cells.specs.Le.{le16}
 use Rattle.definition.specs.Base.{base-opens}
 use Rattle.definition.specs.Refusals.{refusalNumber, listFull}
@@ -30,9 +30,10 @@ use Rattle.pcode.specs.declared.push.Pushed.{Pushed}
 use Rattle.pcode.specs.Base.{if_then_else_, run, Listed, listed, thenL}
 use Rattle.pcode.specs.Values.{absent, noOutput, word, valueOf, valueAt, putValue}
 use Rattle.pcode.specs.Pushes.{onPush, withEnd, writeOperands, writeZeros, writeHead, write, push}
+use Rattle.refinement.specs.Pushes.{push-test}
 use Rattle.refinement.specs.Encoding.{encV, packed, actionsIn, Sound, Each}
 use Rattle.refinement.specs.Operands.{word-is, value-back, outNumber, outWord, words-of}
-use Rattle.refinement.specs.Lists.{list-length, list-focus, focus-at, fill, fill-is}
+use Rattle.refinement.specs.Lists.{list-focus, focus-at, fill, fill-is}
 use Rattle.refinement.specs.Seen.{Seen, no, yes, seenPush}
 use Rattle.meaning.specs.Slots.{slotAt, paramPlace, argAt, putArg}
 use Rattle.expression.specs.Expressions.{resolveArgs, resolveExpr}
@@ -153,22 +154,6 @@ module _ (s t : List ℕ) (e : Env) (front tail marks rest : List ℕ) (we : Wor
   abbrev Stands : State → Type 0
   Stands st = Stood (e .section) tail marks rest spare st
 
-  list-long : (st : State) → Stands st → length (A st) ≡ length front + length tail
-  list-long st f = length-append front (listWords (st .actions) ++ drop (24 * length (st .actions)) tail)
-      ∙ rw (length-append (listWords (st .actions)) (drop (24 * length (st .actions)) tail), list-length (st .actions), length-drop (24 * length (st .actions)) tail) (omega (arith, f .actions))
-
-  -- the list has room for one action more in both
-  room-same : (st : State) → Stands st → leb (length front + 24 * length (st .actions) + 24) (length (A st)) ≡ leb (length (st .actions) + 1 + length (e .section .subtables)) (e .actionRoom)
-  room-same st f = rw (list-long st f) (go (leb (length front + 24 * length (st .actions) + 24) (length front + length tail)) refl)
-    where
-      go : (b : Bool) → leb (length front + 24 * length (st .actions) + 24) (length front + length tail) ≡ b → b ≡ leb (length (st .actions) + 1 + length (e .section .subtables)) (e .actionRoom)
-      go true p =
-          let h = leb-true (length front + 24 * length (st .actions) + 24) (length front + length tail) p in
-          sym (le-leb (length (st .actions) + 1 + length (e .section .subtables)) (e .actionRoom) (omega (arith, given .lent .builds, given .lent .actionRoom)))
-      go false p =
-          let h = leb-false (length front + 24 * length (st .actions) + 24) (length front + length tail) p in
-          sym (lt-leb (length (st .actions) + 1 + length (e .section .subtables)) (e .actionRoom) (omega (arith, given .lent .builds, given .lent .actionRoom)))
-
   module _ (st : State) (f : Stands st) (id : ℕ) (vs : List Value) (few : length vs ≤ 8) (sound : Each (Sound (e .section) (count st)) vs) where
     abbrev called : State
     called = withAction (opAction Operation.PcodeOp id vs none) st
@@ -218,7 +203,7 @@ module _ (s t : List ℕ) (e : Env) (front tail marks rest : List ℕ) (we : Wor
     user-op-pushed : (args : List ℕ) → ValuesIn args 0 vs
         → Refines (e .section) front tail marks rest spare st (λ _. tt {0}) (λ n (_ : Unit {0}). Unit {0}) (seenPush (M st) (pushUserOp (A st) args id (length vs) (W st))) (walks.opNoOutput Operation.PcodeOp id vs e st)
     unfolding pushUserOp push walks.push
-    user-op-pushed args g = rw (call-is id vs e st, room-same st f) (unfold on in pushed-is args g (leb (length (st .actions) + 1 + length (e .section .subtables)) (e .actionRoom)) refl)
+    user-op-pushed args g = rw (call-is id vs e st, push-test e st front tail marks rest (given .lent) (record { actions = f .actions; temporaries = f .temporaries; marked = f .marked; sizes = f .sizes })) (unfold on in pushed-is args g (leb (length (st .actions) + 1 + length (e .section .subtables)) (e .actionRoom)) refl)
 
 -- Arguments read in place: a slot's value is written over, the other slots stay.
 
