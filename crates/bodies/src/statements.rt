@@ -203,22 +203,11 @@ fn enter(
     let count = u16_in(s, start, 0);
     let inner = macro_env(e, scope, params, n);
     let first = first_ordinal(t, id);
-    returned(
-        body(
-            deep - 1,
-            s,
-            t,
-            p,
-            a,
-            m,
-            inner,
-            after(start, 2),
-            count,
-            first,
-            entered(w, st, scope),
-        ),
-        next,
-    )
+    let below = deep - 1;
+    let from = after(start, 2);
+    let w = entered(w, st, scope);
+    let r = body(below, s, t, p, a, m, inner, from, count, first, w);
+    returned(r, next)
 }
 
 fn macro_statement(
@@ -315,18 +304,8 @@ pub fn body(
     let mut at = pos;
     let mut w = w;
     for i in 0..n {
-        match statement(
-            deep,
-            s,
-            t,
-            p,
-            a,
-            m,
-            e,
-            at,
-            std::num::wrapping_add_u64(ordinal, i),
-            w,
-        ) {
+        let own = std::num::wrapping_add_u64(ordinal, i);
+        match statement(deep, s, t, p, a, m, e, at, own, w) {
             Step::Stop {
                 refusal,
                 ordinal: o,

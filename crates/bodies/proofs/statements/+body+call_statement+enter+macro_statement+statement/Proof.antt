@@ -1,8 +1,3 @@
-use borrow.Author.Needs.{needs}
-use mathlib.Core.Path.{_≡_}
-use lib.ListN.{length}
-use Rattle.bodies.specs.Statements.{enterMacro, resolveStatement, resolveAll, resolveBody}
-use Rattle.bodies.proofs.StatementLaws.{statement-laws}
 use Prim.Native.Nat.{ℕ, _<_, _+_, _*_, _-_}
 use borrow.Fn.Kinds.{In}
 use borrow.Fn.PlainCycle.{Measures, is, falls, and}
@@ -21,14 +16,6 @@ use Rattle.bodies.proofs.statements.+body+call_statement+enter+macro_st
 use Rattle.bodies.proofs.statements.statement.Reads as statement′
 use Rattle.bodies.proofs.statements.statement.Kinds as statement-kinds
 use Rattle.bodies.proofs.statements.+body+call_statement+enter+macro_statement+statement.Lts-statement as statement-lts
-use Rattle.cells.proofs.byte.Reads as byte-reads
-use Rattle.expression.proofs.expr.after.Reads as after-reads
-use Rattle.meaning.proofs.scope.u16_in.Reads as u16-in-reads
-use Rattle.semantics.proofs.calls.bind_params.Reads as bind-params-reads
-use Rattle.semantics.proofs.calls.called_of.Reads as called-of-reads
-use Rattle.semantics.proofs.calls.macro_args.Reads as macro-args-reads
-use Rattle.semantics.proofs.calls.macro_at.Reads as macro-at-reads
-use Rattle.semantics.proofs.calls.other_call.Reads as other-call-reads
 use Rattle.bodies.proofs.statements.begin.Reads as begin-reads
 use Rattle.bodies.proofs.statements.body_at.Reads as body-at-reads
 use Rattle.bodies.proofs.statements.entered.Reads as entered-reads
@@ -37,16 +24,24 @@ use Rattle.bodies.proofs.statements.macro_env.Reads as macro-env-reads
 use Rattle.bodies.proofs.statements.other_statement.Reads as other-statement-reads
 use Rattle.bodies.proofs.statements.params_at.Reads as params-at-reads
 use Rattle.bodies.proofs.statements.returned.Reads as returned-reads
+use Rattle.cells.proofs.byte.Reads as byte-reads
+use Rattle.expression.proofs.expr.after.Reads as after-reads
+use Rattle.meaning.proofs.scope.u16_in.Reads as u16-in-reads
+use Rattle.semantics.proofs.calls.bind_params.Reads as bind-params-reads
+use Rattle.semantics.proofs.calls.called_of.Reads as called-of-reads
+use Rattle.semantics.proofs.calls.macro_args.Reads as macro-args-reads
+use Rattle.semantics.proofs.calls.macro_at.Reads as macro-at-reads
+use Rattle.semantics.proofs.calls.other_call.Reads as other-call-reads
 use Rattle.semantics.proofs.walk.stop.Reads as stop-reads
 use Rattle.std.proofs.num.wrapping_add_u64.Reads as wrapping-add-u64-reads
-use Rattle.bodies.proofs.statements.+body+call_statement+enter+macro_statement+statement.{
-  statement,
-}
-use Rattle.bodies.proofs.statements.+body+call_statement+enter+macro_statement+statement.Tie.{
-  close,
-}
+use Rattle.bodies.proofs.statements.+body+call_statement+enter+macro_statement+statement.{ statement, }
+use Rattle.bodies.proofs.statements.+body+call_statement+enter+macro_statement+statement.Tie.{ close, }
+use borrow.Author.Needs.{needs}
+use mathlib.Core.Path.{_≡_}
+use lib.ListN.{length}
+use Rattle.bodies.specs.Statements.{enterMacro, resolveStatement, resolveAll, resolveBody}
+use Rattle.bodies.proofs.StatementLaws.{statement-laws, enter-body, body-next}
 use native.Mathlib.Omega.{arith}
-use Rattle.bodies.proofs.StatementLaws.{enter-body, body-next}
 
 abbrev μ-body : Measures 5 body-kinds.ps ℕ
 μ-body κs a = 5 * a .0 + 4
@@ -122,7 +117,7 @@ body-Inv-loop deep s t p₀ a₀ m₀ e pos n ordinal at₀ w₀ i₀ p a m at w
 abbrev body-μ-loop : body-lts.MeasureT-loop
 body-μ-loop deep s t p₀ a₀ m₀ e pos n ordinal at₀ w₀ i₀ p a m at w i = n - i
 
--- src/statements.rt:241:5
+-- src/statements.rt:306:5
 body-loop-holds : (t : ℕ) → body-lts.Need-loop-holds (
   wrapping-add-u64-reads.Asked,
   wrapping-add-u64-reads.Learnt,
@@ -131,7 +126,7 @@ body-loop-holds : (t : ℕ) → body-lts.Need-loop-holds (
 ) (body-at t) body.Post body-Inv-loop body-μ-loop
 body-loop-holds t c = search (statement-laws, needs)
 
--- src/statements.rt:242:53
+-- src/statements.rt:307:13
 body-wrapping-add-u64-requires : (t : ℕ) → body-lts.Need-wrapping-add-u64-requires (
   wrapping-add-u64-reads.Asked,
   wrapping-add-u64-reads.Learnt,
@@ -140,7 +135,7 @@ body-wrapping-add-u64-requires : (t : ℕ) → body-lts.Need-wrapping-add-u64-re
 ) (body-at t) body.Post body-Inv-loop body-μ-loop
 body-wrapping-add-u64-requires t c κs = search (statement-laws, needs)
 
--- src/statements.rt:242:15
+-- src/statements.rt:308:15
 body-statement-requires : (t : ℕ) → body-lts.Need-statement-requires (
   wrapping-add-u64-reads.Asked,
   wrapping-add-u64-reads.Learnt,
@@ -149,7 +144,7 @@ body-statement-requires : (t : ℕ) → body-lts.Need-statement-requires (
 ) (body-at t) body.Post body-Inv-loop body-μ-loop
 body-statement-requires t c κs = search (statement-laws, needs)
 
--- src/statements.rt:243:26
+-- src/statements.rt:310:17
 body-enum-known-refusal : (t : ℕ) → body-lts.Need-enum-known-refusal (
   wrapping-add-u64-reads.Asked,
   wrapping-add-u64-reads.Learnt,
@@ -158,7 +153,7 @@ body-enum-known-refusal : (t : ℕ) → body-lts.Need-enum-known-refusal (
 ) (body-at t) body.Post body-Inv-loop body-μ-loop
 body-enum-known-refusal t c = search (statement-laws, needs)
 
--- src/statements.rt:243:51
+-- src/statements.rt:312:18
 body-same-length : (t : ℕ) → body-lts.Need-same-length (
   wrapping-add-u64-reads.Asked,
   wrapping-add-u64-reads.Learnt,
@@ -167,7 +162,7 @@ body-same-length : (t : ℕ) → body-lts.Need-same-length (
 ) (body-at t) body.Post body-Inv-loop body-μ-loop
 body-same-length t c = search (statement-laws, needs)
 
--- src/statements.rt:243:51
+-- src/statements.rt:312:18
 body-same-length-2 : (t : ℕ) → body-lts.Need-same-length-2 (
   wrapping-add-u64-reads.Asked,
   wrapping-add-u64-reads.Learnt,
@@ -176,7 +171,7 @@ body-same-length-2 : (t : ℕ) → body-lts.Need-same-length-2 (
 ) (body-at t) body.Post body-Inv-loop body-μ-loop
 body-same-length-2 t c = search (statement-laws, needs)
 
--- src/statements.rt:243:51
+-- src/statements.rt:312:18
 body-same-length-3 : (t : ℕ) → body-lts.Need-same-length-3 (
   wrapping-add-u64-reads.Asked,
   wrapping-add-u64-reads.Learnt,
@@ -185,7 +180,7 @@ body-same-length-3 : (t : ℕ) → body-lts.Need-same-length-3 (
 ) (body-at t) body.Post body-Inv-loop body-μ-loop
 body-same-length-3 t c = search (statement-laws, needs)
 
--- src/statements.rt:243:51
+-- src/statements.rt:312:18
 body-returns : (t : ℕ) → body-lts.Need-returns (
   wrapping-add-u64-reads.Asked,
   wrapping-add-u64-reads.Learnt,
@@ -194,7 +189,7 @@ body-returns : (t : ℕ) → body-lts.Need-returns (
 ) (body-at t) body.Post body-Inv-loop body-μ-loop
 body-returns t c = search (statement-laws, needs)
 
--- src/statements.rt:247:26
+-- src/statements.rt:316:26
 body-enum-known-next : (t : ℕ) → body-lts.Need-enum-known-next (
   wrapping-add-u64-reads.Asked,
   wrapping-add-u64-reads.Learnt,
@@ -203,7 +198,7 @@ body-enum-known-next : (t : ℕ) → body-lts.Need-enum-known-next (
 ) (body-at t) body.Post body-Inv-loop body-μ-loop
 body-enum-known-next t c = search (statement-laws, needs)
 
--- src/statements.rt:241:9
+-- src/statements.rt:306:9
 body-add-i : (t : ℕ) → body-lts.Need-add-i (
   wrapping-add-u64-reads.Asked,
   wrapping-add-u64-reads.Learnt,
@@ -212,7 +207,7 @@ body-add-i : (t : ℕ) → body-lts.Need-add-i (
 ) (body-at t) body.Post body-Inv-loop body-μ-loop
 body-add-i t c = omega (arith, c .before .before .before .before .before .before .before .before .before .before .before .before .before .before .loop-test .taken, c .before .before .before .before .before .before .before .before .before .before .before .before .before .before .before .before .before .before .before .before .before .fits)
 
--- src/statements.rt:241:5
+-- src/statements.rt:306:5
 body-loop-less : (t : ℕ) → body-lts.Need-loop-less (
   wrapping-add-u64-reads.Asked,
   wrapping-add-u64-reads.Learnt,
@@ -221,16 +216,16 @@ body-loop-less : (t : ℕ) → body-lts.Need-loop-less (
 ) (body-at t) body.Post body-Inv-loop body-μ-loop
 body-loop-less t c = search (statement-laws, needs)
 
--- src/statements.rt:241:5
+-- src/statements.rt:306:5
 body-loop-again : (t : ℕ) → body-lts.Need-loop-again (
   wrapping-add-u64-reads.Asked,
   wrapping-add-u64-reads.Learnt,
   statement-below t,
   statement′.Post,
 ) (body-at t) body.Post body-Inv-loop body-μ-loop
-body-loop-again t c = (search (c .before .before .before .before .before .before .before .before .p .given, c .before .before .before .before .before .before .before .before .before .before .before .before .before .before .before .loop .inv .0, needs), search (c .before .before .before .before .before .before .a .given, c .before .before .before .before .before .before .before .before .before .before .before .before .before .before .before .loop .inv .1, needs), search (c .before .before .before .before .m .given, c .before .before .before .before .before .before .before .before .before .before .before .before .before .before .before .loop .inv .2, needs), body-next _ _ _ _ _ _ _ _ _ _ (c .before .before .before .before .before .before .before .before .before .before .before .before .before .before .before .loop .inv .3) (c .before .before .before .before .before .before .before .before .before .before .before .before .before .before .loop-test .taken) _ (c .before .before .before .before .before .before .before .before .before .before .wrapping-add-u64 .ensures) _ _ _ _ (c .before .before .before .before .before .before .before .before .before .statement .ensures) _ _ (search needs))
+body-loop-again t c = (search (c .before .before .before .before .before .before .before .before .p .given, c .before .before .before .before .before .before .before .before .before .before .before .before .before .before .before .loop .inv .0, needs), search (c .before .before .before .before .before .before .a .given, c .before .before .before .before .before .before .before .before .before .before .before .before .before .before .before .loop .inv .1, needs), search (c .before .before .before .before .m .given, c .before .before .before .before .before .before .before .before .before .before .before .before .before .before .before .loop .inv .2, needs), body-next _ _ _ _ _ _ _ _ _ _ (c .before .before .before .before .before .before .before .before .before .before .before .before .before .before .before .loop .inv .3) (c .before .before .before .before .before .before .before .before .before .before .before .before .before .before .loop-test .taken) _ (c .before .before .before .before .before .before .before .before .before .before .before .before .before .wrapping-add-u64 .ensures) _ _ _ _ (c .before .before .before .before .before .before .before .before .before .statement .ensures) _ _ (search needs))
 
--- src/statements.rt:236:1
+-- src/statements.rt:289:1
 body-same-length-4 : (t : ℕ) → body-lts.Need-same-length-4 (
   wrapping-add-u64-reads.Asked,
   wrapping-add-u64-reads.Learnt,
@@ -239,7 +234,7 @@ body-same-length-4 : (t : ℕ) → body-lts.Need-same-length-4 (
 ) (body-at t) body.Post body-Inv-loop body-μ-loop
 body-same-length-4 t c = search (statement-laws, needs)
 
--- src/statements.rt:236:1
+-- src/statements.rt:289:1
 body-same-length-5 : (t : ℕ) → body-lts.Need-same-length-5 (
   wrapping-add-u64-reads.Asked,
   wrapping-add-u64-reads.Learnt,
@@ -248,7 +243,7 @@ body-same-length-5 : (t : ℕ) → body-lts.Need-same-length-5 (
 ) (body-at t) body.Post body-Inv-loop body-μ-loop
 body-same-length-5 t c = search (statement-laws, needs)
 
--- src/statements.rt:236:1
+-- src/statements.rt:289:1
 body-same-length-6 : (t : ℕ) → body-lts.Need-same-length-6 (
   wrapping-add-u64-reads.Asked,
   wrapping-add-u64-reads.Learnt,
@@ -257,7 +252,7 @@ body-same-length-6 : (t : ℕ) → body-lts.Need-same-length-6 (
 ) (body-at t) body.Post body-Inv-loop body-μ-loop
 body-same-length-6 t c = search (statement-laws, needs)
 
--- src/statements.rt:236:1
+-- src/statements.rt:289:1
 body-returns-2 : (t : ℕ) → body-lts.Need-returns-2 (
   wrapping-add-u64-reads.Asked,
   wrapping-add-u64-reads.Learnt,
@@ -266,7 +261,7 @@ body-returns-2 : (t : ℕ) → body-lts.Need-returns-2 (
 ) (body-at t) body.Post body-Inv-loop body-μ-loop
 body-returns-2 t c = search (statement-laws, needs)
 
--- src/statements.rt:209:9
+-- src/statements.rt:248:9
 call-statement-byte-requires : (t : ℕ) → call-statement-lts.Need-byte-requires (
   byte-reads.Asked,
   byte-reads.Learnt,
@@ -281,7 +276,7 @@ call-statement-byte-requires : (t : ℕ) → call-statement-lts.Need-byte-requir
 ) (call-statement-at t) call-statement.Post
 call-statement-byte-requires t c κs = search (statement-laws, needs)
 
--- src/statements.rt:210:29
+-- src/statements.rt:249:29
 call-statement-u16-in-requires : (t : ℕ) → call-statement-lts.Need-u16-in-requires (
   byte-reads.Asked,
   byte-reads.Learnt,
@@ -296,7 +291,7 @@ call-statement-u16-in-requires : (t : ℕ) → call-statement-lts.Need-u16-in-re
 ) (call-statement-at t) call-statement.Post
 call-statement-u16-in-requires t c κs = search (statement-laws, needs)
 
--- src/statements.rt:210:9
+-- src/statements.rt:249:9
 call-statement-called-of-requires : (t : ℕ) → call-statement-lts.Need-called-of-requires (
   byte-reads.Asked,
   byte-reads.Learnt,
@@ -311,7 +306,7 @@ call-statement-called-of-requires : (t : ℕ) → call-statement-lts.Need-called
 ) (call-statement-at t) call-statement.Post
 call-statement-called-of-requires t c κs = search (statement-laws, needs)
 
--- src/statements.rt:212:9
+-- src/statements.rt:251:9
 call-statement-macro-statement-requires :
     (t : ℕ) → call-statement-lts.Need-macro-statement-requires (
       byte-reads.Asked,
@@ -327,7 +322,7 @@ call-statement-macro-statement-requires :
     ) (call-statement-at t) call-statement.Post
 call-statement-macro-statement-requires t c κs = search (statement-laws, needs)
 
--- src/statements.rt:212:9
+-- src/statements.rt:251:9
 call-statement-same-length : (t : ℕ) → call-statement-lts.Need-same-length (
   byte-reads.Asked,
   byte-reads.Learnt,
@@ -342,7 +337,7 @@ call-statement-same-length : (t : ℕ) → call-statement-lts.Need-same-length (
 ) (call-statement-at t) call-statement.Post
 call-statement-same-length t c = search (statement-laws, needs)
 
--- src/statements.rt:212:9
+-- src/statements.rt:251:9
 call-statement-same-length-2 : (t : ℕ) → call-statement-lts.Need-same-length-2 (
   byte-reads.Asked,
   byte-reads.Learnt,
@@ -357,7 +352,7 @@ call-statement-same-length-2 : (t : ℕ) → call-statement-lts.Need-same-length
 ) (call-statement-at t) call-statement.Post
 call-statement-same-length-2 t c = search (statement-laws, needs)
 
--- src/statements.rt:212:9
+-- src/statements.rt:251:9
 call-statement-same-length-3 : (t : ℕ) → call-statement-lts.Need-same-length-3 (
   byte-reads.Asked,
   byte-reads.Learnt,
@@ -372,7 +367,7 @@ call-statement-same-length-3 : (t : ℕ) → call-statement-lts.Need-same-length
 ) (call-statement-at t) call-statement.Post
 call-statement-same-length-3 t c = search (statement-laws, needs)
 
--- src/statements.rt:212:9
+-- src/statements.rt:251:9
 call-statement-returns : (t : ℕ) → call-statement-lts.Need-returns (
   byte-reads.Asked,
   byte-reads.Learnt,
@@ -387,7 +382,7 @@ call-statement-returns : (t : ℕ) → call-statement-lts.Need-returns (
 ) (call-statement-at t) call-statement.Post
 call-statement-returns t c = search (statement-laws, needs)
 
--- src/statements.rt:214:5
+-- src/statements.rt:253:5
 call-statement-other-call-requires : (t : ℕ) → call-statement-lts.Need-other-call-requires (
   byte-reads.Asked,
   byte-reads.Learnt,
@@ -402,7 +397,7 @@ call-statement-other-call-requires : (t : ℕ) → call-statement-lts.Need-other
 ) (call-statement-at t) call-statement.Post
 call-statement-other-call-requires t c κs = search (statement-laws, needs)
 
--- src/statements.rt:206:1
+-- src/statements.rt:235:1
 call-statement-same-length-4 : (t : ℕ) → call-statement-lts.Need-same-length-4 (
   byte-reads.Asked,
   byte-reads.Learnt,
@@ -417,7 +412,7 @@ call-statement-same-length-4 : (t : ℕ) → call-statement-lts.Need-same-length
 ) (call-statement-at t) call-statement.Post
 call-statement-same-length-4 t c = search (statement-laws, needs)
 
--- src/statements.rt:206:1
+-- src/statements.rt:235:1
 call-statement-same-length-5 : (t : ℕ) → call-statement-lts.Need-same-length-5 (
   byte-reads.Asked,
   byte-reads.Learnt,
@@ -432,7 +427,7 @@ call-statement-same-length-5 : (t : ℕ) → call-statement-lts.Need-same-length
 ) (call-statement-at t) call-statement.Post
 call-statement-same-length-5 t c = search (statement-laws, needs)
 
--- src/statements.rt:206:1
+-- src/statements.rt:235:1
 call-statement-same-length-6 : (t : ℕ) → call-statement-lts.Need-same-length-6 (
   byte-reads.Asked,
   byte-reads.Learnt,
@@ -447,7 +442,7 @@ call-statement-same-length-6 : (t : ℕ) → call-statement-lts.Need-same-length
 ) (call-statement-at t) call-statement.Post
 call-statement-same-length-6 t c = search (statement-laws, needs)
 
--- src/statements.rt:206:1
+-- src/statements.rt:235:1
 call-statement-returns-2 : (t : ℕ) → call-statement-lts.Need-returns-2 (
   byte-reads.Asked,
   byte-reads.Learnt,
@@ -462,7 +457,7 @@ call-statement-returns-2 : (t : ℕ) → call-statement-lts.Need-returns-2 (
 ) (call-statement-at t) call-statement.Post
 call-statement-returns-2 t c = search (statement-laws, needs)
 
--- src/statements.rt:183:9
+-- src/statements.rt:196:9
 enter-stop-requires : (t : ℕ) → enter-lts.Need-stop-requires (
   stop-reads.Asked,
   stop-reads.Learnt,
@@ -493,7 +488,7 @@ enter-stop-requires : (t : ℕ) → enter-lts.Need-stop-requires (
 ) (enter-at t) enter.Post
 enter-stop-requires t c κs = search (statement-laws, needs)
 
--- src/statements.rt:183:9
+-- src/statements.rt:196:9
 enter-returns : (t : ℕ) → enter-lts.Need-returns (
   stop-reads.Asked,
   stop-reads.Learnt,
@@ -524,7 +519,7 @@ enter-returns : (t : ℕ) → enter-lts.Need-returns (
 ) (enter-at t) enter.Post
 enter-returns t c = search (statement-laws, needs)
 
--- src/statements.rt:185:9
+-- src/statements.rt:198:9
 enter-macro-at-requires : (t : ℕ) → enter-lts.Need-macro-at-requires (
   stop-reads.Asked,
   stop-reads.Learnt,
@@ -555,7 +550,7 @@ enter-macro-at-requires : (t : ℕ) → enter-lts.Need-macro-at-requires (
 ) (enter-at t) enter.Post
 enter-macro-at-requires t c κs = search (statement-laws, needs)
 
--- src/statements.rt:186:9
+-- src/statements.rt:199:9
 enter-params-at-requires : (t : ℕ) → enter-lts.Need-params-at-requires (
   stop-reads.Asked,
   stop-reads.Learnt,
@@ -586,7 +581,7 @@ enter-params-at-requires : (t : ℕ) → enter-lts.Need-params-at-requires (
 ) (enter-at t) enter.Post
 enter-params-at-requires t c κs = search (statement-laws, needs)
 
--- src/statements.rt:187:37
+-- src/statements.rt:200:37
 enter-after-requires : (t : ℕ) → enter-lts.Need-after-requires (
   stop-reads.Asked,
   stop-reads.Learnt,
@@ -617,7 +612,7 @@ enter-after-requires : (t : ℕ) → enter-lts.Need-after-requires (
 ) (enter-at t) enter.Post
 enter-after-requires t c κs = search (statement-laws, needs)
 
--- src/statements.rt:187:5
+-- src/statements.rt:200:5
 enter-bind-params-requires : (t : ℕ) → enter-lts.Need-bind-params-requires (
   stop-reads.Asked,
   stop-reads.Learnt,
@@ -648,7 +643,7 @@ enter-bind-params-requires : (t : ℕ) → enter-lts.Need-bind-params-requires (
 ) (enter-at t) enter.Post
 enter-bind-params-requires t c κs = search (statement-laws, needs)
 
--- src/statements.rt:188:9
+-- src/statements.rt:201:9
 enter-wrapping-add-u64-requires : (t : ℕ) → enter-lts.Need-wrapping-add-u64-requires (
   stop-reads.Asked,
   stop-reads.Learnt,
@@ -679,7 +674,7 @@ enter-wrapping-add-u64-requires : (t : ℕ) → enter-lts.Need-wrapping-add-u64-
 ) (enter-at t) enter.Post
 enter-wrapping-add-u64-requires t c κs = search (statement-laws, needs)
 
--- src/statements.rt:189:9
+-- src/statements.rt:202:9
 enter-body-at-requires : (t : ℕ) → enter-lts.Need-body-at-requires (
   stop-reads.Asked,
   stop-reads.Learnt,
@@ -710,7 +705,7 @@ enter-body-at-requires : (t : ℕ) → enter-lts.Need-body-at-requires (
 ) (enter-at t) enter.Post
 enter-body-at-requires t c κs = search (statement-laws, needs)
 
--- src/statements.rt:190:9
+-- src/statements.rt:203:9
 enter-u16-in-requires : (t : ℕ) → enter-lts.Need-u16-in-requires (
   stop-reads.Asked,
   stop-reads.Learnt,
@@ -741,7 +736,7 @@ enter-u16-in-requires : (t : ℕ) → enter-lts.Need-u16-in-requires (
 ) (enter-at t) enter.Post
 enter-u16-in-requires t c κs = search (statement-laws, needs)
 
--- src/statements.rt:191:9
+-- src/statements.rt:204:9
 enter-macro-env-requires : (t : ℕ) → enter-lts.Need-macro-env-requires (
   stop-reads.Asked,
   stop-reads.Learnt,
@@ -772,7 +767,7 @@ enter-macro-env-requires : (t : ℕ) → enter-lts.Need-macro-env-requires (
 ) (enter-at t) enter.Post
 enter-macro-env-requires t c κs = search (statement-laws, needs)
 
--- src/statements.rt:192:9
+-- src/statements.rt:205:9
 enter-first-ordinal-requires : (t : ℕ) → enter-lts.Need-first-ordinal-requires (
   stop-reads.Asked,
   stop-reads.Learnt,
@@ -803,8 +798,8 @@ enter-first-ordinal-requires : (t : ℕ) → enter-lts.Need-first-ordinal-requir
 ) (enter-at t) enter.Post
 enter-first-ordinal-requires t c κs = search (statement-laws, needs)
 
--- src/statements.rt:193:19
-enter-sub-body : (t : ℕ) → enter-lts.Need-sub-body (
+-- src/statements.rt:206:17
+enter-sub-below : (t : ℕ) → enter-lts.Need-sub-below (
   stop-reads.Asked,
   stop-reads.Learnt,
   macro-at-reads.Asked,
@@ -832,9 +827,9 @@ enter-sub-body : (t : ℕ) → enter-lts.Need-sub-body (
   returned-reads.Asked,
   returned-reads.Learnt,
 ) (enter-at t) enter.Post
-enter-sub-body t c = search (statement-laws, needs)
+enter-sub-below t c = search (statement-laws, needs)
 
--- src/statements.rt:193:51
+-- src/statements.rt:207:9
 enter-after-requires-2 : (t : ℕ) → enter-lts.Need-after-requires-2 (
   stop-reads.Asked,
   stop-reads.Learnt,
@@ -865,7 +860,7 @@ enter-after-requires-2 : (t : ℕ) → enter-lts.Need-after-requires-2 (
 ) (enter-at t) enter.Post
 enter-after-requires-2 t c κs = search (statement-laws, needs)
 
--- src/statements.rt:193:82
+-- src/statements.rt:208:9
 enter-entered-requires : (t : ℕ) → enter-lts.Need-entered-requires (
   stop-reads.Asked,
   stop-reads.Learnt,
@@ -896,7 +891,7 @@ enter-entered-requires : (t : ℕ) → enter-lts.Need-entered-requires (
 ) (enter-at t) enter.Post
 enter-entered-requires t c κs = search (statement-laws, needs)
 
--- src/statements.rt:193:14
+-- src/statements.rt:209:9
 enter-body-requires : (t : ℕ) → enter-lts.Need-body-requires (
   stop-reads.Asked,
   stop-reads.Learnt,
@@ -927,7 +922,7 @@ enter-body-requires : (t : ℕ) → enter-lts.Need-body-requires (
 ) (enter-at t) enter.Post
 enter-body-requires t c κs = search (c .before .before .before .before .before .before .before .before .before .before .before .before .before .before .before .before .before .if1 .left, c .before .before .before .before .before .before .before .before .before .before .before .before .before .before .before .before .before .before .before .before .before .before .before .before .pre, needs)
 
--- src/statements.rt:193:5
+-- src/statements.rt:210:5
 enter-returned-requires : (t : ℕ) → enter-lts.Need-returned-requires (
   stop-reads.Asked,
   stop-reads.Learnt,
@@ -958,7 +953,7 @@ enter-returned-requires : (t : ℕ) → enter-lts.Need-returned-requires (
 ) (enter-at t) enter.Post
 enter-returned-requires t c κs = search (statement-laws, needs)
 
--- src/statements.rt:179:1
+-- src/statements.rt:178:1
 enter-same-length : (t : ℕ) → enter-lts.Need-same-length (
   stop-reads.Asked,
   stop-reads.Learnt,
@@ -989,7 +984,7 @@ enter-same-length : (t : ℕ) → enter-lts.Need-same-length (
 ) (enter-at t) enter.Post
 enter-same-length t c = search (c .before .before .before .before .before .before .p2 .given, c .before .before .before .before .before .before .before .before .before .before .before .before .before .before .before .before .before .before .before .p .given, needs)
 
--- src/statements.rt:179:1
+-- src/statements.rt:178:1
 enter-same-length-2 : (t : ℕ) → enter-lts.Need-same-length-2 (
   stop-reads.Asked,
   stop-reads.Learnt,
@@ -1020,7 +1015,7 @@ enter-same-length-2 : (t : ℕ) → enter-lts.Need-same-length-2 (
 ) (enter-at t) enter.Post
 enter-same-length-2 t c = search (statement-laws, needs)
 
--- src/statements.rt:179:1
+-- src/statements.rt:178:1
 enter-same-length-3 : (t : ℕ) → enter-lts.Need-same-length-3 (
   stop-reads.Asked,
   stop-reads.Learnt,
@@ -1051,7 +1046,7 @@ enter-same-length-3 : (t : ℕ) → enter-lts.Need-same-length-3 (
 ) (enter-at t) enter.Post
 enter-same-length-3 t c = search (statement-laws, needs)
 
--- src/statements.rt:179:1
+-- src/statements.rt:178:1
 enter-returns-2 : (t : ℕ) → enter-lts.Need-returns-2 (
   stop-reads.Asked,
   stop-reads.Learnt,
@@ -1080,9 +1075,9 @@ enter-returns-2 : (t : ℕ) → enter-lts.Need-returns-2 (
   returned-reads.Asked,
   returned-reads.Learnt,
 ) (enter-at t) enter.Post
-enter-returns-2 t c = enter-body _ _ _ _ _ _ _ _ _ _ _ _ _ _ _ _ _ _ _ _ _ _ _ _ _ _ _ _ _ (c .before .before .before .before .before .before .before .before .before .before .before .before .before .before .before .before .before .before .before .before .before .before .before .before .before .if1 .left) (c .before .before .before .before .before .before .before .before .before .before .before .before .before .before .before .before .before .before .before .before .before .before .before .before .macro-at .ensures) (c .before .before .before .before .before .before .before .before .before .before .before .before .before .before .before .before .before .before .before .before .before .before .before .params-at .ensures) (c .before .before .before .before .before .before .before .before .before .before .before .before .before .before .before .before .before .before .before .before .before .after .ensures) (c .before .before .before .before .before .before .before .before .before .before .before .before .before .before .before .before .before .before .before .before .bind-params .ensures) (c .before .before .before .before .before .before .before .before .before .before .before .before .before .before .before .before .before .wrapping-add-u64 .ensures) (c .before .before .before .before .before .before .before .before .before .before .before .before .before .before .before .before .body-at .ensures) (c .before .before .before .before .before .before .before .before .before .before .before .before .before .before .before .u16-in .ensures) (c .before .before .before .before .before .before .before .before .before .before .before .before .before .before .macro-env .ensures) (c .before .before .before .before .before .before .before .before .before .before .before .before .before .first-ordinal .ensures) (c .before .before .before .before .before .before .before .before .before .after2 .ensures) (c .before .before .before .before .before .before .before .before .entered .ensures) (c .before .before .before .before .before .before .before .body .ensures) (c .returned .ensures)
+enter-returns-2 t c = enter-body _ _ _ _ _ _ _ _ _ _ _ _ _ _ _ _ _ _ _ _ _ _ _ _ _ _ _ _ _ (c .before .before .before .before .before .before .before .before .before .before .before .before .before .before .before .before .before .before .before .before .before .before .before .before .before .if1 .left) (c .before .before .before .before .before .before .before .before .before .before .before .before .before .before .before .before .before .before .before .before .before .before .before .before .macro-at .ensures) (c .before .before .before .before .before .before .before .before .before .before .before .before .before .before .before .before .before .before .before .before .before .before .before .params-at .ensures) (c .before .before .before .before .before .before .before .before .before .before .before .before .before .before .before .before .before .before .before .before .before .after .ensures) (c .before .before .before .before .before .before .before .before .before .before .before .before .before .before .before .before .before .before .before .before .bind-params .ensures) (c .before .before .before .before .before .before .before .before .before .before .before .before .before .before .before .before .before .wrapping-add-u64 .ensures) (c .before .before .before .before .before .before .before .before .before .before .before .before .before .before .before .before .body-at .ensures) (c .before .before .before .before .before .before .before .before .before .before .before .before .before .before .before .u16-in .ensures) (c .before .before .before .before .before .before .before .before .before .before .before .before .before .before .macro-env .ensures) (c .before .before .before .before .before .before .before .before .before .before .before .before .before .first-ordinal .ensures) (c .before .before .before .before .before .before .before .before .before .before .before .before .after2 .ensures) (c .before .before .before .before .before .before .before .before .before .before .before .entered .ensures) (c .before .before .before .before .before .before .before .body .ensures) (c .returned .ensures)
 
--- src/statements.rt:200:37
+-- src/statements.rt:229:37
 macro-statement-slice-aggregate-macro-args :
     (t : ℕ) → macro-statement-lts.Need-slice-aggregate-macro-args (
       macro-args-reads.Asked,
@@ -1094,7 +1089,7 @@ macro-statement-slice-aggregate-macro-args :
     ) (macro-statement-at t) macro-statement.Post
 macro-statement-slice-aggregate-macro-args t c = search (statement-laws, needs)
 
--- src/statements.rt:200:11
+-- src/statements.rt:229:11
 macro-statement-macro-args-requires : (t : ℕ) → macro-statement-lts.Need-macro-args-requires (
   macro-args-reads.Asked,
   macro-args-reads.Learnt,
@@ -1105,7 +1100,7 @@ macro-statement-macro-args-requires : (t : ℕ) → macro-statement-lts.Need-mac
 ) (macro-statement-at t) macro-statement.Post
 macro-statement-macro-args-requires t c κs = search (statement-laws, needs)
 
--- src/statements.rt:201:18
+-- src/statements.rt:230:18
 macro-statement-enum-known-k : (t : ℕ) → macro-statement-lts.Need-enum-known-k (
   macro-args-reads.Asked,
   macro-args-reads.Learnt,
@@ -1116,7 +1111,7 @@ macro-statement-enum-known-k : (t : ℕ) → macro-statement-lts.Need-enum-known
 ) (macro-statement-at t) macro-statement.Post
 macro-statement-enum-known-k t c = search (statement-laws, needs)
 
--- src/statements.rt:201:24
+-- src/statements.rt:230:24
 macro-statement-stop-requires : (t : ℕ) → macro-statement-lts.Need-stop-requires (
   macro-args-reads.Asked,
   macro-args-reads.Learnt,
@@ -1127,7 +1122,7 @@ macro-statement-stop-requires : (t : ℕ) → macro-statement-lts.Need-stop-requ
 ) (macro-statement-at t) macro-statement.Post
 macro-statement-stop-requires t c κs = search (statement-laws, needs)
 
--- src/statements.rt:202:22
+-- src/statements.rt:231:22
 macro-statement-enum-known-next : (t : ℕ) → macro-statement-lts.Need-enum-known-next (
   macro-args-reads.Asked,
   macro-args-reads.Learnt,
@@ -1138,7 +1133,7 @@ macro-statement-enum-known-next : (t : ℕ) → macro-statement-lts.Need-enum-kn
 ) (macro-statement-at t) macro-statement.Post
 macro-statement-enum-known-next t c = search (statement-laws, needs)
 
--- src/statements.rt:202:70
+-- src/statements.rt:231:70
 macro-statement-slice-aggregate-enter : (t : ℕ) → macro-statement-lts.Need-slice-aggregate-enter (
   macro-args-reads.Asked,
   macro-args-reads.Learnt,
@@ -1149,7 +1144,7 @@ macro-statement-slice-aggregate-enter : (t : ℕ) → macro-statement-lts.Need-s
 ) (macro-statement-at t) macro-statement.Post
 macro-statement-slice-aggregate-enter t c = search (statement-laws, needs)
 
--- src/statements.rt:202:36
+-- src/statements.rt:231:36
 macro-statement-enter-requires : (t : ℕ) → macro-statement-lts.Need-enter-requires (
   macro-args-reads.Asked,
   macro-args-reads.Learnt,
@@ -1160,7 +1155,7 @@ macro-statement-enter-requires : (t : ℕ) → macro-statement-lts.Need-enter-re
 ) (macro-statement-at t) macro-statement.Post
 macro-statement-enter-requires t c κs = search (statement-laws, needs)
 
--- src/statements.rt:196:1
+-- src/statements.rt:213:1
 macro-statement-same-length : (t : ℕ) → macro-statement-lts.Need-same-length (
   macro-args-reads.Asked,
   macro-args-reads.Learnt,
@@ -1171,7 +1166,7 @@ macro-statement-same-length : (t : ℕ) → macro-statement-lts.Need-same-length
 ) (macro-statement-at t) macro-statement.Post
 macro-statement-same-length t c = search (statement-laws, needs)
 
--- src/statements.rt:196:1
+-- src/statements.rt:213:1
 macro-statement-same-length-2 : (t : ℕ) → macro-statement-lts.Need-same-length-2 (
   macro-args-reads.Asked,
   macro-args-reads.Learnt,
@@ -1182,7 +1177,7 @@ macro-statement-same-length-2 : (t : ℕ) → macro-statement-lts.Need-same-leng
 ) (macro-statement-at t) macro-statement.Post
 macro-statement-same-length-2 t c = search (statement-laws, needs)
 
--- src/statements.rt:196:1
+-- src/statements.rt:213:1
 macro-statement-same-length-3 : (t : ℕ) → macro-statement-lts.Need-same-length-3 (
   macro-args-reads.Asked,
   macro-args-reads.Learnt,
@@ -1193,7 +1188,7 @@ macro-statement-same-length-3 : (t : ℕ) → macro-statement-lts.Need-same-leng
 ) (macro-statement-at t) macro-statement.Post
 macro-statement-same-length-3 t c = search (statement-laws, needs)
 
--- src/statements.rt:196:1
+-- src/statements.rt:213:1
 macro-statement-returns : (t : ℕ) → macro-statement-lts.Need-returns (
   macro-args-reads.Asked,
   macro-args-reads.Learnt,
@@ -1204,7 +1199,7 @@ macro-statement-returns : (t : ℕ) → macro-statement-lts.Need-returns (
 ) (macro-statement-at t) macro-statement.Post
 macro-statement-returns t c = search (statement-laws, needs)
 
--- src/statements.rt:196:1
+-- src/statements.rt:213:1
 macro-statement-same-length-4 : (t : ℕ) → macro-statement-lts.Need-same-length-4 (
   macro-args-reads.Asked,
   macro-args-reads.Learnt,
@@ -1215,7 +1210,7 @@ macro-statement-same-length-4 : (t : ℕ) → macro-statement-lts.Need-same-leng
 ) (macro-statement-at t) macro-statement.Post
 macro-statement-same-length-4 t c = search (statement-laws, needs)
 
--- src/statements.rt:196:1
+-- src/statements.rt:213:1
 macro-statement-same-length-5 : (t : ℕ) → macro-statement-lts.Need-same-length-5 (
   macro-args-reads.Asked,
   macro-args-reads.Learnt,
@@ -1226,7 +1221,7 @@ macro-statement-same-length-5 : (t : ℕ) → macro-statement-lts.Need-same-leng
 ) (macro-statement-at t) macro-statement.Post
 macro-statement-same-length-5 t c = search (statement-laws, needs)
 
--- src/statements.rt:196:1
+-- src/statements.rt:213:1
 macro-statement-same-length-6 : (t : ℕ) → macro-statement-lts.Need-same-length-6 (
   macro-args-reads.Asked,
   macro-args-reads.Learnt,
@@ -1237,7 +1232,7 @@ macro-statement-same-length-6 : (t : ℕ) → macro-statement-lts.Need-same-leng
 ) (macro-statement-at t) macro-statement.Post
 macro-statement-same-length-6 t c = search (statement-laws, needs)
 
--- src/statements.rt:196:1
+-- src/statements.rt:213:1
 macro-statement-returns-2 : (t : ℕ) → macro-statement-lts.Need-returns-2 (
   macro-args-reads.Asked,
   macro-args-reads.Learnt,
@@ -1248,7 +1243,7 @@ macro-statement-returns-2 : (t : ℕ) → macro-statement-lts.Need-returns-2 (
 ) (macro-statement-at t) macro-statement.Post
 macro-statement-returns-2 t c = search (statement-laws, needs)
 
--- src/statements.rt:220:11
+-- src/statements.rt:270:11
 statement-begin-requires : (t : ℕ) → statement-lts.Need-begin-requires (
   begin-reads.Asked,
   begin-reads.Learnt,
@@ -1261,7 +1256,7 @@ statement-begin-requires : (t : ℕ) → statement-lts.Need-begin-requires (
 ) (statement-at t) statement′.Post
 statement-begin-requires t c κs = search (statement-laws, needs)
 
--- src/statements.rt:221:22
+-- src/statements.rt:272:13
 statement-enum-known-refusal : (t : ℕ) → statement-lts.Need-enum-known-refusal (
   begin-reads.Asked,
   begin-reads.Learnt,
@@ -1274,7 +1269,7 @@ statement-enum-known-refusal : (t : ℕ) → statement-lts.Need-enum-known-refus
 ) (statement-at t) statement′.Post
 statement-enum-known-refusal t c = search (statement-laws, needs)
 
--- src/statements.rt:225:34
+-- src/statements.rt:278:34
 statement-enum-known-b : (t : ℕ) → statement-lts.Need-enum-known-b (
   begin-reads.Asked,
   begin-reads.Learnt,
@@ -1287,7 +1282,7 @@ statement-enum-known-b : (t : ℕ) → statement-lts.Need-enum-known-b (
 ) (statement-at t) statement′.Post
 statement-enum-known-b t c = search (statement-laws, needs)
 
--- src/statements.rt:226:17
+-- src/statements.rt:279:17
 statement-byte-requires : (t : ℕ) → statement-lts.Need-byte-requires (
   begin-reads.Asked,
   begin-reads.Learnt,
@@ -1300,7 +1295,7 @@ statement-byte-requires : (t : ℕ) → statement-lts.Need-byte-requires (
 ) (statement-at t) statement′.Post
 statement-byte-requires t c κs = search (statement-laws, needs)
 
--- src/statements.rt:228:17
+-- src/statements.rt:281:17
 statement-call-statement-requires : (t : ℕ) → statement-lts.Need-call-statement-requires (
   begin-reads.Asked,
   begin-reads.Learnt,
@@ -1313,7 +1308,7 @@ statement-call-statement-requires : (t : ℕ) → statement-lts.Need-call-statem
 ) (statement-at t) statement′.Post
 statement-call-statement-requires t c κs = search (statement-laws, needs)
 
--- src/statements.rt:228:17
+-- src/statements.rt:281:17
 statement-same-length : (t : ℕ) → statement-lts.Need-same-length (
   begin-reads.Asked,
   begin-reads.Learnt,
@@ -1326,7 +1321,7 @@ statement-same-length : (t : ℕ) → statement-lts.Need-same-length (
 ) (statement-at t) statement′.Post
 statement-same-length t c = search (statement-laws, needs)
 
--- src/statements.rt:228:17
+-- src/statements.rt:281:17
 statement-same-length-2 : (t : ℕ) → statement-lts.Need-same-length-2 (
   begin-reads.Asked,
   begin-reads.Learnt,
@@ -1339,7 +1334,7 @@ statement-same-length-2 : (t : ℕ) → statement-lts.Need-same-length-2 (
 ) (statement-at t) statement′.Post
 statement-same-length-2 t c = search (statement-laws, needs)
 
--- src/statements.rt:228:17
+-- src/statements.rt:281:17
 statement-same-length-3 : (t : ℕ) → statement-lts.Need-same-length-3 (
   begin-reads.Asked,
   begin-reads.Learnt,
@@ -1352,7 +1347,7 @@ statement-same-length-3 : (t : ℕ) → statement-lts.Need-same-length-3 (
 ) (statement-at t) statement′.Post
 statement-same-length-3 t c = search (statement-laws, needs)
 
--- src/statements.rt:228:17
+-- src/statements.rt:281:17
 statement-returns : (t : ℕ) → statement-lts.Need-returns (
   begin-reads.Asked,
   begin-reads.Learnt,
@@ -1365,7 +1360,7 @@ statement-returns : (t : ℕ) → statement-lts.Need-returns (
 ) (statement-at t) statement′.Post
 statement-returns t c = search (statement-laws, needs)
 
--- src/statements.rt:230:13
+-- src/statements.rt:283:13
 statement-other-statement-requires : (t : ℕ) → statement-lts.Need-other-statement-requires (
   begin-reads.Asked,
   begin-reads.Learnt,
@@ -1378,7 +1373,7 @@ statement-other-statement-requires : (t : ℕ) → statement-lts.Need-other-stat
 ) (statement-at t) statement′.Post
 statement-other-statement-requires t c κs = search (statement-laws, needs)
 
--- src/statements.rt:217:1
+-- src/statements.rt:256:1
 statement-returns-2 : (t : ℕ) → statement-lts.Need-returns-2 (
   begin-reads.Asked,
   begin-reads.Learnt,
@@ -1391,7 +1386,7 @@ statement-returns-2 : (t : ℕ) → statement-lts.Need-returns-2 (
 ) (statement-at t) statement′.Post
 statement-returns-2 t c = search (statement-laws, needs)
 
--- src/statements.rt:217:1
+-- src/statements.rt:256:1
 statement-same-length-4 : (t : ℕ) → statement-lts.Need-same-length-4 (
   begin-reads.Asked,
   begin-reads.Learnt,
@@ -1404,7 +1399,7 @@ statement-same-length-4 : (t : ℕ) → statement-lts.Need-same-length-4 (
 ) (statement-at t) statement′.Post
 statement-same-length-4 t c = search (statement-laws, needs)
 
--- src/statements.rt:217:1
+-- src/statements.rt:256:1
 statement-same-length-5 : (t : ℕ) → statement-lts.Need-same-length-5 (
   begin-reads.Asked,
   begin-reads.Learnt,
@@ -1417,7 +1412,7 @@ statement-same-length-5 : (t : ℕ) → statement-lts.Need-same-length-5 (
 ) (statement-at t) statement′.Post
 statement-same-length-5 t c = search (statement-laws, needs)
 
--- src/statements.rt:217:1
+-- src/statements.rt:256:1
 statement-same-length-6 : (t : ℕ) → statement-lts.Need-same-length-6 (
   begin-reads.Asked,
   begin-reads.Learnt,
@@ -1430,7 +1425,7 @@ statement-same-length-6 : (t : ℕ) → statement-lts.Need-same-length-6 (
 ) (statement-at t) statement′.Post
 statement-same-length-6 t c = search (statement-laws, needs)
 
--- src/statements.rt:217:1
+-- src/statements.rt:256:1
 statement-returns-3 : (t : ℕ) → statement-lts.Need-returns-3 (
   begin-reads.Asked,
   begin-reads.Learnt,
@@ -1539,7 +1534,7 @@ pub +body+call-statement+enter+macro-statement+statement-spec : {M : Type 1} →
     (enter-u16-in-requires t)
     (enter-macro-env-requires t)
     (enter-first-ordinal-requires t)
-    (enter-sub-body t)
+    (enter-sub-below t)
     (enter-after-requires-2 t)
     (enter-entered-requires t)
     (enter-body-requires t)

@@ -1,0 +1,211 @@
+// Prints the p-code of a section file for a person: a line for each action, then the export, then the counts and whether the
+// checker accepts the list; or a refusal in plain words. What cannot be listed is said in a sentence on standard error.
+use actions::actions;
+use libc::STDERR_FILENO;
+use mizgalon::Checked;
+use print::count;
+use print::text;
+use refusals::refusal;
+use refusals::refusal_at;
+use resolution::answer::Answer;
+use values::size;
+use values::value;
+
+mod actions;
+mod print;
+mod refusals;
+mod statements;
+mod values;
+
+fn say(text: &[u8]) {
+    io::write_all(STDERR_FILENO, text);
+}
+
+// How the export is reached: it is a value, or stands behind a pointer.
+fn export_space(r: Answer) {
+    text(b"  export ");
+    if r.kind == 1 {
+        return;
+    }
+    if r.kind == 2 {
+        text(b"*[ram]");
+    } else {
+        text(b"*[register]");
+    }
+    size(r.size);
+    text(b" ");
+}
+
+fn export(s: &[u8], t: &[u16], temporaries: &[u64], r: Answer) {
+    if r.kind == 0 {
+        return;
+    }
+    export_space(r);
+    value(s, t, temporaries, r.number, r.word);
+    text(b"\n");
+}
+
+fn verdict(passes: bool) {
+    if passes {
+        text(b"the checker accepts the list\n");
+        return;
+    }
+    text(b"the checker does not accept the list\n");
+}
+
+fn closing(r: Answer, passes: bool) {
+    count(r.actions, b"action", b"actions");
+    text(b", ");
+    count(r.temporaries, b"temporary", b"temporaries");
+    text(b", ");
+    count(r.labels, b"label", b"labels");
+    text(b", ");
+    count(r.statements, b"statement", b"statements");
+    text(b", ");
+    count(r.points, b"point", b"points");
+    text(b"; ");
+    verdict(passes);
+}
+
+fn accepted(s: &[u8], t: &[u16], list: &[u64], temporaries: &[u64], r: Checked) {
+    let a = r.answer;
+    actions(s, t, temporaries, list, a.actions);
+    export(s, t, temporaries, a);
+    closing(a, r.passes);
+}
+
+// The section of a stream and its table.
+fn list_section(s: &[u8], t: &[u16], list: &[u64], temporaries: &[u64], r: Checked) {
+    let a = r.answer;
+    if a.refusal != 0 {
+        refusal_at(s, t, a);
+        return;
+    }
+    let n = a.temporaries as usize;
+    if n <= temporaries.len() {
+        accepted(s, t, list, &temporaries[..n], r);
+    }
+}
+
+// The same, where the table is an array.
+fn list_table(s: &[u8], t: &[u16; 3344], list: &[u64], temporaries: &[u64], r: Checked) {
+    list_section(s, t, list, temporaries, r);
+}
+
+fn list_stream(s: &[u8], list: &[u64], temporaries: &[u64], r: Checked) {
+    let mut t = [0u16; 3344];
+    let bad = section::read_stream(s, &mut t);
+    if bad != 0 {
+        refusal(r.answer);
+        return;
+    }
+    list_table(s, &t, list, temporaries, r);
+}
+
+// The stream is the first n bytes, which are there.
+fn list_front(bytes: &[u8], n: usize, list: &[u64], temporaries: &[u64], r: Checked) {
+    if n <= bytes.len() {
+        list_stream(&bytes[..n], list, temporaries, r);
+    }
+}
+
+// A file of several blocks, whose payloads are joined.
+fn list_blocks(file: &[u8], list: &[u64], temporaries: &[u64], r: Checked) {
+    let mut buf = [0u8; 65280];
+    let n = file.len() / 512 * 510;
+    if n <= 65280 {
+        section::blocks::join(file, &mut buf);
+        list_front(&buf, n, list, temporaries, r);
+    }
+}
+
+fn list_file(file: &[u8], list: &[u64], temporaries: &[u64], r: Checked) {
+    if section::blocks::check_blocks(file) != 0 {
+        refusal(r.answer);
+        return;
+    }
+    if file.len() == 512 {
+        list_front(file, 510, list, temporaries, r);
+        return;
+    }
+    list_blocks(file, list, temporaries, r);
+}
+
+fn list_lists(file: &[u8], list: &[u64; 786432], temporaries: &[u64; 512], r: Checked) {
+    list_file(file, list, temporaries, r);
+}
+
+fn resolve_lists(file: &[u8], list: &mut [u64; 786432], temporaries: &mut [u64; 512]) -> Checked {
+    mizgalon::resolve_checked(file, list, temporaries)
+}
+
+// A section can have more actions than 32,768 (docs/DECISIONS.md says how many), but the usual stack of 8 MiB holds no longer
+// list.
+fn listing(file: &[u8]) {
+    let mut list = [0u64; 786432];
+    let mut temporaries = [0u64; 512];
+    let r = resolve_lists(file, &mut list, &mut temporaries);
+    if r.answer.refusal == 12 {
+        say(b"listing: the section has more than 32,768 actions, for which it has no room\n");
+        return;
+    }
+    list_lists(file, &list, &temporaries, r);
+}
+
+// The first n bytes, which are there.
+fn listing_first(file: &[u8], n: usize) {
+    if n <= file.len() {
+        listing(&file[..n]);
+    }
+}
+
+fn listing_read(file: &[u8; 65537], n: usize) {
+    listing_first(file, n);
+}
+
+fn read_failed(fd: i32, file: &mut [u8; 65537]) -> bool {
+    libc::read(fd, file) < 0
+}
+
+// A file of more than 65,536 bytes is not read to its end: one byte more is enough to refuse it.
+fn listing_open(fd: i32, path: &[u8]) {
+    let mut file = [0u8; 65537];
+    let n = io::read_full(fd, &mut file);
+    if n == 0 {
+        if read_failed(fd, &mut file) {
+            say(b"listing: the file cannot be read: ");
+            os::fail(path);
+            return;
+        }
+    }
+    listing_read(&file, n);
+}
+
+fn listing_path(path: &[u8]) {
+    let fd = os::open_read(path);
+    if fd < 0 {
+        say(b"listing: the file cannot be opened: ");
+        os::fail(path);
+        return;
+    }
+    listing_open(fd, path);
+    libc::close(fd);
+}
+
+fn usage() {
+    say(b"listing: name one section file: listing FILE\n");
+}
+
+fn main() {
+    let mut path = io::buffer();
+    let n = os::arg(1, &mut path);
+    if os::errno() != 0 {
+        usage();
+        return;
+    }
+    if os::arg_count() != 2 {
+        usage();
+        return;
+    }
+    listing_path(&path[..n]);
+}

@@ -1,0 +1,96 @@
+// A statement by its ordinal: its kind, and the macro in whose body it stands. Macro bodies have the lower ordinals.
+use crate::print::name;
+use crate::print::number;
+use crate::print::text;
+use section::cursor::Cursor;
+
+fn kind(code: u64) {
+    match code {
+        0 => text(b"unimplemented"),
+        1 => text(b"an export"),
+        2 => text(b"a local"),
+        3 => text(b"a local assignment"),
+        4 => text(b"a build"),
+        5 => text(b"a copy"),
+        6 => text(b"a store"),
+        7 => text(b"a call"),
+        8 => text(b"a branch"),
+        9 => text(b"a conditional branch"),
+        _ => text(b"a label"),
+    }
+}
+
+// Where statement n of those that begin at a place stands.
+fn place(s: &[u8], at: usize, n: u64) -> usize {
+    let c = Cursor { at, bad: 0, val: 0 };
+    section::statements::body(s, cells::u16_at(s, 2), n, c).at
+}
+
+// The kind of statement n of those that begin at a place.
+fn kind_at(s: &[u8], at: usize, n: u64) {
+    kind(cells::byte(s, place(s, at, n), 0));
+}
+
+// The ordinals count from first.
+fn since(ordinal: u64, first: u64) -> u64 {
+    if ordinal < first {
+        return 0;
+    }
+    ordinal - first
+}
+
+// The last macro whose body begins at the ordinal or before.
+fn macro_of(s: &[u8], t: &[u16], ordinal: u64) -> usize {
+    let n = cells::u16_at(s, 14) as usize;
+    let mut last: usize = 0;
+    for i in 0..n {
+        last = later(t, i, ordinal, last);
+    }
+    last
+}
+
+fn later(t: &[u16], i: usize, ordinal: u64, last: usize) -> usize {
+    if cells::get_u16(t, 3200 + i % 128) as u64 <= ordinal {
+        return i;
+    }
+    last
+}
+
+// Where the statements of a macro begin, whose parameter count stands at a place.
+fn body_at(s: &[u8], at: u16) -> usize {
+    at as usize + 3 + 2 * cells::byte(s, at as usize, 0) as usize
+}
+
+// The name that stands at a place.
+fn macro_name(s: &[u8], t: &[u16], at: usize) {
+    name(spellings::names::name(s, t, cells::u16_at(s, at)));
+}
+
+fn in_macro(s: &[u8], t: &[u16], ordinal: u64) {
+    let i = macro_of(s, t, ordinal) % 128;
+    let first = cells::get_u16(t, 3200 + i) as u64;
+    let at = cells::get_u16(t, 3072 + i);
+    kind_at(s, body_at(s, at), since(ordinal, first));
+    text(b" in macro ");
+    if 2 <= at {
+        macro_name(s, t, at as usize - 2);
+    }
+}
+
+fn described(s: &[u8], t: &[u16], ordinal: u64) {
+    let first = cells::get_u16(t, 3338) as u64;
+    if ordinal < first {
+        in_macro(s, t, ordinal);
+        return;
+    }
+    let at = cells::get_u16(t, 3337) as usize;
+    kind_at(s, at, since(ordinal, first));
+}
+
+pub fn statement(s: &[u8], t: &[u16], ordinal: u64) {
+    text(b"at statement ");
+    number(ordinal);
+    text(b", ");
+    described(s, t, ordinal);
+    text(b"\n");
+}

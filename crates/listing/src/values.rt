@@ -1,0 +1,81 @@
+// A value: what it is by the file's name, its byte offset after a plus, its size after a colon: `r1+2:4`.
+use crate::print::hexadecimal;
+use crate::print::name;
+use crate::print::number;
+use crate::print::text;
+
+// Whether a temporary but the one at i has the name n, as where a macro that declares it is called twice.
+fn is_shared(temporaries: &[u64], i: u64, n: u64) -> bool {
+    for j in 0..temporaries.len() {
+        if j as u64 != i {
+            if temporaries[j] % 65536 == n {
+                return true;
+            }
+        }
+    }
+    false
+}
+
+// Its name, and its number where another has that name too; t and its number where it has none.
+fn temporary(s: &[u8], t: &[u16], temporaries: &[u64], i: u64) {
+    let n = cells::get(temporaries, i as usize) % 65536;
+    if n == 65535 {
+        text(b"t");
+        number(i);
+        return;
+    }
+    name(spellings::names::name(s, t, n));
+    if is_shared(temporaries, i, n) {
+        text(b"#");
+        number(i);
+    }
+}
+
+// The name that stands at a place of the header.
+fn header_name(s: &[u8], t: &[u16], at: usize) {
+    name(spellings::names::name(s, t, cells::u16_at(s, at)));
+}
+
+pub fn subtable(s: &[u8], t: &[u16], i: u64) {
+    name(spellings::names::subtable(s, t, i));
+}
+
+// What a direct jump to a subtable goes to.
+fn reference(s: &[u8], t: &[u16], i: u64) {
+    text(b"&");
+    subtable(s, t, i);
+}
+
+fn base(s: &[u8], t: &[u16], temporaries: &[u64], kind: u64, i: u64) {
+    match kind {
+        0 => header_name(s, t, 26),
+        1 => header_name(s, t, 28),
+        2 => name(spellings::names::register(s, t, i)),
+        3 => name(spellings::names::field(s, t, i)),
+        4 => subtable(s, t, i),
+        5 => reference(s, t, i),
+        6 => temporary(s, t, temporaries, i),
+        _ => hexadecimal(i),
+    }
+}
+
+fn offset(n: u64) {
+    if n != 0 {
+        text(b"+");
+        number(n);
+    }
+}
+
+pub fn size(n: u64) {
+    if n != 65535 {
+        text(b":");
+        number(n);
+    }
+}
+
+// The value of two words.
+pub fn value(s: &[u8], t: &[u16], temporaries: &[u64], i: u64, word: u64) {
+    base(s, t, temporaries, word % 256, i);
+    offset(word / 256 % 65536);
+    size(word / 16777216);
+}

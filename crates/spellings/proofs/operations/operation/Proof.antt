@@ -1,0 +1,29 @@
+use borrow.Author.Needs.{needs}
+use Rattle.spellings.proofs.operations.operation.Statement.{statement}
+use Rattle.spellings.proofs.operations.operation.Tie as tie
+use Rattle.spellings.proofs.operations.operation.Reads as reads
+use Rattle.spellings.proofs.operations.operation.Lts as lts
+use Rattle.spellings.proofs.operations.put.Reads as put-reads
+use Rattle.spellings.proofs.operations.word.Reads as word-reads
+use Rattle.spellings.proofs.Laws.{name-fits}
+use native.Mathlib.Omega.{arith}
+use mathlib.Core.Path.{_∙_}
+use Rattle.spellings.specs.Operations.{operationText, operationNames}
+use Rattle.definition.specs.Spellings.{bytesOf}
+
+-- src/operations.rt:78:9
+word-requires : tie.Need-word-requires
+word-requires c κs = search needs
+
+-- src/operations.rt:78:5
+put-requires : tie.Need-put-requires
+unfolding operationText operationNames bytesOf
+put-requires c κs = rw (c .before .word .ensures) (omega (arith, name-fits (c .before .before .before .before .args .op)))
+
+-- src/operations.rt:74:1
+returns : tie.Need-returns
+unfolding operationText operationNames bytesOf
+returns c = (c .put .ensures .0, c .put .ensures .1 ∙ c .before .before .word .ensures)
+
+pub operation-spec : {M : Type 1} → statement M
+operation-spec = tie.close (tie.spec word-requires put-requires returns)
