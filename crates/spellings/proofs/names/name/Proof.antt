@@ -7,7 +7,6 @@ use Rattle.cells.proofs.get_u16.Reads as get-u16-reads
 use Rattle.spellings.proofs.names.spelled.Reads as spelled-reads
 use mathlib.Core.Path.{_∙_, ap}
 use Rattle.spellings.specs.Names.{nameOf}
-use Prim.Native.Nat.{ℕ}
 use Rattle.section_refinement.specs.Holds.{spelledAt}
 
 -- src/names.rt:27:14

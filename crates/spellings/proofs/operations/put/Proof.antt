@@ -4,11 +4,9 @@ use Rattle.spellings.proofs.operations.put.Reads as reads
 use Rattle.spellings.proofs.operations.put.Lts as lts
 use borrow.Author.Needs.{needs}
 use native.Mathlib.Omega.{arith}
-use mathlib.Core.Path.{_≡_, refl}
+use mathlib.Core.Path.{_≡_}
 use Prim.Native.Nat.{_≤_, _-_}
-use lib.ListN.{length, take, getD, length-set}
-use lib.Seq.{take-suc, take-suc-set, take-length}
-use native.Mathlib.Numerals.{add-one}
+use lib.ListN.{length, take}
 use Rattle.spellings.proofs.Laws.{put-more, put-done}
 
 abbrev Inv-loop : tie.InvT-loop
