@@ -48,36 +48,70 @@ fn print_answer(r: Answer, list: &[u64]) {
     print_actions(list, r.actions);
 }
 
-fn resolve_list(file: &[u8], actions: &mut [u64; 786432]) -> Answer {
+fn resolve_usual(file: &[u8], actions: &mut [u64; 786432]) -> Answer {
     let mut temporaries = [0u64; 512];
     mizgalon::resolve(file, actions, &mut temporaries)
 }
 
-fn print_list(r: Answer, list: &[u64; 786432]) {
+fn print_usual(r: Answer, list: &[u64; 786432]) {
     print_answer(r, list);
 }
 
-// A section can have more actions than 32,768 (docs/DECISIONS.md says how many), but the usual stack of 8 MiB holds no longer
-// list. Then there is no quote: the list's length is no property of the section.
-fn quote(file: &[u8]) {
+// With room for 32,768 actions, which the usual stack of 8 MiB holds. Whether that was enough.
+fn quote_usual(file: &[u8]) -> bool {
     let mut actions = [0u64; 786432];
-    let r = resolve_list(file, &mut actions);
+    let r = resolve_usual(file, &mut actions);
     if r.refusal == 12 {
-        say(b"quote: the section has more than 32,768 actions, for which it has no room\n");
+        return false;
+    }
+    print_usual(r, &actions);
+    true
+}
+
+fn resolve_large(file: &[u8], actions: &mut [u64; 5013504]) -> Answer {
+    let mut temporaries = [0u64; 512];
+    mizgalon::resolve(file, actions, &mut temporaries)
+}
+
+fn print_large(r: Answer, list: &[u64; 5013504]) {
+    print_answer(r, list);
+}
+
+// With room for 208,896 actions, more than any section has (docs/DECISIONS.md), on a stack of 48 MiB.
+fn quote_large(file: &[u8]) {
+    let mut actions = [0u64; 5013504];
+    let r = resolve_large(file, &mut actions);
+    print_large(r, &actions);
+}
+
+// The larger list is tried by a call of this function itself: the compiler then leaves the two lists in frames of their own,
+// and a frame with both would be too large for the usual stack.
+fn quote(file: &[u8], large: bool, lists: u64) {
+    if lists == 0 {
+        quote_large(file);
         return;
     }
-    print_list(r, &actions);
+    if quote_usual(file) {
+        return;
+    }
+    if large {
+        quote(file, true, lists - 1);
+        return;
+    }
+    say(
+        b"quote: the section has more than 32,768 actions; allow a stack of 48 MiB (ulimit -s 49152) and call quote --large FILE\n",
+    );
 }
 
 // The first n bytes, which are there.
-fn quote_first(file: &[u8], n: usize) {
+fn quote_first(file: &[u8], n: usize, large: bool) {
     if n <= file.len() {
-        quote(&file[..n]);
+        quote(&file[..n], large, 1);
     }
 }
 
-fn quote_read(file: &[u8; 65537], n: usize) {
-    quote_first(file, n);
+fn quote_read(file: &[u8; 65537], n: usize, large: bool) {
+    quote_first(file, n, large);
 }
 
 fn read_failed(fd: i32, file: &mut [u8; 65537]) -> bool {
@@ -85,7 +119,7 @@ fn read_failed(fd: i32, file: &mut [u8; 65537]) -> bool {
 }
 
 // A file of more than 65,536 bytes is not read to its end: one byte more is enough to refuse it.
-fn quote_open(fd: i32, path: &[u8]) {
+fn quote_open(fd: i32, path: &[u8], large: bool) {
     let mut file = [0u8; 65537];
     let n = io::read_full(fd, &mut file);
     if n == 0 {
@@ -95,34 +129,64 @@ fn quote_open(fd: i32, path: &[u8]) {
             return;
         }
     }
-    quote_read(&file, n);
+    quote_read(&file, n, large);
 }
 
-fn quote_path(path: &[u8]) {
+fn quote_path(path: &[u8], large: bool) {
     let fd = os::open_read(path);
     if fd < 0 {
         say(b"quote: the file cannot be opened: ");
         os::fail(path);
         return;
     }
-    quote_open(fd, path);
+    quote_open(fd, path, large);
     libc::close(fd);
 }
 
 fn usage() {
-    say(b"quote: name one section file: quote FILE\n");
+    say(b"quote: name one section file: quote FILE, or quote --large FILE\n");
 }
 
-fn main() {
+// The file that argument i names.
+fn quote_argument(i: usize, large: bool) {
     let mut path = io::buffer();
-    let n = os::arg(1, &mut path);
+    let n = os::arg(i, &mut path);
     if os::errno() != 0 {
         usage();
         return;
     }
-    if os::arg_count() != 2 {
-        usage();
+    quote_path(&path[..n], large);
+}
+
+fn same(a: &[u8], b: &[u8]) -> bool {
+    if a.len() != b.len() {
+        return false;
+    }
+    for i in 0..a.len() {
+        if a[i] != b[i] {
+            return false;
+        }
+    }
+    true
+}
+
+fn is_large() -> bool {
+    let mut word = io::buffer();
+    let n = os::arg(1, &mut word);
+    same(&word[..n], b"--large")
+}
+
+fn main() {
+    let n = os::arg_count();
+    if n == 2 {
+        quote_argument(1, false);
         return;
     }
-    quote_path(&path[..n]);
+    if n == 3 {
+        if is_large() {
+            quote_argument(2, true);
+            return;
+        }
+    }
+    usage();
 }
