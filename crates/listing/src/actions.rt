@@ -225,7 +225,7 @@ fn action_in(s: &[u8], t: &[u16], temporaries: &[u64], list: &[u64], i: usize) {
     }
 }
 
-pub fn actions(s: &[u8], t: &[u16], temporaries: &[u64], list: &[u64], n: u64) {
+pub(crate) fn actions(s: &[u8], t: &[u16], temporaries: &[u64], list: &[u64], n: u64) {
     for i in 0..n {
         action_in(s, t, temporaries, list, i as usize);
     }

@@ -1,21 +1,21 @@
 // Pieces of text on standard output: words, numbers, counts and names.
 use libc::STDOUT_FILENO;
 
-pub fn text(words: &[u8]) {
+pub(crate) fn text(words: &[u8]) {
     io::write_all(STDOUT_FILENO, words);
 }
 
-pub fn number(n: u64) {
+pub(crate) fn number(n: u64) {
     io::print_decimal(STDOUT_FILENO, n);
 }
 
-pub fn hexadecimal(n: u64) {
+pub(crate) fn hexadecimal(n: u64) {
     text(b"0x");
     io::print_hex(STDOUT_FILENO, n, 1);
 }
 
 // So many of a thing: `1 label`, `2 labels`.
-pub fn count(n: u64, one: &[u8], more: &[u8]) {
+pub(crate) fn count(n: u64, one: &[u8], more: &[u8]) {
     number(n);
     text(b" ");
     if n == 1 {
@@ -59,7 +59,7 @@ fn signs(name: &[u8]) {
 }
 
 // A file's name may have any bytes: those that are not visible ASCII are written by their numbers.
-pub fn name(name: &[u8]) {
+pub(crate) fn name(name: &[u8]) {
     if all_plain(name) {
         text(name);
         return;

@@ -87,7 +87,7 @@ fn sentence(n: u64) {
 }
 
 // Number and sentence, and the errors that 51 counts.
-pub fn refusal(r: Answer) {
+pub(crate) fn refusal(r: Answer) {
     text(b"refused ");
     number(r.refusal);
     text(b": ");
@@ -101,7 +101,7 @@ pub fn refusal(r: Answer) {
 }
 
 // The same, and the statement of the ordinal, if there is one.
-pub fn refusal_at(s: &[u8], t: &[u16], r: Answer) {
+pub(crate) fn refusal_at(s: &[u8], t: &[u16], r: Answer) {
     refusal(r);
     if r.ordinal != 65535 {
         statement(s, t, r.ordinal);

@@ -87,7 +87,7 @@ fn described(s: &[u8], t: &[u16], ordinal: u64) {
     kind_at(s, at, since(ordinal, first));
 }
 
-pub fn statement(s: &[u8], t: &[u16], ordinal: u64) {
+pub(crate) fn statement(s: &[u8], t: &[u16], ordinal: u64) {
     text(b"at statement ");
     number(ordinal);
     text(b", ");

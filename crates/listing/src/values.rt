@@ -36,7 +36,7 @@ fn header_name(s: &[u8], t: &[u16], at: usize) {
     name(spellings::names::name(s, t, cells::u16_at(s, at)));
 }
 
-pub fn subtable(s: &[u8], t: &[u16], i: u64) {
+pub(crate) fn subtable(s: &[u8], t: &[u16], i: u64) {
     name(spellings::names::subtable(s, t, i));
 }
 
@@ -66,7 +66,7 @@ fn offset(n: u64) {
     }
 }
 
-pub fn size(n: u64) {
+pub(crate) fn size(n: u64) {
     if n != 65535 {
         text(b":");
         number(n);
@@ -74,7 +74,7 @@ pub fn size(n: u64) {
 }
 
 // The value of two words.
-pub fn value(s: &[u8], t: &[u16], temporaries: &[u64], i: u64, word: u64) {
+pub(crate) fn value(s: &[u8], t: &[u16], temporaries: &[u64], i: u64, word: u64) {
     base(s, t, temporaries, word % 256, i);
     offset(word / 256 % 65536);
     size(word / 16777216);
