@@ -1,13 +1,13 @@
 -- What the words and the names stand on.
 use Prim.Native.Nat.{ℕ, zero, suc, _+_, _-_, _≤_, _<_}
-use mathlib.Core.Path.{_≡_, refl, _∙_}
+use mathlib.Core.Path.{_≡_, refl, sym, _∙_, ap}
 use mathlib.Core.Bool.{Bool, true, false}
 use mathlib.Core.List.{List, [], _∷_}
 use native.Mathlib.Numerals.{add-one}
 use native.Mathlib.Omega.{arith}
 use lib.Dec.{eqb}
 use lib.ListN.{length, getD, take, drop, set, length-drop, length-set, drop-of-length-le}
-use lib.Seq.{drop-cons, take-nil, take-all, take-length, take-suc, take-suc-set}
+use lib.Seq.{drop-cons, drop-drop, drop-set-lt, take-nil, take-all, take-length, take-suc, take-suc-set}
 use borrow.Author.Tests.{eq-eqb, ne-eqb}
 use Rattle.definition.specs.Base.{if_then_else_}
 use Rattle.definition.specs.Spellings.{bytesOf}
@@ -115,16 +115,24 @@ module _ (s : List ℕ) (at n : ℕ) (e : n ≡ getD s at 0) where
   pub whole-spelled : take (at + 1 + n - (at + 1)) (drop (at + 1) s) ≡ take (getD s at 0) (drop (suc at) s)
   whole-spelled = let k : at + 1 + n - (at + 1) ≡ n = omega arith in rw (k, e, add-one at)
 
+-- what `put` has written after i turns
+abbrev pub Put : List ℕ → List ℕ → List ℕ → ℕ → Type 0
+Put text out out₀ i = (length out ≡ length out₀) × (take i out ≡ take i text) × (drop i out ≡ drop i out₀)
+
 -- one turn of `put`, and its end
 module _ (text out out₀ : List ℕ) (i : ℕ) where
-  pub put-more : i < length text → i < length out → (i ≤ length text) × (length text ≡ length text) × (length out ≡ length out₀) × (take i out ≡ take i text) → (i + 1 ≤ length text) × (length text ≡ length text) × (length (set out i (getD text i 0)) ≡ length out₀) × (take (i + 1) (set out i (getD text i 0)) ≡ take (i + 1) text)
-  put-more h k (a, b, l, e) = (omega arith, refl, rw (length-set out i (getD text i 0)) l, rw (add-one i, take-suc-set out i (getD text i 0) k, take-suc text i 0 h, e))
+  pub put-more : i < length text → i < length out → Put text out out₀ i → Put text (set out i (getD text i 0)) out₀ (i + 1)
+  put-more h k (l, e, d) = (
+    rw (length-set out i (getD text i 0)) l,
+    rw (add-one i, take-suc-set out i (getD text i 0) k, take-suc text i 0 h, e),
+    drop-set-lt (i + 1) out i (getD text i 0) (omega arith) ∙ sym (drop-drop 1 i out) ∙ ap (λ (xs : List ℕ). drop 1 xs) d ∙ drop-drop 1 i out₀,
+  )
 
-  pub put-done : length text ≤ i → length text ≤ length out → (i ≤ length text) × (length text ≡ length text) × (length out ≡ length out₀) × (take i out ≡ take i text) → ((length text ≤ length out) × (length text ≡ length (take (length text) out))) × (take (length text) out ≡ text)
-  put-done h k (a, b, l, e) =
-      let n : i ≡ length text = omega arith in
+  pub put-done : i ≡ length text → length text ≤ length out → Put text out out₀ i
+      → ((length text ≤ length out) × (length text ≡ length (take (length text) out))) × (take (length text) out ≡ text) × (drop (length text) out ≡ drop (length text) out₀)
+  put-done n k (l, e, d) =
       let w : take (length text) out ≡ text = (rw n at e) ∙ take-length text in
-      ((k, rw w), w)
+      ((k, rw w), w, rw n at d)
 
 pub name-fits : (op : ℕ) → length (operationText op) ≤ 32
 unfolding operationText

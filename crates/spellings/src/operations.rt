@@ -59,10 +59,10 @@ fn word<'a>(words: &'a [u8], n: u64) -> &'a [u8]
     &words[from..to]
 }
 
-// The text, at the start of a lent slice.
+// The text, at the start of a lent slice; what stands behind it stays.
 fn put(text: &[u8], out: &mut [u8]) -> usize
     requires { ⌜ length (now text) ≤ length (now out) ⌝ }
-    ensures { λ r. ⌜ Counts r (now (out .exit)) × (take r (now (out .exit)) ≡ now (text .entry)) ⌝ }
+    ensures { λ r. ⌜ Counts r (now (out .exit)) × (take r (now (out .exit)) ≡ now (text .entry)) × (drop r (now (out .exit)) ≡ drop r (now (out .entry))) ⌝ }
 {
     for i in 0..text.len() {
         out[i] = text[i];
@@ -70,9 +70,9 @@ fn put(text: &[u8], out: &mut [u8]) -> usize
     text.len()
 }
 
-// The name of operation op. A dash stands for a number that no operation has; past the last there is none.
+// The name of operation op; the bytes behind it stay. A dash stands for a number that no operation has; past the last there is none.
 pub fn operation(op: u64, out: &mut [u8; 32]) -> usize
-    ensures { λ r. ⌜ Counts r (now (out .exit)) × (take r (now (out .exit)) ≡ operationText op) ⌝ }
+    ensures { λ r. ⌜ Counts r (now (out .exit)) × (take r (now (out .exit)) ≡ operationText op) × (drop r (now (out .exit)) ≡ drop r (now (out .entry))) ⌝ }
 {
     let names =
         b"INT_MULT INT_DIV INT_SDIV INT_REM INT_SREM INT_ADD INT_SUB INT_LEFT INT_RIGHT INT_SRIGHT \

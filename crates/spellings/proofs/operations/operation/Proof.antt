@@ -23,7 +23,7 @@ put-requires c κs = rw (c .before .word .ensures) (omega (arith, name-fits (c .
 -- src/operations.rt:74:1
 returns : tie.Need-returns
 unfolding operationText operationNames bytesOf
-returns c = (c .put .ensures .0, c .put .ensures .1 ∙ c .before .before .word .ensures)
+returns c = (c .put .ensures .0, c .put .ensures .1 ∙ c .before .before .word .ensures, c .put .ensures .2)
 
 pub operation-spec : {M : Type 1} → statement M
 operation-spec = tie.close (tie.spec word-requires put-requires returns)

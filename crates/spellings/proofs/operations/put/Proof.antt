@@ -6,11 +6,11 @@ use borrow.Author.Needs.{needs}
 use native.Mathlib.Omega.{arith}
 use mathlib.Core.Path.{_≡_}
 use Prim.Native.Nat.{_≤_, _-_}
-use lib.ListN.{length, take}
-use Rattle.spellings.proofs.Laws.{put-more, put-done}
+use lib.ListN.{length}
+use Rattle.spellings.proofs.Laws.{Put, put-more, put-done}
 
 abbrev Inv-loop : tie.InvT-loop
-Inv-loop text out₀ i₀ i-end out i = (i ≤ i-end) × (i-end ≡ length text) × (length out ≡ length out₀) × (take i out ≡ take i text)
+Inv-loop text out₀ i₀ i-end out i = (i ≤ i-end) × (i-end ≡ length text) × Put text out out₀ i
 
 abbrev μ-loop : tie.MeasureT-loop
 μ-loop text out₀ i₀ i-end out i = i-end - i
@@ -37,7 +37,7 @@ loop-less c = search needs
 
 -- src/operations.rt:67:5
 loop-again : tie.Need-loop-again Inv-loop μ-loop
-loop-again c = put-more (c .before .before .before .args .text .now) (c .before .before .loop .out) (c .before .before .before .args .out .now) (c .before .before .loop .i) (omega arith) (omega arith) (c .before .before .loop .inv)
+loop-again c = (omega arith, c .before .before .loop .inv .1, put-more (c .before .before .before .args .text .now) (c .before .before .loop .out) (c .before .before .before .args .out .now) (c .before .before .loop .i) (omega arith) (omega arith) (c .before .before .loop .inv .2))
 
 -- src/operations.rt:63:1
 same-length : tie.Need-same-length Inv-loop μ-loop
@@ -45,7 +45,7 @@ same-length c = search needs
 
 -- src/operations.rt:63:1
 returns : tie.Need-returns Inv-loop μ-loop
-returns c = put-done (c .before .before .args .text .now) (c .before .loop .out) (c .before .before .args .out .now) (c .before .loop .i) (omega arith) (omega arith) (c .before .loop .inv)
+returns c = put-done (c .before .before .args .text .now) (c .before .loop .out) (c .before .before .args .out .now) (c .before .loop .i) (omega arith) (omega arith) (c .before .loop .inv .2)
 
 pub put-spec : {M : Type 1} → statement M
 put-spec =
