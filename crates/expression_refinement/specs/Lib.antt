@@ -4,6 +4,7 @@ pub mod Answers
 pub mod Below
 pub mod Reading
 pub mod Slots
+pub mod Tree
 pub mod Scopes
 pub mod Slices
 pub mod Addresses

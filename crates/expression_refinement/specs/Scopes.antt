@@ -1,14 +1,15 @@
 -- What a name means: a parameter's slot, the two instruction addresses, a local among the temporaries or in the table, a
 -- global register or bit range, each as the definition has it.
-use Prim.Native.Nat.{ℕ, zero, suc, _+_, _-_, _*_, _/_, _%_, _^_, _≤_, _<_}
-use mathlib.Core.Path.{_≡_, refl, sym, _∙_, subst}
+use Prim.Native.Nat.{ℕ, zero, suc, _+_, _-_, _*_, _/_, _%_, _≤_, _<_}
+use mathlib.Core.Path.{_≡_, refl, sym, _∙_, ap, subst}
+use mathlib.Core.Logic.{_≢_, _⊎_, inl, inr}
 use mathlib.Core.Bool.{Bool, true, false}
 use mathlib.Core.List.{List, [], _∷_, _++_, map}
 use mathlib.Core.Option.{Option, none, some}
 use native.Mathlib.Omega.{arith}
-use lib.ListN.{length, getD, drop, getElem?, length-map}
+use lib.ListN.{length, getD, getElem?, length-map}
 use lib.Dec.{eqb, ltb}
-use borrow.Author.Tests.{eqb-true, eqb-false, ne-eqb, eq-eqb, lt-ltb, le-ltb}
+use borrow.Author.Tests.{eqb-true, eqb-false, ne-eqb, eq-eqb, lt-ltb}
 use Rattle.definition.specs.Base as definition
 use Rattle.definition.specs.Base.{_or_, andThen, orElse, first, base-opens}
 use Rattle.definition.specs.Refusals.{refusalNumber}
@@ -22,8 +23,8 @@ use Rattle.pcode.specs.declared.push.Env.{Env as WordEnv}
 use Rattle.pcode.specs.Base.{if_then_else_}
 use Rattle.pcode.specs.Sizes.{entry}
 use Rattle.section_refinement.specs.Holds.{Holds, bitRangeAt, symbolWord}
-use Rattle.refinement.specs.Encoding.{encV, markedWord, temporaryWords, Sound, SoundTmp, Each}
-use Rattle.refinement.specs.Operands.{size-word}
+use Rattle.refinement.specs.Encoding.{encV, temporariesIn, Sound, SoundTmp, Each}
+use Rattle.refinement.specs.Marks.{tmp-at, tmp-name, tmp-mark}
 use Rattle.meaning.specs.declared.scope.ExprValue.{ExprValue as WordExpr}
 use Rattle.meaning.specs.declared.scope.Meaning.{Meaning as WordMeaning}
 use Rattle.meaning.specs.declared.scope.Found.{Found}
@@ -31,8 +32,9 @@ use Rattle.expression.specs.Answers.{resolved}
 use Rattle.expression.specs.Expressions.{meansAt}
 use Rattle.meaning.specs.Slots.{ofSlot, slotAt, paramPlace}
 use Rattle.meaning.specs.Scopes as words
-use Rattle.meaning.specs.Scopes.{findParam, isLocal, findLocal, ownLocal, tmpOf, tmpLocal, orTmp, lookupLocal, global, bitsAt, bitRange, foundOr, paramOr}
+use Rattle.meaning.specs.Scopes.{findParam, isLocal, ownLocal, tmpLocal, orTmp, lookupLocal, global, bitsAt, bitRange, foundOr, paramOr}
 use Rattle.expression_refinement.specs.Encodings.{encX, SoundX, nameAt, tmps, count, Stood, Later}
+use Rattle.expression_refinement.specs.Tree.{grown-plain}
 use Rattle.expression_refinement.specs.Answers.{acts, temps, word, Refines, refines-done, refines-stopped, seenExpr}
 
 pub eqb-swap : (a b : ℕ) → eqb a b ≡ eqb b a
@@ -80,65 +82,36 @@ param-is (x ∷ xs) p params name other h = rw (h .0, eqb-swap (x .0) name) (go 
 
 -- Temporaries by their names and marks.
 
-pick : (ℕ → Bool) → ℕ → ℕ → Found
-pick q zero i = Found.Nothing
-pick q (suc k) i = if q i then Found.Is (record { kind = 6; number = i; offset = 0; size = 65535 }) else pick q k (suc i)
+tmp-in : (ts : List Temporary) (i : ℕ) → i < length ts → Each SoundTmp ts → (t : Temporary) × (getElem? ts i ≡ some t) × SoundTmp t
+tmp-in [] i h f = absurd (omega arith)
+tmp-in (t ∷ ts) zero h f = (t, refl, f .0)
+tmp-in (t ∷ ts) (suc i) h f = tmp-in ts i (omega arith) (f .1)
 
-pick-is : (k i : ℕ) (m : List ℕ) (name scope : ℕ) → tmpOf (findLocal k i m name scope) (i + k) ≡ pick (λ j. isLocal (getD m j 0) name scope) k i
-unfolding findLocal tmpOf pick if_then_else_
-pick-is zero i m name scope = let h : ltb i (i + 0) ≡ false = le-ltb i (i + 0) (omega arith) in rw h
-pick-is (suc k) i m name scope = go (isLocal (getD m i 0) name scope) (pick-is k (suc i) m name scope)
-  where
-    go : (b : Bool) → tmpOf (findLocal k (suc i) m name scope) (suc i + k) ≡ pick (λ j. isLocal (getD m j 0) name scope) k (suc i)
-        → tmpOf (if b then i else findLocal k (suc i) m name scope) (i + suc k) ≡ (if b then Found.Is (record { kind = 6; number = i; offset = 0; size = 65535 }) else pick (λ j. isLocal (getD m j 0) name scope) k (suc i))
-    go true h = let l : ltb i (i + suc k) ≡ true = lt-ltb i (i + suc k) (omega arith) in rw l
-    go false h = let l : suc i + k ≡ i + suc k = omega arith in rw l at h
+pub name-at : (marks rest : List ℕ) (ts : List Temporary) (i : ℕ) → i < length ts → Each SoundTmp ts → getD (temporariesIn marks rest ts) i 0 % 65536 ≡ orNone (nameAt ts i)
+unfolding nameAt andThen
+name-at marks rest ts i h f = let k = tmp-in ts i h f in rw (tmp-at marks rest ts i (k .0) (k .1), tmp-name (getD marks i 0) (k .0) (k .2), k .1)
 
-pick-none : (q : ℕ → Bool) (n i : ℕ) → ((j : ℕ) → i ≤ j → j < i + n → q j ≡ false) → pick q n i ≡ Found.Nothing
-unfolding pick if_then_else_
-pick-none q zero i h = refl
-pick-none q (suc n) i h = rw (h i (omega arith) (omega arith)) (pick-none q n (suc i) (λ j l m. h j (omega arith) (omega arith)))
+pub mark-at : (marks rest : List ℕ) (ts : List Temporary) (i : ℕ) → i < length ts → Each SoundTmp ts → getD (temporariesIn marks rest ts) i 0 / 4294967296 ≡ getD marks i 0
+mark-at marks rest ts i h f = let k = tmp-in ts i h f in rw (tmp-at marks rest ts i (k .0) (k .1)) (tmp-mark (getD marks i 0) (k .0) (k .2))
 
--- more temporaries, none of which passes
-pick-more : (q r : ℕ → Bool) (n k i : ℕ) → n ≤ k → ((j : ℕ) → i ≤ j → j < i + n → r j ≡ q j) → ((j : ℕ) → i + n ≤ j → j < i + k → r j ≡ false) → pick r k i ≡ pick q n i
-unfolding pick if_then_else_
-pick-more q r zero k i l h f = pick-none r k i (λ j a b. f j (omega arith) (omega arith))
-pick-more q r (suc n) zero i l h f = absurd (omega arith)
-pick-more q r (suc n) (suc k) i l h f = rw (h i (omega arith) (omega arith)) (go (q i) (pick-more q r n k (suc i) (omega arith) (λ j a b. h j (omega arith) (omega arith)) (λ j a b. f j (omega arith) (omega arith))))
-  where
-    go : (b : Bool) → pick r k (suc i) ≡ pick q n (suc i) → (if b then Found.Is (record { kind = 6; number = i; offset = 0; size = 65535 }) else pick r k (suc i)) ≡ (if b then Found.Is (record { kind = 6; number = i; offset = 0; size = 65535 }) else pick q n (suc i))
-    go true e = refl
-    go false e = e
-
--- by its name and its mark
-isNamed : List ℕ → List Temporary → ℕ → ℕ → ℕ → Bool
-unfolding if_then_else_
-isNamed marks ts name scope i = if eqb (orNone (nameAt ts i)) name then eqb (getD marks i 0) scope else false
-
-local-word : (mark : ℕ) (t : Temporary) (name scope : ℕ) → SoundTmp t → isLocal (markedWord mark t) name scope ≡ (if eqb (orNone (t .name)) name then eqb mark scope else false)
+-- one with no name, or of another scope, is not found
+pub local-not : (marks rest : List ℕ) (ts : List Temporary) (i name scope : ℕ) → i < length ts → Each SoundTmp ts → name < 1024 → (nameAt ts i ≡ none) ⊎ (getD marks i 0 / 262144 ≢ scope)
+    → isLocal (getD (temporariesIn marks rest ts) i 0) name scope ≡ false
 unfolding isLocal if_then_else_
-local-word mark t name scope f =
-    let a = f .name in
-    let b = size-word (t .size) (f .size) in
-    let p : (orNone (t .name) + 65536 * orNone (t .size) + 2 ^ 50 * mark) % 65536 ≡ orNone (t .name) = low (orNone (t .name)) (orNone (t .size)) mark a in
-    let q : (orNone (t .name) + 65536 * orNone (t .size) + 2 ^ 50 * mark) / 1125899906842624 ≡ mark = high (orNone (t .name)) (orNone (t .size)) mark a b in
-    rw (p, q)
+local-not marks rest ts i name scope h f k (inl z) = rw (name-at marks rest ts i h f, z) (unfold orNone orElse in rw (ne-eqb 65535 name (λ q. omega arith)))
+local-not marks rest ts i name scope h f k (inr z) =
+    let a = mark-at marks rest ts i h f in
+    let b : getD (temporariesIn marks rest ts) i 0 / 1125899906842624 ≡ getD marks i 0 / 262144 = omega arith in
+    rw (b, ne-eqb (getD marks i 0 / 262144) scope z) (go (eqb (getD (temporariesIn marks rest ts) i 0 % 65536) name))
   where
-    low : (x y z : ℕ) → x ≤ 65535 → (x + 65536 * y + 2 ^ 50 * z) % 65536 ≡ x
-    low x y z h = omega arith
+    go : (b : Bool) → (if b then false else false) ≡ false
+    go true = unfold if_then_else_ in refl
+    go false = unfold if_then_else_ in refl
 
-    high : (x y z : ℕ) → x ≤ 65535 → y ≤ 65535 → (x + 65536 * y + 2 ^ 50 * z) / 1125899906842624 ≡ z
-    high x y z h j = omega arith
-
-local-get : (ts : List Temporary) (marks behind : List ℕ) (name scope i : ℕ) → i < length ts → Each SoundTmp ts → isLocal (getD (temporaryWords marks ts ++ behind) i 0) name scope ≡ isNamed marks ts name scope i
-unfolding temporaryWords isNamed nameAt andThen
-local-get [] marks behind name scope i h f = absurd (omega arith)
-local-get (t ∷ ts) marks behind name scope zero h f = local-word (getD marks 0 0) t name scope (f .0)
-local-get (t ∷ ts) marks behind name scope (suc i) h f = local-get ts (drop 1 marks) behind name scope i (omega arith) (f .1) ∙ rw (shifted marks i)
-  where
-    shifted : (marks : List ℕ) (i : ℕ) → getD (drop 1 marks) i 0 ≡ getD marks (suc i) 0
-    shifted [] i = refl
-    shifted (x ∷ xs) i = refl
+pub past-end : (xs : List ℕ) (i : ℕ) → length xs ≤ i → getD xs i 0 ≡ 0
+past-end [] i h = refl
+past-end (x ∷ xs) zero h = absurd (omega arith)
+past-end (x ∷ xs) (suc i) h = past-end xs i (omega arith)
 
 pub nameless : (ts : List Temporary) (i : ℕ) → length ts ≤ i → nameAt ts i ≡ none
 unfolding nameAt andThen
@@ -146,10 +119,15 @@ nameless [] i h = refl
 nameless (t ∷ ts) zero h = absurd (omega arith)
 nameless (t ∷ ts) (suc i) h = nameless ts i (omega arith)
 
--- a name of the section, which has at most 1,024
-name-absent : (name : ℕ) → name < 1024 → eqb (orNone none) name ≡ false
-unfolding orNone orElse
-name-absent name h = ne-eqb 65535 name (λ q. omega arith)
+-- locals are found where the temporaries are
+pub lookup-as : (t m w : List ℕ) (scope n k name : ℕ) → tmpLocal w k name scope ≡ tmpLocal m n name scope → lookupLocal t w scope k name ≡ lookupLocal t m scope n name
+unfolding lookupLocal
+lookup-as t m w scope n k name h = go (eqb scope 0) (ownLocal t name)
+  where
+    go : (b : Bool) (x : Found) → (if b then orTmp x w k name scope else tmpLocal w k name scope) ≡ (if b then orTmp x m n name scope else tmpLocal m n name scope)
+    go true (Found.Is v) = unfold if_then_else_ orTmp in refl
+    go true Found.Nothing = unfold if_then_else_ orTmp in h
+    go false x = unfold if_then_else_ in h
 
 module _ (s t : List ℕ) (e : Env) (p front tail marks rest : List ℕ) (we : WordEnv) where
   -- The words of the scopes hold the scope: its parameters stand in their slots, and the table and the temporaries give
@@ -159,51 +137,22 @@ module _ (s t : List ℕ) (e : Env) (p front tail marks rest : List ℕ) (we : W
     pub counted : we .count ≡ length (st .scope .params)
     pub locals : (name : ℕ) → name < 1024 → lookupLocal t (temps (e .section) front tail marks rest st) (we .scope) (count st) name ≡ encF (find name (st .scope .mapping))
 
-  -- a temporary is found by its name and mark alone
-  tmp-later : (spare more : ℕ) (from st : State) → Stood (e .section) tail marks rest spare from → Stood (e .section) tail marks rest more st → Later from st → (name : ℕ) → name < 1024
-      → tmpLocal (temps (e .section) front tail marks rest st) (count st) name (we .scope) ≡ tmpLocal (temps (e .section) front tail marks rest from) (count from) name (we .scope)
-  unfolding tmpLocal
-  tmp-later spare more from st f g l name h =
-      let a = pick-is (count st) 0 (temps (e .section) front tail marks rest st) name (we .scope) in
-      let b = pick-is (count from) 0 (temps (e .section) front tail marks rest from) name (we .scope) in
-      let za : 0 + count st ≡ count st = omega arith in
-      let zb : 0 + count from ≡ count from = omega arith in
-      rw za at a ∙ whole ∙ sym (rw zb at b)
-    where
-      named : (j : ℕ) → j < count st → isLocal (getD (temps (e .section) front tail marks rest st) j 0) name (we .scope) ≡ isNamed marks (tmps st) name (we .scope) j
-      named j k = local-get (tmps st) marks (drop (count st) rest) name (we .scope) j k (g .sizes)
-
-      same : (j : ℕ) → isNamed marks (tmps st) name (we .scope) j ≡ isNamed marks (tmps from) name (we .scope) j
-      same j = unfold isNamed in rw (l .names j)
-
-      old : (j : ℕ) → 0 ≤ j → j < 0 + count from → isLocal (getD (temps (e .section) front tail marks rest st) j 0) name (we .scope) ≡ isLocal (getD (temps (e .section) front tail marks rest from) j 0) name (we .scope)
-      old j a b = named j (omega (arith, l .temporaries)) ∙ same j ∙ sym (local-get (tmps from) marks (drop (count from) rest) name (we .scope) j (omega arith) (f .sizes))
-
-      new : (j : ℕ) → 0 + count from ≤ j → j < 0 + count st → isLocal (getD (temps (e .section) front tail marks rest st) j 0) name (we .scope) ≡ false
-      new j a b = named j (omega arith) ∙ (unfold isNamed if_then_else_ in rw (l .names j, nameless (tmps from) j (omega arith), name-absent name h))
-
-      whole : pick (λ j. isLocal (getD (temps (e .section) front tail marks rest st) j 0) name (we .scope)) (count st) 0 ≡ pick (λ j. isLocal (getD (temps (e .section) front tail marks rest from) j 0) name (we .scope)) (count from) 0
-      whole = pick-more _ _ (count from) (count st) 0 (l .temporaries) old new
+  -- a temporary is found where it was
+  pub tmp-later : (spare more : ℕ) (from st : State) → Stood (e .section) tail marks rest spare from → Stood (e .section) tail marks rest more st → Later from st → (name scope : ℕ) → name < 1024
+      → tmpLocal (temps (e .section) front tail marks rest st) (count st) name scope ≡ tmpLocal (temps (e .section) front tail marks rest from) (count from) name scope
+  tmp-later spare more from st f g l name scope h = grown-plain (temps (e .section) front tail marks rest from) (temps (e .section) front tail marks rest st) (count from) (count st) name scope (l .temporaries)
+      (λ i k. name-at marks rest (tmps st) i (omega (arith, l .temporaries)) (g .sizes) ∙ ap orNone (l .names i) ∙ sym (name-at marks rest (tmps from) i k (f .sizes)))
+      (λ i k. mark-at marks rest (tmps st) i (omega (arith, l .temporaries)) (g .sizes) ∙ sym (mark-at marks rest (tmps from) i k (f .sizes)))
+      (λ i k j. local-not marks rest (tmps st) i name scope j (g .sizes) h (inl (l .names i ∙ nameless (tmps from) i k)))
+      (λ i k j. let a = mark-at marks rest (tmps st) i j (g .sizes) in let b = past-end marks i (omega (arith, f .marked)) in omega arith)
 
   pub scoped-later : (spare more : ℕ) (from st : State) → Stood (e .section) tail marks rest spare from → Stood (e .section) tail marks rest more st → Later from st → Scoped from → Scoped st
   scoped-later spare more from st f g l h = record {
     params = rw (l .scope) (h .params);
     counted = rw (l .scope) (h .counted);
-    locals = λ name k. rw (l .scope) (same name k ∙ h .locals name k);
+    locals = λ name k. rw (l .scope)
+        (lookup-as t (temps (e .section) front tail marks rest from) (temps (e .section) front tail marks rest st) (we .scope) (count from) (count st) name (tmp-later spare more from st f g l name (we .scope) k) ∙ h .locals name k);
   }
-    where
-      found-as : (name : ℕ) (x : Found) → tmpLocal (temps (e .section) front tail marks rest st) (count st) name (we .scope) ≡ tmpLocal (temps (e .section) front tail marks rest from) (count from) name (we .scope)
-          → orTmp x (temps (e .section) front tail marks rest st) (count st) name (we .scope) ≡ orTmp x (temps (e .section) front tail marks rest from) (count from) name (we .scope)
-      found-as name (Found.Is v) q = unfold orTmp in refl
-      found-as name Found.Nothing q = unfold orTmp in q
-
-      same : (name : ℕ) → name < 1024 → lookupLocal t (temps (e .section) front tail marks rest st) (we .scope) (count st) name ≡ lookupLocal t (temps (e .section) front tail marks rest from) (we .scope) (count from) name
-      same name k = unfold lookupLocal in go (eqb (we .scope) 0)
-        where
-          go : (b : Bool) → (if b then orTmp (ownLocal t name) (temps (e .section) front tail marks rest st) (count st) name (we .scope) else tmpLocal (temps (e .section) front tail marks rest st) (count st) name (we .scope))
-              ≡ (if b then orTmp (ownLocal t name) (temps (e .section) front tail marks rest from) (count from) name (we .scope) else tmpLocal (temps (e .section) front tail marks rest from) (count from) name (we .scope))
-          go true = unfold if_then_else_ in found-as name (ownLocal t name) (tmp-later spare more from st f g l name k)
-          go false = unfold if_then_else_ in tmp-later spare more from st f g l name k
 
 -- Globals.
 

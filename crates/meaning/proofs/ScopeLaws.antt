@@ -1,10 +1,10 @@
 -- One law for each way out of the functions over names.
-use mathlib.Core.Path.{_≡_}
+use mathlib.Core.Path.{_≡_, _∙_}
 use mathlib.Core.Bool.{Bool, true, false}
 use mathlib.Core.List.{List}
 use Prim.Native.Nat.{ℕ, zero, suc, _+_, _-_, _*_, _/_, _%_, _≤_, _<_}
 use native.Mathlib.Omega.{arith}
-use lib.ListN.{getD}
+use lib.ListN.{getD, set}
 use lib.Dec.{eqb}
 use borrow.Author.Tests.{eq-eqb, ne-eqb, lt-ltb, le-ltb}
 use Rattle.cells.specs.Le.{le16}
@@ -21,7 +21,7 @@ use Rattle.meaning.specs.declared.scope.Meaning.{Meaning}
 use Rattle.meaning.specs.declared.scope.Found.{Found}
 use Rattle.meaning.specs.declared.scope.Slot.{Slot}
 use Rattle.meaning.specs.Slots.{ofSlot, slotAt, paramPlace}
-use Rattle.meaning.specs.Scopes.{findParam, isLocal, findLocal, ownOf, ownLocal, tmpOf, tmpLocal, orTmp, lookupLocal, global, bitsAt, bitRange, globalMeaning, foundOr, innerMeaning, paramOr, resolveIdent, undeclared, namedTmp}
+use Rattle.meaning.specs.Scopes.{findParam, isLocal, path, link, linked, inside, onward, onward-far, findLocal, attach, ownOf, ownLocal, tmpOf, tmpLocal, orTmp, lookupLocal, global, bitsAt, bitRange, globalMeaning, foundOr, innerMeaning, paramOr, resolveIdent, undeclared, namedTmp}
 
 -- ---- parameters, from the last one down
 pub param-hit : (p : List ℕ) (params name i at w r : ℕ) → 0 < i → at ≡ paramPlace params (i - 1) → w ≡ getD p (at + 0) 0 → w ≡ name →
@@ -47,7 +47,7 @@ unfolding findParam
 param-end p params name zero r h e = e
 param-end p params name (suc i) r h e = absurd (omega arith)
 
--- ---- temporaries, from the first one up
+-- ---- temporaries, from the root on
 pub local-same : (w name scope : ℕ) → w % 65536 ≡ name → eqb (w / 1125899906842624) scope ≡ isLocal w name scope
 unfolding isLocal if_then_else_
 local-same w name scope h = rw (eq-eqb (w % 65536) name h)
@@ -56,27 +56,102 @@ pub local-other : (w name scope : ℕ) → (w % 65536 ≡ name → ⊥) → fals
 unfolding isLocal if_then_else_
 local-other w name scope h = rw (ne-eqb (w % 65536) name h)
 
-less : (n i : ℕ) → i < n → n - i ≡ suc (n - (i + 1))
-less n i h = omega arith
+pub link-left : (w h : ℕ) → h % 2 ≡ 0 → w / 4294967296 % 512 ≡ link w h
+unfolding link if_then_else_
+link-left w h q = rw (eq-eqb (h % 2) 0 q)
 
-pub find-start : (n : ℕ) (m : List ℕ) (name scope : ℕ) → findLocal (n - 0) 0 m name scope ≡ findLocal n 0 m name scope
-find-start n m name scope = let z : n - 0 ≡ n = omega arith in rw z
+pub link-right : (w h : ℕ) → (h % 2 ≡ 0 → ⊥) → w / 2199023255552 % 512 ≡ link w h
+unfolding link if_then_else_
+link-right w h q = rw (ne-eqb (h % 2) 0 q)
 
-pub find-hit : (n i : ℕ) (m : List ℕ) (name scope w r : ℕ) (b : Bool) → i < n → w ≡ getD m i 0 → b ≡ isLocal w name scope → b ≡ true →
-    findLocal (n - i) i m name scope ≡ r → i ≡ r
-unfolding findLocal if_then_else_
-find-hit n i m name scope w r b h g f q e = rw (less n i h, ← g, ← f, q) at e
+pub linked-left : (w h n : ℕ) → h % 2 ≡ 0 → w % 4294967296 + n % 512 * 4294967296 + w / 2199023255552 * 2199023255552 ≡ linked w h n
+unfolding linked if_then_else_
+linked-left w h n q = rw (eq-eqb (h % 2) 0 q)
 
-pub find-miss : (n i : ℕ) (m : List ℕ) (name scope w r : ℕ) (b : Bool) → i < n → w ≡ getD m i 0 → b ≡ isLocal w name scope → b ≡ false →
-    findLocal (n - i) i m name scope ≡ r → findLocal (n - (i + 1)) (i + 1) m name scope ≡ r
-unfolding findLocal if_then_else_
-find-miss n i m name scope w r b h g f q e =
-    let o : i + 1 ≡ suc i = omega arith in
-    rw o (rw (less n i h, ← g, ← f, q, o) at e)
+pub linked-right : (w h n : ℕ) → (h % 2 ≡ 0 → ⊥) → w % 2199023255552 + n % 512 * 2199023255552 + w / 1125899906842624 * 1125899906842624 ≡ linked w h n
+unfolding linked if_then_else_
+linked-right w h n q = rw (ne-eqb (h % 2) 0 q)
 
-pub find-end : (n i : ℕ) (m : List ℕ) (name scope r : ℕ) → n ≤ i → findLocal (n - i) i m name scope ≡ r → i ≡ r
-unfolding findLocal
-find-end n i m name scope r h e = let z : n - i ≡ 0 = omega arith in rw z at e
+pub onward-in : (w i h n c : ℕ) → c ≡ link w h → i < c → c < n → c ≡ onward w i h n
+unfolding onward inside if_then_else_
+onward-in w i h n c e p q = rw (← e, lt-ltb i c p, lt-ltb c n q)
+
+pub onward-out : (w i h n c : ℕ) → c ≡ link w h → i < c → n ≤ c → n ≡ onward w i h n
+unfolding onward inside if_then_else_
+onward-out w i h n c e p q = rw (← e, lt-ltb i c p, le-ltb c n q)
+
+pub onward-none : (w i h n c : ℕ) → c ≡ link w h → c ≤ i → n ≡ onward w i h n
+unfolding onward inside if_then_else_
+onward-none w i h n c e p = rw (← e, le-ltb i c p)
+
+-- a search that stands at node i, with steps enough, and ends with r
+pub record Searching (n i h : ℕ) (m : List ℕ) (name scope r : ℕ) : Type 0 where
+  pub steps : ℕ
+  pub enough : n ≤ i + steps
+  pub same : findLocal steps i h n m name scope ≡ r
+
+pub find-start : (n h : ℕ) (m : List ℕ) (name scope : ℕ) → h ≡ path name scope → Searching n 0 h m name scope (findLocal n 0 (path name scope) n m name scope)
+find-start n h m name scope q = record { steps = n; enough = omega arith; same = rw q }
+
+module _ (n i h : ℕ) (m : List ℕ) (name scope w r : ℕ) (f : Searching n i h m name scope r) where
+  pub find-hit : (b : Bool) → i < n → w ≡ getD m i 0 → b ≡ isLocal w name scope → b ≡ true → i ≡ r
+  find-hit b l g e q = go (f .steps) (f .enough) (f .same)
+    where
+      go : (k : ℕ) → n ≤ i + k → findLocal k i h n m name scope ≡ r → i ≡ r
+      go zero j s = absurd (omega arith)
+      go (suc k) j s = unfold findLocal if_then_else_ in (rw (lt-ltb i n l, ← g, ← e, q) at s)
+
+  pub find-miss : (b : Bool) (c : ℕ) → i < n → w ≡ getD m i 0 → b ≡ isLocal w name scope → b ≡ false → c ≡ onward w i h n → Searching n c (h / 2) m name scope r
+  find-miss b c l g e q d = go (f .steps) (f .enough) (f .same)
+    where
+      go : (k : ℕ) → n ≤ i + k → findLocal k i h n m name scope ≡ r → Searching n c (h / 2) m name scope r
+      go zero j s = absurd (omega arith)
+      go (suc k) j s = record {
+        steps = k;
+        enough = (let a = onward-far w i h n l in omega arith);
+        same = unfold findLocal if_then_else_ in (rw (lt-ltb i n l, ← g, ← e, q, ← d) at s);
+      }
+
+  pub find-end : n ≤ i → n ≡ r
+  find-end l = go (f .steps) (f .same)
+    where
+      go : (k : ℕ) → findLocal k i h n m name scope ≡ r → n ≡ r
+      go zero s = unfold findLocal in s
+      go (suc k) s = unfold findLocal if_then_else_ in (rw (le-ltb i n l) at s)
+
+pub record Attaching (n i h : ℕ) (m r : List ℕ) : Type 0 where
+  pub steps : ℕ
+  pub enough : n ≤ i + steps
+  pub same : attach steps i h n m ≡ r
+
+pub attach-start : (n h : ℕ) (m : List ℕ) (name scope : ℕ) → h ≡ path name scope → Attaching n 0 h m (attach n 0 (path name scope) n m)
+attach-start n h m name scope q = record { steps = n; enough = omega arith; same = rw q }
+
+module _ (n i h : ℕ) (m : List ℕ) (w : ℕ) (r : List ℕ) (f : Attaching n i h m r) where
+  pub attach-here : (c x : ℕ) (u : List ℕ) → i < n → w ≡ getD m i 0 → c ≡ onward w i h n → c ≡ n → x ≡ linked w h n → u ≡ set m i x → u ≡ r
+  attach-here c x u l g d q k v = go (f .steps) (f .enough) (f .same)
+    where
+      go : (k : ℕ) → n ≤ i + k → attach k i h n m ≡ r → u ≡ r
+      go zero j s = absurd (omega arith)
+      go (suc y) j s = v ∙ (unfold attach if_then_else_ in (rw (lt-ltb i n l, ← g, ← d, eq-eqb c n q, ← k) at s))
+
+  pub attach-on : (c : ℕ) → i < n → w ≡ getD m i 0 → c ≡ onward w i h n → (c ≡ n → ⊥) → Attaching n c (h / 2) m r
+  attach-on c l g d q = go (f .steps) (f .enough) (f .same)
+    where
+      go : (k : ℕ) → n ≤ i + k → attach k i h n m ≡ r → Attaching n c (h / 2) m r
+      go zero j s = absurd (omega arith)
+      go (suc k) j s = record {
+        steps = k;
+        enough = (let a = onward-far w i h n l in omega arith);
+        same = unfold attach if_then_else_ in (rw (lt-ltb i n l, ← g, ← d, ne-eqb c n q) at s);
+      }
+
+  pub attach-end : n ≤ i → m ≡ r
+  attach-end l = go (f .steps) (f .same)
+    where
+      go : (k : ℕ) → attach k i h n m ≡ r → m ≡ r
+      go zero s = unfold attach in s
+      go (suc k) s = unfold attach if_then_else_ in (rw (le-ltb i n l) at s)
 
 -- ---- locals
 pub own-none : (t : List ℕ) (name k : ℕ) → k ≡ getD t (2048 + name % 1024) 0 → k ≡ 0 → Found.Nothing ≡ ownLocal t name
@@ -91,11 +166,11 @@ pub own-subtable : (t : List ℕ) (name k : ℕ) (v : Value) → k ≡ getD t (2
 unfolding ownLocal ownOf if_then_else_
 own-subtable t name k v e z o q = rw (← e, ne-eqb k 0 z, ne-eqb (k % 2) 1 o, q)
 
-pub tmp-found : (m : List ℕ) (n name scope i : ℕ) (v : Value) → i ≡ findLocal n 0 m name scope → i < n → v ≡ local 6 i → Found.Is v ≡ tmpLocal m n name scope
+pub tmp-found : (m : List ℕ) (n name scope i : ℕ) (v : Value) → i ≡ findLocal n 0 (path name scope) n m name scope → i < n → v ≡ local 6 i → Found.Is v ≡ tmpLocal m n name scope
 unfolding tmpLocal tmpOf if_then_else_
 tmp-found m n name scope i v e h q = rw (← e, lt-ltb i n h, q)
 
-pub tmp-none : (m : List ℕ) (n name scope i : ℕ) → i ≡ findLocal n 0 m name scope → n ≤ i → Found.Nothing ≡ tmpLocal m n name scope
+pub tmp-none : (m : List ℕ) (n name scope i : ℕ) → i ≡ findLocal n 0 (path name scope) n m name scope → n ≤ i → Found.Nothing ≡ tmpLocal m n name scope
 unfolding tmpLocal tmpOf if_then_else_
 tmp-none m n name scope i e h = rw (← e, le-ltb i n h)
 
@@ -182,8 +257,8 @@ module _ (t m : List ℕ) (e : Env) (name size : ℕ) (st : State) (r : Read) (w
     unfolding namedTmp onTmp undeclared
     named-twice u k = rw (← f, q, ← l, k)
 
-    pub named-new : x ≡ Found.Nothing → listed (Read.Value v st1) w ≡ namedTmp t m e name size st
+    pub named-new : (u : List ℕ) → x ≡ Found.Nothing → u ≡ attach (st .temporaries) 0 (path name (e .scope)) (st .temporaries) w → listed (Read.Value v st1) u ≡ namedTmp t m e name size st
     unfolding namedTmp onTmp undeclared
-    named-new k = rw (← f, q, ← l, k)
+    named-new u k a = rw (← f, q, ← l, k, a)
 
-pub ruleset scope-laws = (local-same, local-other, own-none, own-field, own-subtable, tmp-found, tmp-none, or-is, or-none, lookup-own, lookup-tmp, global-law, bit-range-law, global-none, global-register, global-bits, global-other, inner-next, inner-start, inner-local, inner-global, ident-param, ident-inner, named-none, named-twice, named-new)
+pub ruleset scope-laws = (local-same, local-other, link-left, link-right, linked-left, linked-right, onward-in, onward-out, onward-none, own-none, own-field, own-subtable, tmp-found, tmp-none, or-is, or-none, lookup-own, lookup-tmp, global-law, bit-range-law, global-none, global-register, global-bits, global-other, inner-next, inner-start, inner-local, inner-global, ident-param, ident-inner, named-none, named-twice, named-new)

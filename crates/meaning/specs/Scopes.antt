@@ -1,10 +1,12 @@
 -- What a name means: a macro parameter, inst_next, inst_start, a local, a global register or bit range. In all of these s is
 -- the stream, t the section's table, p the words of the scopes, m the temporaries.
-use Prim.Native.Nat.{ℕ, zero, suc, _+_, _-_, _*_, _/_, _%_}
-use mathlib.Core.Bool.{Bool, false}
+use Prim.Native.Nat.{ℕ, zero, suc, _+_, _-_, _*_, _/_, _%_, _<_}
+use mathlib.Core.Path.{_≡_, refl}
+use mathlib.Core.Bool.{Bool, true, false}
 use mathlib.Core.List.{List}
-use lib.ListN.{getD}
+use lib.ListN.{getD, set}
 use lib.Dec.{eqb, ltb}
+use borrow.Author.Tests.{ltb-true}
 use Rattle.cells.specs.Le.{le16}
 use Rattle.pcode.specs.declared.value.Value.{Value}
 use Rattle.pcode.specs.declared.push.State.{State}
@@ -29,10 +31,53 @@ findParam (suc i) p params name =
 unfoldable pub isLocal : ℕ → ℕ → ℕ → Bool
 isLocal w name scope = if eqb (w % 65536) name then eqb (w / 1125899906842624) scope else false
 
--- the first such of k temporaries from i on, or the one behind them
-unfoldable pub findLocal : ℕ → ℕ → List ℕ → ℕ → ℕ → ℕ
-findLocal zero i m name scope = i
-findLocal (suc k) i m name scope = if isLocal (getD m i 0) name scope then i else findLocal k (suc i) m name scope
+-- Named temporaries are nodes of a search tree, whose root is temporary 0. A search has a number: it goes left where that is
+-- even, right where it is odd, and on with half of it.
+unfoldable pub path : ℕ → ℕ → ℕ
+path name scope = name % 65536 + 37 * (scope % 8192)
+
+-- where a word links to on the side of h
+unfoldable pub link : ℕ → ℕ → ℕ
+link w h = if eqb (h % 2) 0 then w / 4294967296 % 512 else w / 2199023255552 % 512
+
+-- the word that links to n there
+unfoldable pub linked : ℕ → ℕ → ℕ → ℕ
+linked w h n =
+    if eqb (h % 2) 0
+    then w % 4294967296 + n % 512 * 4294967296 + w / 2199023255552 * 2199023255552
+    else w % 2199023255552 + n % 512 * 2199023255552 + w / 1125899906842624 * 1125899906842624
+
+-- a link that leads on from node i, and not behind n nodes; else n
+unfoldable pub inside : ℕ → ℕ → ℕ → ℕ
+inside c i n = if ltb i c then (if ltb c n then c else n) else n
+
+unfoldable pub onward : ℕ → ℕ → ℕ → ℕ → ℕ
+onward w i h n = inside (link w h) i n
+
+pub onward-far : (w i h n : ℕ) → i < n → i < onward w i h n
+unfolding onward inside if_then_else_
+onward-far w i h n l = go (ltb i (link w h)) refl (ltb (link w h) n)
+  where
+    go : (a : Bool) → ltb i (link w h) ≡ a → (b : Bool) → i < (if a then (if b then link w h else n) else n)
+    go true p true = ltb-true i (link w h) p
+    go true p false = l
+    go false p b = l
+
+-- the one of n temporaries that has this name in this scope, searched from node i on in at most so many steps, or n
+unfoldable pub findLocal : ℕ → ℕ → ℕ → ℕ → List ℕ → ℕ → ℕ → ℕ
+findLocal zero i h n m name scope = n
+findLocal (suc k) i h n m name scope =
+    if ltb i n
+    then (if isLocal (getD m i 0) name scope then i else findLocal k (onward (getD m i 0) i h n) (h / 2) n m name scope)
+    else n
+
+-- the words once the node at which that search ends links to n
+unfoldable pub attach : ℕ → ℕ → ℕ → ℕ → List ℕ → List ℕ
+attach zero i h n m = m
+attach (suc k) i h n m =
+    if ltb i n
+    then (if eqb (onward (getD m i 0) i h n) n then set m i (linked (getD m i 0) h n) else attach k (onward (getD m i 0) i h n) (h / 2) n m)
+    else m
 
 -- a field is 1 + 2 × its number, a subtable 2 + 2 × its number
 unfoldable pub ownOf : ℕ → Found
@@ -48,7 +93,7 @@ unfoldable pub tmpOf : ℕ → ℕ → Found
 tmpOf i n = if ltb i n then Found.Is (local 6 i) else Found.Nothing
 
 unfoldable pub tmpLocal : List ℕ → ℕ → ℕ → ℕ → Found
-tmpLocal m n name scope = tmpOf (findLocal n 0 m name scope) n
+tmpLocal m n name scope = tmpOf (findLocal n 0 (path name scope) n m name scope) n
 
 unfoldable pub orTmp : Found → List ℕ → ℕ → ℕ → ℕ → Found
 orTmp (Found.Is v) m n name scope = Found.Is v
@@ -95,14 +140,15 @@ unfoldable pub resolveIdent : List ℕ → List ℕ → List ℕ → List ℕ �
 resolveIdent s t p m e st name =
     paramOr (findParam (e .count) p (e .params) name) p e (innerMeaning s t m e st name)
 
--- 21 where there was one of this name
-unfoldable pub undeclared : Found → Value → State → Read
-undeclared (Found.Is w) v st = Read.No 21
-undeclared Found.Nothing v st = Read.Value v st
+-- 21 where there was one of this name, else the words that it is attached in
+unfoldable pub undeclared : Found → Value → State → List ℕ → List ℕ → Listed Read
+undeclared (Found.Is w) v st m n = listed (Read.No 21) m
+undeclared Found.Nothing v st m n = listed (Read.Value v st) n
 
 -- a temporary is made, then declared under its name
 unfoldable pub namedTmp : List ℕ → List ℕ → Env → ℕ → ℕ → State → Listed Read
 namedTmp t m e name size st =
     onTmp (addTmp m name size (e .scope) st)
-    (λ v st1 w. listed (undeclared (lookupLocal t w (e .scope) (st .temporaries) name) v st1) w)
+    (λ v st1 w. undeclared (lookupLocal t w (e .scope) (st .temporaries) name) v st1 w
+    (attach (st .temporaries) 0 (path name (e .scope)) (st .temporaries) w))
     (λ n w. listed (Read.No n) w)

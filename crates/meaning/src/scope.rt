@@ -16,7 +16,7 @@ ghost use Prim.Native.Nat.{_+_, _<_};
 ghost use Rattle.cells.specs.Le.{le16};
 ghost use Rattle.pcode.specs.Base.{listed};
 ghost use Rattle.meaning.specs.Slots.{oneValue, slotOf, ofSlot, putSlot, slotAt, paramPlace};
-ghost use Rattle.meaning.specs.Scopes.{findParam, isLocal, findLocal, ownLocal, tmpLocal, orTmp, lookupLocal, global, bitRange, globalMeaning, innerMeaning, resolveIdent, namedTmp};
+ghost use Rattle.meaning.specs.Scopes.{findParam, isLocal, path, link, linked, onward, findLocal, attach, ownLocal, tmpLocal, orTmp, lookupLocal, global, bitRange, globalMeaning, innerMeaning, resolveIdent, namedTmp};
 
 // What an expression means before it is read.
 pub enum ExprValue {
@@ -203,18 +203,84 @@ fn is_local(w: u64, name: u64, scope: u64) -> bool
     }
 }
 
-// The first of n temporaries that has this name in this scope, or n.
+// Named temporaries are nodes of a search tree, whose root is temporary 0. At each node a search goes left where its number is
+// even, right where it is odd, and on with half of that number.
+fn path(name: u64, scope: u64) -> u64
+    ensures { λ r. ⌜ r ≡ path name scope ⌝ }
+{
+    name % 65536 + 37 * (scope % 8192)
+}
+
+// Where a word links to on the side of h: the left link stands in the nine bits from bit 32 on, the right one behind it.
+fn link(w: u64, h: u64) -> usize
+    ensures { λ r. ⌜ r ≡ link w h ⌝ }
+{
+    if h % 2 == 0 {
+        (w / 4294967296 % 512) as usize
+    } else {
+        (w / 2199023255552 % 512) as usize
+    }
+}
+
+// The word that links to n there.
+fn linked(w: u64, h: u64, n: usize) -> u64
+    ensures { λ r. ⌜ r ≡ linked w h n ⌝ }
+{
+    if h % 2 == 0 {
+        w % 4294967296 + (n % 512) as u64 * 4294967296 + w / 2199023255552 * 2199023255552
+    } else {
+        w % 2199023255552
+            + (n % 512) as u64 * 2199023255552
+            + w / 1125899906842624 * 1125899906842624
+    }
+}
+
+// The node behind node i, which has this word, on the side of h, or n where none of the n is.
+fn onward(w: u64, i: usize, h: u64, n: usize) -> usize
+    ensures { λ r. ⌜ r ≡ onward w i h n ⌝ }
+{
+    let c = link(w, h);
+    if i < c {
+        if c < n {
+            return c;
+        }
+    }
+    n
+}
+
+// The one of n temporaries that has this name in this scope, or n.
 fn find_local(m: &[u64], n: usize, name: u64, scope: u64) -> usize
-    ensures { λ r. ⌜ r ≡ findLocal n 0 (now (m .entry)) name scope ⌝ }
+    ensures { λ r. ⌜ r ≡ findLocal n 0 (path name scope) n (now (m .entry)) name scope ⌝ }
 {
     let mut i = 0;
+    let mut h = path(name, scope);
     while i < n {
-        if is_local(cells::get(m, i), name, scope) {
+        let w = cells::get(m, i);
+        if is_local(w, name, scope) {
             return i;
         }
-        i += 1;
+        i = onward(w, i, h, n);
+        h /= 2;
     }
-    i
+    n
+}
+
+// Temporary n becomes a node, where a search for it among the first n ends.
+fn attach(m: &mut [u64], n: usize, name: u64, scope: u64)
+    ensures { λ _. ⌜ now (m .exit) ≡ attach n 0 (path name scope) n (now (m .entry)) ⌝ }
+{
+    let mut i = 0;
+    let mut h = path(name, scope);
+    while i < n {
+        let w = cells::get(m, i);
+        let c = onward(w, i, h, n);
+        if c == n {
+            cells::put(m, i, linked(w, h, n));
+            return;
+        }
+        i = c;
+        h /= 2;
+    }
 }
 
 pub enum Found {
@@ -338,7 +404,10 @@ pub fn named_tmp(t: &[u16], m: &mut [u64], e: Env, name: u64, size: u64, st: Sta
         Read::No(n) => Read::No(n),
         Read::Value { v, st: next } => match lookup_local(t, m, e.scope, st.temporaries, name) {
             Found::Is(_) => Read::No(21),
-            Found::Nothing => Read::Value { v, st: next },
+            Found::Nothing => {
+                attach(m, st.temporaries, name, e.scope);
+                Read::Value { v, st: next }
+            }
         },
     }
 }

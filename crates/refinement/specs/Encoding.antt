@@ -28,9 +28,9 @@ packed v = kindNumber (v .kind) + 256 * v .offset + 2 ^ 24 * orNone (v .size)
 abbrev pub actionsIn : List ℕ → List ℕ → List SemanticAction → List ℕ
 actionsIn front tail xs = front ++ (listWords xs ++ drop (24 * length xs) tail)
 
--- a temporary's word, marked with the number of its scope
+-- a temporary's word, whose upper half is its mark: two links, then the number of its scope
 abbrev pub markedWord : ℕ → Temporary → ℕ
-markedWord mark t = orNone (t .name) + 65536 * orNone (t .size) + 2 ^ 50 * mark
+markedWord mark t = orNone (t .name) + 65536 * orNone (t .size) + 2 ^ 32 * mark
 
 unfoldable pub temporaryWords : List ℕ → List Temporary → List ℕ
 temporaryWords marks [] = []

@@ -11,7 +11,7 @@ use Rattle.definition.specs.Ast.{Section}
 use Rattle.definition.specs.End.{atStart}
 use Rattle.definition.specs.Base.{orElse}
 use Rattle.definition.specs.ActionList.{orNone, listWords, temporaryWord}
-use Rattle.refinement.specs.Encoding.{actionsIn, markedWord, temporaryWords, temporariesIn, firstError, encS, SoundTmp}
+use Rattle.refinement.specs.Encoding.{actionsIn, markedWord, temporaryWords, temporariesIn, firstError, encS, SoundTmp, Each}
 use Rattle.refinement.specs.Operands.{size-word}
 use Rattle.refinement.specs.Pushes.{marked}
 
@@ -28,19 +28,19 @@ pub tmp-at : (marks rest : List ℕ) (ts : List Temporary) (i : ℕ) (t : Tempor
     → getD (temporariesIn marks rest ts) i 0 ≡ markedWord (getD marks i 0) t
 tmp-at marks rest ts i t e = words-at marks (drop (length ts) rest) ts i t e
 
-name-of : (name size k : ℕ) → name ≤ 65535 → (name + 65536 * size + 2 ^ 50 * k) % 65536 ≡ name
+name-of : (name size k : ℕ) → name ≤ 65535 → (name + 65536 * size + 2 ^ 32 * k) % 65536 ≡ name
 name-of name size k h = omega arith
 
-mark-of : (name size k : ℕ) → name ≤ 65535 → size ≤ 65535 → (name + 65536 * size + 2 ^ 50 * k) / 2 ^ 50 ≡ k
+mark-of : (name size k : ℕ) → name ≤ 65535 → size ≤ 65535 → (name + 65536 * size + 2 ^ 32 * k) / 2 ^ 32 ≡ k
 mark-of name size k h j = omega arith
 
-clean-of : (name size k : ℕ) → name ≤ 65535 → size ≤ 65535 → (name + 65536 * size + 2 ^ 50 * k) % 4294967296 ≡ name + 65536 * size
+clean-of : (name size k : ℕ) → name ≤ 65535 → size ≤ 65535 → (name + 65536 * size + 2 ^ 32 * k) % 4294967296 ≡ name + 65536 * size
 clean-of name size k h j = omega arith
 
 pub tmp-name : (k : ℕ) (t : Temporary) → SoundTmp t → markedWord k t % 65536 ≡ orNone (t .name)
 tmp-name k t f = name-of (orNone (t .name)) (orNone (t .size)) k (f .name)
 
-pub tmp-mark : (k : ℕ) (t : Temporary) → SoundTmp t → markedWord k t / 2 ^ 50 ≡ k
+pub tmp-mark : (k : ℕ) (t : Temporary) → SoundTmp t → markedWord k t / 2 ^ 32 ≡ k
 tmp-mark k t f = mark-of (orNone (t .name)) (orNone (t .size)) k (f .name) (size-word (t .size) (f .size))
 
 pub tmp-clean : (k : ℕ) (t : Temporary) → SoundTmp t → markedWord k t % 4294967296 ≡ temporaryWord t
@@ -64,6 +64,48 @@ marked-other [] (suc n) k (suc i) h = marked-other [] n k i (omega arith)
 marked-other (x ∷ xs) zero k i h = absurd (omega arith)
 marked-other (x ∷ xs) (suc n) k zero h = refl
 marked-other (x ∷ xs) (suc n) k (suc i) h = marked-other xs n k i (omega arith)
+
+-- the upper halves of the first n words
+unfoldable pub uppers : ℕ → List ℕ → List ℕ
+uppers zero m = []
+uppers (suc n) [] = []
+uppers (suc n) (w ∷ m) = w / 2 ^ 32 ∷ uppers n m
+
+pub uppers-length : (n : ℕ) (m : List ℕ) → length (uppers n m) ≤ n
+unfolding uppers
+uppers-length zero m = omega arith
+uppers-length (suc n) [] = omega arith
+uppers-length (suc n) (w ∷ m) = let h = uppers-length n m in omega arith
+
+pub uppers-at : (n : ℕ) (m : List ℕ) (i : ℕ) → i < n → getD (uppers n m) i 0 ≡ getD m i 0 / 2 ^ 32
+unfolding uppers
+uppers-at zero m i h = absurd (omega arith)
+uppers-at (suc n) [] i h = refl
+uppers-at (suc n) (w ∷ m) zero h = refl
+uppers-at (suc n) (w ∷ m) (suc i) h = uppers-at n m i (omega arith)
+
+same-list : (a b : List ℕ) → length a ≡ length b → ((i : ℕ) → getD a i 0 ≡ getD b i 0) → a ≡ b
+same-list [] [] l h = refl
+same-list [] (y ∷ b) l h = absurd (omega arith)
+same-list (x ∷ a) [] l h = absurd (omega arith)
+same-list (x ∷ a) (y ∷ b) l h = rw (h 0, same-list a b (omega arith) (λ i. h (suc i)))
+
+-- Words that differ from those of temporaries in the upper halves alone hold the same temporaries.
+pub words-again : (ts : List Temporary) (marks behind m : List ℕ) → Each SoundTmp ts → length m ≡ length (temporaryWords marks ts ++ behind)
+    → ((i : ℕ) → getD m i 0 % 2 ^ 32 ≡ getD (temporaryWords marks ts ++ behind) i 0 % 2 ^ 32)
+    → ((i : ℕ) → length ts ≤ i → getD m i 0 ≡ getD (temporaryWords marks ts ++ behind) i 0)
+    → temporaryWords (uppers (length ts) m) ts ++ behind ≡ m
+unfolding temporaryWords uppers
+words-again [] marks behind m f l h g = same-list behind m (omega arith) (λ i. let q = g i (omega arith) in omega arith)
+words-again (t ∷ ts) marks behind [] f l h g = absurd (omega arith)
+words-again (t ∷ ts) marks behind (w ∷ m) f l h g =
+    rw (head, words-again ts (drop 1 marks) behind m (f .1) (omega arith) (λ i. h (suc i)) (λ i k. g (suc i) (omega arith)))
+  where
+    whole : (x y : ℕ) → x % 4294967296 ≡ y → y + 2 ^ 32 * (x / 2 ^ 32) ≡ x
+    whole x y q = omega arith
+
+    head : markedWord (w / 2 ^ 32) t ≡ w
+    head = whole w (orNone (t .name) + 65536 * orNone (t .size)) (h 0 ∙ tmp-clean (getD marks 0 0) t (f .0) ∙ (unfold temporaryWord in refl))
 
 -- At the start the lists are as they were lent.
 

@@ -83,7 +83,7 @@ tmps-length marks rest ts h = length-append (temporaryWords marks ts) (drop (len
     ∙ rw (words-length marks ts, length-drop (length ts) rest) (omega arith)
 
 tmp-word : (name size : Option ℕ) (scope : ℕ) → orNone name ≤ 65535 → orElse 0 size < 65535 → tmpWord (orNone name) (orNone size) scope
-    ≡ markedWord (scope % 8192) (record { name = name; size = size })
+    ≡ markedWord (2 ^ 18 * (scope % 8192)) (record { name = name; size = size })
 unfolding tmpWord
 tmp-word name size scope h j = let k = size-word size j in omega arith
 
@@ -137,7 +137,7 @@ module _ (e : Env) (s : State) (front tail marks rest : List ℕ) (lent : Lent e
     abbrev made : Temporary
     made = record { name = name; size = size }
 
-    add-is : temporaryWords more (ts ++ (made ∷ [])) ≡ temporaryWords marks ts ++ (markedWord (scope % 8192) made ∷ [])
+    add-is : temporaryWords more (ts ++ (made ∷ [])) ≡ temporaryWords marks ts ++ (markedWord (2 ^ 18 * (scope % 8192)) made ∷ [])
         → seenTmp (actionsIn front tail (s .actions)) (addTmp (temporariesIn marks rest ts) (orNone name) (orNone size) scope
         (encS (length front) s)) ≡ outcome front tail more rest encV (d.addTmp name size e s)
     unfolding addTmp d.addTmp on
@@ -155,7 +155,7 @@ module _ (e : Env) (s : State) (front tail marks rest : List ℕ) (lent : Lent e
             → seenTmp (actionsIn front tail (s .actions))
             (if b then (if c then listed (Read.Value (record { kind = 6; number = length ts; offset = 0; size = 65535 })
             (record { end = length front + 24 * length (s .actions); temporaries = length ts + 1; sizing = encZ (s .sizing) }))
-            (set (temporariesIn marks rest ts) (length ts) (markedWord (scope % 8192) made)) else listed (Read.No 13)
+            (set (temporariesIn marks rest ts) (length ts) (markedWord (2 ^ 18 * (scope % 8192)) made)) else listed (Read.No 13)
             (temporariesIn marks rest ts)) else listed (Read.No 13) (temporariesIn marks rest ts))
             ≡ outcome front tail more rest encV (on e (require (if b then c else false) tooManyTemporaries e s) λ _. λ e s0. on e
             (done (tt {0}) (withSizing (withTemporaries (ts ++ (made ∷ [])) (s .sizing)) s0)) λ _. λ e s1. done
@@ -164,17 +164,17 @@ module _ (e : Env) (s : State) (front tail marks rest : List ℕ) (lent : Lent e
             yes (record { kind = 6; number = length ts; offset = 0; size = 65535 })
             (record { end = length front + 24 * length (s .actions); temporaries = count i; sizing = encZ (s .sizing) })
             (actionsIn front tail (s .actions))
-            (tmp-written marks rest ts made more (scope % 8192) w (ltb-true (length ts) (length rest) p) i))
+            (tmp-written marks rest ts made more (2 ^ 18 * (scope % 8192)) w (ltb-true (length ts) (length rest) p) i))
         go true false p = unfold if_then_else_ require seenTmp outcome refusalNumber in refl
         go false c p = unfold if_then_else_ require seenTmp outcome refusalNumber in refl
 
   -- a named temporary of a scope
   pub named-is : (name : ℕ) (size : Option ℕ) (scope : ℕ) → name ≤ 65535 → orElse 0 size < 65535
       → seenTmp (actionsIn front tail (s .actions)) (addTmp (temporariesIn marks rest ts) name (orNone size) scope (encS (length front) s))
-      ≡ outcome front tail (marked marks (length ts) (scope % 8192)) rest encV (d.addTmp (some name) size e s)
+      ≡ outcome front tail (marked marks (length ts) (2 ^ 18 * (scope % 8192))) rest encV (d.addTmp (some name) size e s)
   unfolding orNone orElse
-  named-is name size scope h j = add-is (some name) size scope (marked marks (length ts) (scope % 8192)) h j
-      (words-marked marks ts (record { name = some name; size = size }) (scope % 8192))
+  named-is name size scope h j = add-is (some name) size scope (marked marks (length ts) (2 ^ 18 * (scope % 8192))) h j
+      (words-marked marks ts (record { name = some name; size = size }) (2 ^ 18 * (scope % 8192)))
 
   pub unnamed-is : (size : Option ℕ) → orElse 0 size < 65535
       → seenTmp (actionsIn front tail (s .actions)) (addTmp (temporariesIn marks rest ts) 65535 (orNone size) 0 (encS (length front) s))

@@ -23,14 +23,14 @@ use Rattle.refinement.specs.Operands.{size-word}
 
 -- temporaries
 
-name-part : (name size mark : ℕ) → name ≤ 65535 → size ≤ 65535 → (name + 65536 * size + 2 ^ 50 * mark) % 65536 ≡ name
+name-part : (name size mark : ℕ) → name ≤ 65535 → size ≤ 65535 → (name + 65536 * size + 2 ^ 32 * mark) % 65536 ≡ name
 name-part name size mark h j = omega arith
 
-size-part : (name size mark : ℕ) → name ≤ 65535 → size ≤ 65535 → (name + 65536 * size + 2 ^ 50 * mark) / 65536 % 65536 ≡ size
+size-part : (name size mark : ℕ) → name ≤ 65535 → size ≤ 65535 → (name + 65536 * size + 2 ^ 32 * mark) / 65536 % 65536 ≡ size
 size-part name size mark h j = omega arith
 
-mark-part : (name size mark : ℕ) → name ≤ 65535 → size ≤ 65535 → (name + 65536 * size + 2 ^ 50 * mark) / 4294967296 * 4294967296
-    ≡ 2 ^ 50 * mark
+mark-part : (name size mark : ℕ) → name ≤ 65535 → size ≤ 65535 → (name + 65536 * size + 2 ^ 32 * mark) / 4294967296 * 4294967296
+    ≡ 2 ^ 32 * mark
 mark-part name size mark h j = omega arith
 
 -- a word with a new size

@@ -134,9 +134,7 @@ module _ (s t : List ℕ) (e : Env) (front tail marks rest : List ℕ) (we : Wor
       newLabels = f .newLabels;
       scopes = f .scopes;
       temporaries = f .temporaries;
-      oldMarks = f .oldMarks;
-      oldNames = f .oldNames;
-      newMarks = f .newMarks;
+      locals = f .locals;
     }
 
     label-same : Stands tail marks rest st → SoundAction (e .section) (count st) (placing id) → length (st .sizing .errors) + 3 < 2 ^ 64

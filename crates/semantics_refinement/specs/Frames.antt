@@ -4,15 +4,12 @@ use mathlib.Core.Path.{_≡_, refl, sym, _∙_, subst}
 use mathlib.Core.Logic.{_⊎_, inl, inr}
 use mathlib.Core.Bool.{Bool, true, false}
 use mathlib.Core.List.{List}
-use mathlib.Core.Option.{none}
 use native.Mathlib.Omega.{arith}
-use lib.ListN.{getD}
 use lib.Dec.{ltb}
 use borrow.Author.Tests.{ltb-true, ltb-false}
 use Rattle.definition.specs.Walk.{State, Env}
 use Rattle.definition.specs.Statements as d
 use Rattle.pcode.specs.declared.push.Env.{Env as WordEnv}
-use Rattle.expression_refinement.specs.Encodings.{nameAt, tmps, count}
 use Rattle.semantics_refinement.specs.Views.{Beside}
 use Rattle.semantics_refinement.specs.Begin.{oneMore, started}
 use Rattle.semantics_refinement.specs.Standing.{labelScope, Standing, Framed}
@@ -27,9 +24,7 @@ module _ (s t : List ℕ) (e : Env) (front tail rest : List ℕ) (we : WordEnv) 
     newLabels = λ j h k. absurd (omega arith);
     scopes = omega arith;
     temporaries = omega arith;
-    oldMarks = λ i h. refl;
-    oldNames = λ i h. refl;
-    newMarks = λ i h k. absurd (omega arith);
+    locals = λ name scope a h k. refl;
   }
 
   pub framed-trans : {level : ℕ} {p marks q more r last : List ℕ} {b c d : Beside} {from mid u : State}
@@ -42,9 +37,7 @@ module _ (s t : List ℕ) (e : Env) (front tail rest : List ℕ) (we : WordEnv) 
     newLabels = λ j h k. label j h k (ltb j (c .labels)) refl;
     scopes = omega (arith, f .scopes, g .scopes);
     temporaries = omega (arith, f .temporaries, g .temporaries);
-    oldMarks = λ i h. g .oldMarks i (omega (arith, f .temporaries)) ∙ f .oldMarks i h;
-    oldNames = λ i h. g .oldNames i (omega (arith, f .temporaries)) ∙ f .oldNames i h;
-    newMarks = λ i h k. mark i h k (ltb i (count mid)) refl;
+    locals = λ name scope a h k. g .locals name scope a (omega (arith, f .scopes)) k ∙ f .locals name scope a h k;
   }
     where
       later : (x : ℕ) → (x ≡ we .scope) ⊎ (c .scopes < x) → (x ≡ we .scope) ⊎ (b .scopes < x)
@@ -54,16 +47,6 @@ module _ (s t : List ℕ) (e : Env) (front tail rest : List ℕ) (we : WordEnv) 
       label : (j : ℕ) → b .labels ≤ j → j < d .labels → (y : Bool) → ltb j (c .labels) ≡ y → (labelScope r j ≡ we .scope) ⊎ (b .scopes < labelScope r j)
       label j h k true y = let l = ltb-true j (c .labels) y in subst (λ (x : ℕ). (x ≡ we .scope) ⊎ (b .scopes < x)) (sym (g .oldLabels j l)) (f .newLabels j h l)
       label j h k false y = later (labelScope r j) (g .newLabels j (ltb-false j (c .labels) y) k)
-
-      marked : (i : ℕ) → (nameAt (tmps u) i ≡ none) ⊎ ((getD last i 0 ≡ we .scope) ⊎ (c .scopes < getD last i 0)) → (nameAt (tmps u) i ≡ none) ⊎ ((getD last i 0 ≡ we .scope) ⊎ (b .scopes < getD last i 0))
-      marked i (inl h) = inl h
-      marked i (inr h) = inr (later (getD last i 0) h)
-
-      mark : (i : ℕ) → count from ≤ i → i < count u → (y : Bool) → ltb i (count mid) ≡ y → (nameAt (tmps u) i ≡ none) ⊎ ((getD last i 0 ≡ we .scope) ⊎ (b .scopes < getD last i 0))
-      mark i h k true y =
-          let l = ltb-true i (count mid) y in
-          rw (g .oldNames i l, g .oldMarks i l) (f .newMarks i h l)
-      mark i h k false y = marked i (g .newMarks i (ltb-false i (count mid) y) k)
 
   -- a statement that begins changes nothing of this
   pub framed-begun : {level : ℕ} {p marks q more : List ℕ} {b c : Beside} {st u : State} (ordinal : ℕ) → Framed s t e front tail rest we spare level p marks (oneMore b) (started ordinal st) q more c u
@@ -77,9 +60,7 @@ module _ (s t : List ℕ) (e : Env) (front tail rest : List ℕ) (we : WordEnv) 
     newLabels = f .newLabels;
     scopes = f .scopes;
     temporaries = f .temporaries;
-    oldMarks = f .oldMarks;
-    oldNames = f .oldNames;
-    newMarks = f .newMarks;
+    locals = f .locals;
   }
 
   pub standing-begun : {p marks : List ℕ} {b : Beside} {st : State} (ordinal : ℕ) → Standing s t e front tail rest we spare p marks b st → st .statements < 4096

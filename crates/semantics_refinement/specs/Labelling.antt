@@ -84,9 +84,7 @@ module _ (s t : List ℕ) (e : Env) (p front tail marks rest : List ℕ) (we : W
     newLabels = λ j h k. inl (r .new j h k);
     scopes = omega arith;
     temporaries = omega arith;
-    oldMarks = λ i h. refl;
-    oldNames = λ i h. refl;
-    newMarks = λ i h k. absurd (omega arith);
+    locals = λ name scope a h k. refl;
   }
 
   -- nothing made

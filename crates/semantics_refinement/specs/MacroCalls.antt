@@ -147,7 +147,7 @@ module _ (s t : List ℕ) (e : Env) (front tail rest : List ℕ) (spare : ℕ) (
       let l : m1 ≡ M u = cc in
       let g = r .goes xs u refl in
       rw (i0, i1, c, f, l, counted-is u, count-test xs (g .1 .1))
-      (follows-after s t e front tail rest spare we (framed-later s t e front tail rest we spare (levelOf deep) p marks b st u (g .0 .later))
+      (follows-after s t e front tail rest spare we (framed-later s t e front tail rest we spare (levelOf deep) p marks b st u (h .between .standing) (g .0))
       (entered xs u (g .0) (g .1 .0) (g .1 .1) (k .1) (k .2 .0) (eqb (length (m .params)) n) refl))
   resolved-args (passed (WordArgs.Done end st1) a1 m1 args1) (stopped q i j) r k = let z = r .same in let y : _≡_ {A = ℕ} 0 1 = cc in absurd (omega arith)
   resolved-args (passed (WordArgs.No l) a1 m1 args1) (done xs u) r k = let z = r .same in let y : _≡_ {A = ℕ} 0 1 = cc in absurd (omega arith)

@@ -3,7 +3,6 @@
 use Prim.Native.Nat.{ℕ, zero, suc, _+_, _*_, _/_, _%_, _≤_, _<_}
 use mathlib.Core.Path.{_≡_, refl, sym, _∙_, ap}
 use mathlib.Core.Logic.{_≢_, _⊎_, inl, inr}
-use mathlib.Core.Bool.{false}
 use mathlib.Core.List.{List, [], _∷_}
 use mathlib.Core.Option.{none, some}
 use native.Mathlib.Omega.{arith}
@@ -18,18 +17,18 @@ use Rattle.pcode.specs.declared.push.Env.{Env as WordEnv}
 use Rattle.pcode.specs.Base.{run}
 use Rattle.pcode.specs.Values.{word, valueOf, valueAt}
 use Rattle.refinement.specs.Encoding.{Each}
-use Rattle.meaning.specs.Scopes.{isLocal}
+use Rattle.meaning.specs.Scopes.{tmpLocal}
 use Rattle.meaning.specs.Slots.{ofSlot, slotAt, paramPlace, argAt}
 use Rattle.semantics.specs.Calls.{bindParam, bindArg}
 use Rattle.bodies.specs.Statements.{macroEnv}
-use Rattle.expression_refinement.specs.Encodings.{SoundX, nameAt, tmps, count, params-more, mapping-more}
+use Rattle.expression_refinement.specs.Encodings.{SoundX, tmps, count, params-more, mapping-more}
 use Rattle.expression_refinement.specs.Answers.{temps}
-use Rattle.expression_refinement.specs.Scopes.{encF, ParamsIn}
+use Rattle.expression_refinement.specs.Scopes.{encF, ParamsIn, local-not, lookup-as}
 use Rattle.expression_refinement.specs.Slots.{readAs, put-at, put-length, put-before, put-behind}
 use Rattle.expression_refinement.specs.Calls.{ArgsIn}
 use Rattle.semantics_refinement.specs.Views.{Beside}
 use Rattle.semantics_refinement.specs.Standing.{labelScope, Standing, Framed}
-use Rattle.semantics_refinement.specs.Searches.{params-same, local-at, local-not, locals-longer, locals-none, labels-longer, labels-none}
+use Rattle.semantics_refinement.specs.Searches.{params-same, locals-none, labels-longer, labels-none}
 
 -- what is beside a walk in the scope that a macro call opens
 abbrev pub opening : Beside → Beside
@@ -192,7 +191,7 @@ module _ (s t : List ℕ) (e : Env) (front tail rest : List ℕ) (we : WordEnv) 
       scoped = record {
         params = params;
         counted = counted;
-        locals = λ name k. locals-none t name (b .scopes + 1) (temps (e .section) front tail marks rest st) (count st) (omega arith)
+        locals = λ name k. locals-none t (temps (e .section) front tail marks rest st) name (b .scopes + 1) (count st) (omega arith)
             (λ j l. local-not marks rest (tmps st) j name (b .scopes + 1) l (standing .stood .sizes) k (inr (λ z. let a = standing .marked j in omega arith)))
             ∙ (rw (nothing name) (unfold encF in refl));
       };
@@ -222,25 +221,8 @@ module _ (s t : List ℕ) (e : Env) (front tail rest : List ℕ) (we : WordEnv) 
         go (inl z) = omega arith
         go (inr z) = omega arith
 
-    new-mark : (i : ℕ) → count st ≤ i → i < count u → (nameAt (tmps u) i ≡ none) ⊎ (b .scopes < getD more i 0)
-    new-mark i h k = go (framed .newMarks i h k)
-      where
-        go : (nameAt (tmps u) i ≡ none) ⊎ ((getD more i 0 ≡ b .scopes + 1) ⊎ (b .scopes + 1 < getD more i 0)) → (nameAt (tmps u) i ≡ none) ⊎ (b .scopes < getD more i 0)
-        go (inl z) = inl z
-        go (inr (inl z)) = inr (omega arith)
-        go (inr (inr z)) = inr (omega arith)
-
-    old-local : (name j : ℕ) → j < count st → isLocal (getD (temps (e .section) front tail more rest u) j 0) name (we .scope) ≡ isLocal (getD (temps (e .section) front tail marks rest st) j 0) name (we .scope)
-    old-local name j h =
-        local-at more rest (tmps u) j name (we .scope) (omega (arith, framed .temporaries)) (stands .stood .sizes)
-        ∙ rw (framed .oldMarks j h, framed .oldNames j h) (sym (local-at marks rest (tmps st) j name (we .scope) h (standing .stood .sizes)))
-
-    new-local : (name j : ℕ) → name < 1024 → count st ≤ j → j < count u → isLocal (getD (temps (e .section) front tail more rest u) j 0) name (we .scope) ≡ false
-    new-local name j k a l = local-not more rest (tmps u) j name (we .scope) l (stands .stood .sizes) k (go (new-mark j a l))
-      where
-        go : (nameAt (tmps u) j ≡ none) ⊎ (b .scopes < getD more j 0) → (nameAt (tmps u) j ≡ none) ⊎ (getD more j 0 ≢ we .scope)
-        go (inl z) = inl z
-        go (inr z) = inr (λ i. omega (arith, standing .own))
+    old-local : (name scope : ℕ) → name < 1024 → scope ≤ b .scopes → tmpLocal (temps (e .section) front tail more rest u) (count u) name scope ≡ tmpLocal (temps (e .section) front tail marks rest st) (count st) name scope
+    old-local name scope k h = framed .locals name scope k (omega arith) (λ z. omega arith)
 
     pub returned-standing : Standing s t e front tail rest we spare q more c (withScope (st .scope) u)
     returned-standing = record {
@@ -257,7 +239,7 @@ module _ (s t : List ℕ) (e : Env) (front tail rest : List ℕ) (we : WordEnv) 
       scoped = record {
         params = params-same p q (we .params) (st .scope .params) (λ i a k. framed .slots i (omega arith) ∙ before i (omega arith)) (standing .scoped .params);
         counted = standing .scoped .counted;
-        locals = λ name k. locals-longer t name (we .scope) (temps (e .section) front tail marks rest st) (temps (e .section) front tail more rest u) (count st) (count u) (framed .temporaries) (old-local name) (λ j. new-local name j k)
+        locals = λ name k. lookup-as t (temps (e .section) front tail marks rest st) (temps (e .section) front tail more rest u) (we .scope) (count st) (count u) name (old-local name (we .scope) k (standing .own))
             ∙ standing .scoped .locals name k;
       };
       labelled = labels-longer p q (we .scope) (b .labels) (c .labels) (st .scope .labels) (omega (arith, few, standing .own)) (framed .labels) old-label
@@ -284,11 +266,5 @@ module _ (s t : List ℕ) (e : Env) (front tail rest : List ℕ) (we : WordEnv) 
       newLabels = λ j h k. inr (new-label j h k);
       scopes = omega (arith, framed .scopes);
       temporaries = framed .temporaries;
-      oldMarks = framed .oldMarks;
-      oldNames = framed .oldNames;
-      newMarks = λ i h k. later i (new-mark i h k);
+      locals = λ name scope a h k. old-local name scope a h;
     }
-      where
-        later : (i : ℕ) → (nameAt (tmps u) i ≡ none) ⊎ (b .scopes < getD more i 0) → (nameAt (tmps u) i ≡ none) ⊎ ((getD more i 0 ≡ we .scope) ⊎ (b .scopes < getD more i 0))
-        later i (inl z) = inl z
-        later i (inr z) = inr (inr z)

@@ -1,11 +1,9 @@
 -- A new local as part of a step: what stands and is framed once it is declared, and the statement that only declares one.
-use Prim.Native.Nat.{ℕ, suc, _%_, _<_}
+use Prim.Native.Nat.{ℕ, _<_}
 use mathlib.Core.Path.{_≡_, refl, sym, _∙_, ap, subst}
-use mathlib.Core.Logic.{inl, inr}
 use mathlib.Core.List.{List}
 use mathlib.Core.Option.{Option}
 use native.Mathlib.Omega.{arith}
-use lib.ListN.{length-append}
 use Rattle.definition.specs.Refusals.{Refusal, refusalNumber}
 use Rattle.definition.specs.Value.{Value, SemanticAction}
 use Rattle.definition.specs.Walk as walks
@@ -19,8 +17,6 @@ use Rattle.pcode.specs.declared.push.Read.{Read}
 use Rattle.pcode.specs.Base.{Listed, listed, thenL}
 use Rattle.pcode.specs.Pushes.{onTmp}
 use Rattle.refinement.specs.Encoding.{encV, actionsIn, Sound}
-use Rattle.refinement.specs.Marks.{marked-same, marked-other}
-use Rattle.refinement.specs.Pushes.{marked}
 use Rattle.refinement.specs.Seen.{seenTmp, outcome}
 use Rattle.meaning.specs.Scopes.{namedTmp}
 use Rattle.semantics.specs.declared.walk.Step.{Step}
@@ -29,9 +25,9 @@ use Rattle.expression_refinement.specs.Encodings.{Small, tmps, count}
 use Rattle.expression_refinement.specs.Answers.{acts, temps, word, Halts}
 use Rattle.semantics_refinement.specs.Views.{Beside}
 use Rattle.semantics_refinement.specs.Given.{Given, walkOf}
-use Rattle.semantics_refinement.specs.Locals.{declared, Declared, named-same, named-goes, named-halts, declared-stood, declared-scoped}
+use Rattle.semantics_refinement.specs.Locals.{hungMarks, declared, Declared, named-same, named-goes, named-halts, declared-stood, declared-others, declared-below, declared-scoped}
 use Rattle.semantics_refinement.specs.Standing.{Standing, Framed, Steps}
-use Rattle.semantics_refinement.specs.Stepping.{name-before, marked-below, export-more, steps-stop, steps-then}
+use Rattle.semantics_refinement.specs.Stepping.{export-more, steps-stop, steps-then}
 
 module _ (s t : List ℕ) (e : Env) (p front tail marks rest : List ℕ) (we : WordEnv) (given : Given s t e front tail rest we) (spare : ℕ) (b : Beside)
     (from : State) (stand : Standing s t e front tail rest we spare p marks b from) (name : ℕ) (known : name < 1024) (size : Option ℕ) (small : Small size) where
@@ -39,7 +35,7 @@ module _ (s t : List ℕ) (e : Env) (p front tail marks rest : List ℕ) (we : W
   few = omega (arith, stand .own, stand .scopes, stand .counted)
 
   abbrev pub marks1 : List ℕ
-  marks1 = marked marks (count from) (we .scope % 8192)
+  marks1 = hungMarks marks rest (tmps from) name size (we .scope)
 
   abbrev Declares : Value → State → Type 0
   Declares v u = Declared s t e p front tail marks rest we given few spare from (stand .stood) (stand .scoped) name known size small v u
@@ -55,20 +51,14 @@ module _ (s t : List ℕ) (e : Env) (p front tail marks rest : List ℕ) (we : W
     pub stands : Standing s t e front tail rest we spare p marks1 b u
     pub framed : (level : ℕ) → Framed s t e front tail rest we spare level p marks b from p marks1 b u
 
-  counts : count after1 ≡ suc (count from)
-  counts = length-append (tmps from) _ ∙ omega arith
-
-  scope-mark : we .scope % 8192 ≡ we .scope
-  scope-mark = omega (arith, few)
-
   names-declared : (v : Value) → Declares v after1 → Names v after1
   names-declared v g = record {
     sound = rw (g .value) (g .room .sound);
     actions = refl;
     begun = refl;
     stands = record {
-      stood = declared-stood s t e p front tail marks rest we given few spare from (stand .stood) (stand .scoped) name known size small (g .new) (g .room);
-      scoped = declared-scoped s t e p front tail marks rest we given few spare from (stand .stood) (stand .scoped) name known size small (g .new) (g .room);
+      stood = declared-stood s t e p front tail marks rest we given few spare from (stand .stood) (stand .scoped) name known size small (g .undeclared) (g .limited) (g .room);
+      scoped = declared-scoped s t e p front tail marks rest we given few spare from (stand .stood) (stand .scoped) name known size small (g .undeclared) (g .limited) (g .room);
       labelled = stand .labelled;
       labels = stand .labels;
       few = stand .few;
@@ -79,7 +69,7 @@ module _ (s t : List ℕ) (e : Env) (p front tail marks rest : List ℕ) (we : W
       counted = stand .counted;
       scopes = stand .scopes;
       own = stand .own;
-      marked = marked-below marks (count from) (we .scope % 8192) (b .scopes) (omega (arith, scope-mark, stand .own)) (stand .marked);
+      marked = declared-below s t e p front tail marks rest we given few spare from (stand .stood) (stand .scoped) name known size small (g .undeclared) (g .limited) (g .room) (b .scopes) (stand .own) (stand .marked);
       opened = stand .opened;
     };
     framed = λ level. record {
@@ -90,9 +80,7 @@ module _ (s t : List ℕ) (e : Env) (p front tail marks rest : List ℕ) (we : W
       newLabels = λ j h k. absurd (omega arith);
       scopes = omega arith;
       temporaries = g .room .count;
-      oldMarks = λ i h. marked-other marks (count from) (we .scope % 8192) i h;
-      oldNames = λ i h. name-before (tmps from) _ i h;
-      newMarks = λ i h k. let c : i ≡ count from = omega (arith, counts) in inr (inl (rw (c, marked-same marks (count from) (we .scope % 8192)) scope-mark));
+      locals = λ n k a l z. declared-others s t e p front tail marks rest we given few spare from (stand .stood) (stand .scoped) name known size small (g .undeclared) (g .limited) (g .room) n k (λ x y. z (sym y));
     };
   }
 

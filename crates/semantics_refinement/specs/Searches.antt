@@ -1,32 +1,26 @@
--- Searches in words that have grown: a parameter, a local or a label of this scope is found where it was, if nothing new
--- belongs to this scope; and in a scope that nothing belongs to, nothing is found.
+-- Searches in words that have grown: a parameter or a label of this scope is found where it was, if nothing new belongs to
+-- this scope; and in a scope that nothing belongs to, no local and no label is found.
 use Prim.Native.Nat.{ℕ, zero, suc, _+_, _-_, _*_, _%_, _≤_, _<_}
 use mathlib.Core.Path.{_≡_, refl, _∙_, subst}
-use mathlib.Core.Logic.{_≢_, _⊎_, inl, inr}
+use mathlib.Core.Logic.{_≢_}
 use mathlib.Core.Bool.{Bool, true, false}
 use mathlib.Core.List.{List, [], _∷_}
 use mathlib.Core.Option.{Option, none, some}
-use native.Mathlib.Nat.{add-zero}
 use native.Mathlib.Omega.{arith}
-use lib.ListN.{length, getD, getElem?}
+use lib.ListN.{length, getD}
 use lib.Dec.{eqb, ltb}
 use borrow.Author.Tests.{ne-eqb, lt-ltb, le-ltb}
-use Rattle.definition.specs.Base.{orElse, andThen, first}
-use Rattle.definition.specs.Value.{Temporary}
+use Rattle.definition.specs.Base.{first}
 use Rattle.definition.specs.Walk.{ExprValue, Label}
 use Rattle.definition.specs.Scope.{find}
-use Rattle.definition.specs.ActionList.{orNone}
 use Rattle.pcode.specs.Base.{if_then_else_}
 use Rattle.pcode.specs.Values.{valueAt}
-use Rattle.refinement.specs.Encoding.{temporariesIn, SoundTmp, Each}
-use Rattle.refinement.specs.Marks.{tmp-at, tmp-name, tmp-mark}
 use Rattle.meaning.specs.declared.scope.Found.{Found}
 use Rattle.meaning.specs.Slots.{slotAt, paramPlace}
-use Rattle.meaning.specs.Scopes.{isLocal, findLocal, ownLocal, tmpOf, tmpLocal, orTmp, lookupLocal}
+use Rattle.meaning.specs.Scopes.{isLocal, lookupLocal}
 use Rattle.semantics.specs.Labels.{findLabel, labelKey}
-use Rattle.expression_refinement.specs.Encodings.{nameAt}
+use Rattle.expression_refinement.specs.Tree.{none-local}
 use Rattle.expression_refinement.specs.Scopes.{ParamsIn}
-use Rattle.semantics_refinement.specs.Locals.{orFound, tmpFound, lookup-more}
 use Rattle.semantics_refinement.specs.Labels.{idOr, LabelsIn}
 use Rattle.semantics_refinement.specs.Standing.{labelScope}
 
@@ -56,66 +50,10 @@ params-same p q params (x ∷ xs) h g =
 
 -- Locals.
 
-tmp-in : (ts : List Temporary) (i : ℕ) → i < length ts → Each SoundTmp ts → (t : Temporary) × (getElem? ts i ≡ some t) × SoundTmp t
-tmp-in [] i h f = absurd (omega arith)
-tmp-in (t ∷ ts) zero h f = (t, refl, f .0)
-tmp-in (t ∷ ts) (suc i) h f = tmp-in ts i (omega arith) (f .1)
-
--- a temporary is found by its name and its mark
-pub local-at : (marks rest : List ℕ) (ts : List Temporary) (i name scope : ℕ) → i < length ts → Each SoundTmp ts
-    → isLocal (getD (temporariesIn marks rest ts) i 0) name scope ≡ (if eqb (orNone (nameAt ts i)) name then eqb (getD marks i 0) scope else false)
-unfolding isLocal nameAt andThen
-local-at marks rest ts i name scope h f =
-    let k = tmp-in ts i h f in
-    rw (tmp-at marks rest ts i (k .0) (k .1), tmp-name (getD marks i 0) (k .0) (k .2), tmp-mark (getD marks i 0) (k .0) (k .2), k .1)
-
--- one with no name, or of another scope, is not
-pub local-not : (marks rest : List ℕ) (ts : List Temporary) (i name scope : ℕ) → i < length ts → Each SoundTmp ts → name < 1024 → (nameAt ts i ≡ none) ⊎ (getD marks i 0 ≢ scope)
-    → isLocal (getD (temporariesIn marks rest ts) i 0) name scope ≡ false
-local-not marks rest ts i name scope h f k (inl z) = local-at marks rest ts i name scope h f ∙ (unfold if_then_else_ orNone orElse in rw (z, ne-eqb 65535 name (λ q. omega arith)))
-local-not marks rest ts i name scope h f k (inr z) = local-at marks rest ts i name scope h f ∙ rw (ne-eqb (getD marks i 0) scope z) (go (eqb (orNone (nameAt ts i)) name))
-  where
-    go : (b : Bool) → (if b then false else false) ≡ false
-    go true = unfold if_then_else_ in refl
-    go false = unfold if_then_else_ in refl
-
-nothing-new : (x : Found) (i : ℕ) → orFound x (if false then tmpFound i else Found.Nothing) ≡ x
-unfolding orFound if_then_else_
-nothing-new (Found.Is v) i = refl
-nothing-new Found.Nothing i = refl
-
-module _ (t : List ℕ) (name scope : ℕ) where
-  no-local : (m w : List ℕ) → lookupLocal t m scope 0 name ≡ lookupLocal t w scope 0 name
-  unfolding lookupLocal tmpLocal findLocal
-  no-local m w = go (eqb scope 0) (ownLocal t name)
-    where
-      go : (b : Bool) (x : Found) → (if b then orTmp x m 0 name scope else tmpOf 0 0) ≡ (if b then orTmp x w 0 name scope else tmpOf 0 0)
-      go true (Found.Is v) = unfold if_then_else_ orTmp in refl
-      go true Found.Nothing = unfold if_then_else_ orTmp tmpLocal findLocal in refl
-      go false x = unfold if_then_else_ in refl
-
-  same-locals : (m w : List ℕ) (k : ℕ) → ((j : ℕ) → j < k → isLocal (getD m j 0) name scope ≡ isLocal (getD w j 0) name scope) → lookupLocal t m scope k name ≡ lookupLocal t w scope k name
-  same-locals m w zero h = no-local m w
-  same-locals m w (suc k) h = rw (lookup-more m name scope t k, lookup-more w name scope t k, same-locals m w k (λ j l. h j (omega arith)), h k (omega arith))
-
-  no-more : (m : List ℕ) (n k : ℕ) → ((j : ℕ) → n ≤ j → j < n + k → isLocal (getD m j 0) name scope ≡ false) → lookupLocal t m scope (n + k) name ≡ lookupLocal t m scope n name
-  no-more m n zero h = rw (add-zero n)
-  no-more m n (suc k) h =
-      let z : n + suc k ≡ suc (n + k) = omega arith in
-      rw (z, lookup-more m name scope t (n + k), h (n + k) (omega arith) (omega arith))
-      (nothing-new (lookupLocal t m scope (n + k) name) (n + k) ∙ no-more m n k (λ j a b. h j a (omega arith)))
-
-  -- among more temporaries
-  pub locals-longer : (m w : List ℕ) (n k : ℕ) → n ≤ k → ((j : ℕ) → j < n → isLocal (getD w j 0) name scope ≡ isLocal (getD m j 0) name scope) → ((j : ℕ) → n ≤ j → j < k → isLocal (getD w j 0) name scope ≡ false)
-      → lookupLocal t w scope k name ≡ lookupLocal t m scope n name
-  locals-longer m w n k l h f =
-      let z : n + (k - n) ≡ k = omega arith in
-      subst (λ (i : ℕ). lookupLocal t w scope i name ≡ lookupLocal t m scope n name) z (no-more w n (k - n) (λ j a b. f j a (omega arith)) ∙ same-locals w m n h)
-
-  pub locals-none : (m : List ℕ) (k : ℕ) → 0 < scope → ((j : ℕ) → j < k → isLocal (getD m j 0) name scope ≡ false) → lookupLocal t m scope k name ≡ Found.Nothing
-  locals-none m k h f =
-      let z : 0 + k ≡ k = omega arith in
-      subst (λ (i : ℕ). lookupLocal t m scope i name ≡ lookupLocal t m scope 0 name) z (no-more m 0 k (λ j a b. f j (omega arith))) ∙ (unfold lookupLocal tmpLocal findLocal tmpOf if_then_else_ in rw (ne-eqb scope 0 (λ q. omega arith)))
+-- in a scope of a macro that no temporary belongs to
+pub locals-none : (t m : List ℕ) (name scope n : ℕ) → 0 < scope → ((j : ℕ) → j < n → isLocal (getD m j 0) name scope ≡ false) → lookupLocal t m scope n name ≡ Found.Nothing
+unfolding lookupLocal if_then_else_
+locals-none t m name scope n h f = rw (ne-eqb scope 0 (λ q. omega arith)) (none-local m n name scope f)
 
 -- Labels.
 

@@ -87,9 +87,7 @@ module _ (s t : List ℕ) (e : Env) (p front tail marks rest : List ℕ) (we : W
     newLabels = f .newLabels;
     scopes = f .scopes;
     temporaries = f .temporaries;
-    oldMarks = f .oldMarks;
-    oldNames = f .oldNames;
-    newMarks = f .newMarks;
+    locals = f .locals;
   }
 
   exported : (next : ℕ) (x : Stepped) (o : Outcome Export) → Refines (e .section) front tail marks rest spare from (λ (y : Export). (next, withExported y b)) (SoundExport (e .section)) (seenStep (orNone (from .sizing .begun)) x) o
@@ -98,7 +96,7 @@ module _ (s t : List ℕ) (e : Env) (p front tail marks rest : List ℕ) (we : W
   exported next x (done y u) r =
       let j = r .goes y u refl in
       Steps.goes (withExport y u) p marks (withExported y b) refl (seen-next _ x p (next, withExported y b) _ _ _ (r .same))
-      (standing-export y u (j .1) (standing-later s t e front tail rest we spare p marks b from u stand (j .0))) (framed-export y u (framed-later s t e front tail rest we spare level p marks b from u (j .0 .later)))
+      (standing-export y u (j .1) (standing-later s t e front tail rest we spare p marks b from u stand (j .0))) (framed-export y u (framed-later s t e front tail rest we spare level p marks b from u stand (j .0)))
       (omega arith) (j .0 .later .placed ∙ omega arith)
   exported next x (stopped c ordinal errors) r =
       let j = seen-stop (orNone (from .sizing .begun)) x p (refusalNumber c) (positive c) (r .same) in

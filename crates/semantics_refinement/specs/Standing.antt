@@ -4,7 +4,7 @@ use Prim.Native.Nat.{ℕ, _+_, _/_, _%_, _≤_, _<_}
 use mathlib.Core.Path.{_≡_}
 use mathlib.Core.Logic.{_≢_, _⊎_}
 use mathlib.Core.List.{List}
-use mathlib.Core.Option.{none, some}
+use mathlib.Core.Option.{some}
 use lib.ListN.{length, getD}
 use Rattle.definition.specs.Refusals.{Refusal, refusalNumber}
 use Rattle.definition.specs.Walk.{State, Env, Outcome, done, stopped}
@@ -12,9 +12,10 @@ use Rattle.definition.specs.ActionList.{orNone, labelsPlaced}
 use Rattle.guarantee.specs.Kept.{Kept}
 use Rattle.pcode.specs.declared.push.Env.{Env as WordEnv}
 use Rattle.refinement.specs.Encoding.{EachOption}
+use Rattle.meaning.specs.Scopes.{tmpLocal}
 use Rattle.semantics.specs.declared.walk.Step.{Step}
 use Rattle.semantics.specs.Walks.{Walked, walked}
-use Rattle.expression_refinement.specs.Encodings.{nameAt, tmps, count, Stood}
+use Rattle.expression_refinement.specs.Encodings.{count, Stood}
 use Rattle.expression_refinement.specs.Answers.{acts, temps, word}
 use Rattle.expression_refinement.specs.Scopes.{Scoped}
 use Rattle.semantics_refinement.specs.Views.{Beside, ExportIs}
@@ -41,11 +42,11 @@ module _ (s t : List ℕ) (e : Env) (front tail rest : List ℕ) (we : WordEnv) 
     pub counted : b .statements ≤ 4096
     pub scopes : b .scopes ≤ b .statements
     pub own : we .scope ≤ b .scopes
-    pub marked : (i : ℕ) → getD marks i 0 ≤ b .scopes
+    pub marked : (i : ℕ) → getD marks i 0 / 262144 ≤ b .scopes
     pub opened : (j : ℕ) → j < b .labels → labelScope p j ≤ b .scopes
 
-  -- From p, marks, b and from to q, more, c and u: slots below a level stay, and so do labels and temporaries of other
-  -- scopes; what is new belongs to this scope or to one opened since.
+  -- From p, marks, b and from to q, more, c and u: slots below a level stay, and so do labels and locals of other scopes;
+  -- what is new belongs to this scope or to one opened since.
   pub record Framed (level : ℕ) (p marks : List ℕ) (b : Beside) (from : State) (q more : List ℕ) (c : Beside) (u : State) : Type 0 where
     pub slots : (i : ℕ) → i < level → getD q i 0 ≡ getD p i 0
     pub labels : b .labels ≤ c .labels
@@ -54,9 +55,8 @@ module _ (s t : List ℕ) (e : Env) (front tail rest : List ℕ) (we : WordEnv) 
     pub newLabels : (j : ℕ) → b .labels ≤ j → j < c .labels → (labelScope q j ≡ we .scope) ⊎ (b .scopes < labelScope q j)
     pub scopes : b .scopes ≤ c .scopes
     pub temporaries : count from ≤ count u
-    pub oldMarks : (i : ℕ) → i < count from → getD more i 0 ≡ getD marks i 0
-    pub oldNames : (i : ℕ) → i < count from → nameAt (tmps u) i ≡ nameAt (tmps from) i
-    pub newMarks : (i : ℕ) → count from ≤ i → i < count u → (nameAt (tmps u) i ≡ none) ⊎ ((getD more i 0 ≡ we .scope) ⊎ (b .scopes < getD more i 0))
+    pub locals : (name scope : ℕ) → name < 1024 → scope ≤ b .scopes → scope ≢ we .scope
+        → tmpLocal (temps (e .section) front tail more rest u) (count u) name scope ≡ tmpLocal (temps (e .section) front tail marks rest from) (count from) name scope
 
   -- One statement that enters no macro, and that places so many labels: the words go on behind it, or they refuse at the
   -- statement that has begun, as the definition does.

@@ -1,18 +1,15 @@
 -- A statement's answer as a step of the walk: what stands and is framed after expressions, pushes and a new local, and how
 -- steps follow each other.
-use Prim.Native.Nat.{ℕ, zero, suc, _+_, _≤_, _<_}
+use Prim.Native.Nat.{ℕ, _+_, _≤_, _<_}
 use mathlib.Core.Path.{_≡_, refl, sym, _∙_, ap, subst}
-use mathlib.Core.Logic.{inl}
 use mathlib.Core.Bool.{Bool, true, false}
-use mathlib.Core.List.{List, [], _∷_, _++_}
+use mathlib.Core.List.{List}
 use mathlib.Core.Option.{Option, none, some}
 use native.Mathlib.Omega.{arith}
-use lib.ListN.{length, getD}
-use lib.Dec.{eqb, ltb}
-use borrow.Author.Tests.{eqb-true, ltb-true, ltb-false}
-use Rattle.definition.specs.Base.{andThen}
+use lib.Dec.{eqb}
+use borrow.Author.Tests.{eqb-true}
 use Rattle.definition.specs.Refusals.{Refusal, refusalNumber}
-use Rattle.definition.specs.Value.{Value, Export, Temporary}
+use Rattle.definition.specs.Value.{Value, Export}
 use Rattle.definition.specs.Walk as walks
 use Rattle.definition.specs.Walk.{ExprValue, Scope, State, Env, Outcome, done, stopped, on}
 use Rattle.definition.specs.ActionList.{orNone, labelsPlaced}
@@ -22,8 +19,6 @@ use Rattle.pcode.specs.declared.push.State.{State as WordState}
 use Rattle.pcode.specs.declared.push.Env.{Env as WordEnv}
 use Rattle.pcode.specs.Base.{if_then_else_}
 use Rattle.refinement.specs.Encoding.{encV, Sound, EachOption}
-use Rattle.refinement.specs.Marks.{marked-same, marked-other}
-use Rattle.refinement.specs.Pushes.{marked, marked-length}
 use Rattle.refinement.specs.Seen.{Seen, no, yes, outcome}
 use Rattle.meaning.specs.declared.scope.ExprValue.{ExprValue as WordExpr}
 use Rattle.expression.specs.declared.expr.Expr.{Expr}
@@ -31,14 +26,13 @@ use Rattle.expression.specs.declared.expr.Operand.{Operand}
 use Rattle.expression.specs.Answers.{ExprOut, resolved, onExpr, OperandOut, operand, onOperand}
 use Rattle.semantics.specs.declared.walk.Step.{Step}
 use Rattle.semantics.specs.Walks.{Stepped, stepped, Walked, walked, besideP}
-use Rattle.expression_refinement.specs.Encodings.{encX, SoundX, nameAt, tmps, count, Later, sound-more}
+use Rattle.expression_refinement.specs.Encodings.{encX, SoundX, count, sound-more}
 use Rattle.expression_refinement.specs.Answers.{acts, temps, word, seenExpr, seenOperand, Halts, Reached, Refines}
-use Rattle.expression_refinement.specs.Scopes.{nameless, scoped-later}
+use Rattle.expression_refinement.specs.Scopes.{tmp-later, scoped-later}
 use Rattle.semantics_refinement.specs.Views.{Beside, beside, seenStep, ExportIs, Goes}
 use Rattle.semantics_refinement.specs.Given.{walkOf}
 use Rattle.semantics_refinement.specs.Simple.{SoundExport}
 use Rattle.semantics_refinement.specs.Labels.{LabelsIn}
-use Rattle.semantics_refinement.specs.Locals.{more}
 use Rattle.semantics_refinement.specs.Standing.{Standing, Framed, Steps}
 use Rattle.semantics_refinement.specs.Frames.{framed-trans}
 
@@ -57,27 +51,6 @@ seen-stop begun (stepped (Step.Stop n ordinal) b u) p k l h = (b, u, go (eqb ord
     go : (c : Bool) → eqb ordinal begun ≡ c → _≡_ {A = Seen (ℕ × Beside)} (no (if c then n else 0)) (no k) → walked (Step.Stop n ordinal) p b u ≡ walked (Step.Stop k begun) p b u
     go true q h = let i : n ≡ k = cc in rw (i, eqb-true ordinal begun q)
     go false q h = let i : 0 ≡ k = cc in absurd (omega arith)
-
--- Names and marks of temporaries.
-
-pub name-before : (ts us : List Temporary) (i : ℕ) → i < length ts → nameAt (ts ++ us) i ≡ nameAt ts i
-unfolding nameAt andThen
-name-before [] us i h = absurd (omega arith)
-name-before (t ∷ ts) us zero h = refl
-name-before (t ∷ ts) us (suc i) h = name-before ts us i (omega arith)
-
-past-end : (xs : List ℕ) (i : ℕ) → length xs ≤ i → getD xs i 0 ≡ 0
-past-end [] i h = refl
-past-end (x ∷ xs) zero h = absurd (omega arith)
-past-end (x ∷ xs) (suc i) h = past-end xs i (omega arith)
-
-pub marked-below : (marks : List ℕ) (n k bound : ℕ) → k ≤ bound → ((i : ℕ) → getD marks i 0 ≤ bound) → (i : ℕ) → getD (marked marks n k) i 0 ≤ bound
-marked-below marks n k bound l h i = go (ltb i n) refl (ltb n i) refl
-  where
-    go : (a : Bool) → ltb i n ≡ a → (b : Bool) → ltb n i ≡ b → getD (marked marks n k) i 0 ≤ bound
-    go true p b q = rw (marked-other marks n k i (ltb-true i n p)) (h i)
-    go false p true q = let j = ltb-true n i q in let c = marked-length marks n k in rw (past-end (marked marks n k) i (omega arith)) (omega arith)
-    go false p false q = let a = ltb-false i n p in let b = ltb-false n i q in let c : i ≡ n = omega arith in rw (c, marked-same marks n k) l
 
 module _ (s t : List ℕ) (e : Env) (front tail rest : List ℕ) (we : WordEnv) (spare : ℕ) where
   abbrev Stand : List ℕ → List ℕ → Beside → State → Type 0
@@ -112,18 +85,16 @@ module _ (s t : List ℕ) (e : Env) (front tail rest : List ℕ) (we : WordEnv) 
     opened = h .opened;
   }
 
-  pub framed-later : (level : ℕ) (p marks : List ℕ) (b : Beside) (from u : State) → Later from u → Frame level p marks b from p marks b u
-  framed-later level p marks b from u l = record {
+  pub framed-later : (level : ℕ) (p marks : List ℕ) (b : Beside) (from u : State) → Stand p marks b from → Reached (e .section) front tail marks rest spare from u → Frame level p marks b from p marks b u
+  framed-later level p marks b from u h r = record {
     slots = λ i h. refl;
     labels = omega arith;
     oldLabels = λ j h. refl;
     otherLabels = λ j h k. refl;
     newLabels = λ j h k. absurd (omega arith);
     scopes = omega arith;
-    temporaries = l .temporaries;
-    oldMarks = λ i h. refl;
-    oldNames = λ i h. l .names i;
-    newMarks = λ i h k. inl (l .names i ∙ nameless (tmps from) i h);
+    temporaries = r .later .temporaries;
+    locals = λ name scope a l k. tmp-later s t e p front tail marks rest we spare spare from u (h .stood) (r .stood) (r .later) name scope a;
   }
 
   module _ (placing level : ℕ) (p marks : List ℕ) (b : Beside) (from : State) (next : ℕ) where
@@ -142,7 +113,7 @@ module _ (s t : List ℕ) (e : Env) (front tail rest : List ℕ) (we : WordEnv) 
   pub steps-goes : (level : ℕ) (p marks : List ℕ) (b : Beside) (from : State) (next begun : ℕ) (x : Stepped) (o : Outcome (Unit {0})) → Stand p marks b from → begun ≡ orNone (from .sizing .begun)
       → Goes (e .section) front tail marks rest spare from next b begun x o → StepsTo 0 level p marks b from next (besideP p x) o
   steps-goes level p marks b from next begun x o h q r =
-      steps-seen 0 level p marks b from next marks b begun x o q (r .same) (r .stops) (omega arith) λ u j. let k = r .goes tt u j .0 in (standing-later p marks b from u h k, framed-later level p marks b from u (k .later), k .later .placed ∙ omega arith)
+      steps-seen 0 level p marks b from next marks b begun x o q (r .same) (r .stops) (omega arith) λ u j. let k = r .goes tt u j .0 in (standing-later p marks b from u h k, framed-later level p marks b from u h k, k .later .placed ∙ omega arith)
 
   -- steps follow what is framed
   pub steps-then : (first placing all level : ℕ) (p marks : List ℕ) (b : Beside) (from : State) (q more : List ℕ) (c : Beside) (mid : State) (next : ℕ) (x : Walked) (o : Outcome (Unit {0}))
@@ -162,7 +133,7 @@ module _ (s t : List ℕ) (e : Env) (front tail rest : List ℕ) (we : WordEnv) 
 
     steps-after : (u : State) (x : Walked) (o : Outcome (Unit {0})) → Reached (e .section) front tail marks rest spare from u → Onwards u x o → StepsTo placing level p marks b from next x o
     steps-after u x o r f =
-        steps-then 0 placing placing level p marks b from p marks b u next x o (framed-later level p marks b from u (r .later)) (r .later .begun) (omega arith) (r .later .placed ∙ omega arith) (omega arith)
+        steps-then 0 placing placing level p marks b from p marks b u next x o (framed-later level p marks b from u stand r) (r .later .begun) (omega arith) (r .later .placed ∙ omega arith) (omega arith)
         (f (standing-later p marks b from u stand r) (begun-is ∙ ap orNone (sym (r .later .begun))))
 
     pub steps-expr : (x : ExprOut) (o : Outcome ExprValue) (end : ℕ) (f : WordExpr → ℕ → WordState → List ℕ → List ℕ → R) (g : ℕ → List ℕ → List ℕ → R) (k : ExprValue → walks.Walk (Unit {0}))

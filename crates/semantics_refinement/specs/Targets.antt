@@ -1,6 +1,6 @@
 -- What a copy is written to: a name that means nothing yet becomes a local, anything else is resolved. And the two
 -- statements that write an expression's value, to a new local and to a target.
-use Prim.Native.Nat.{ℕ, zero, suc, _+_, _%_, _≤_, _<_}
+use Prim.Native.Nat.{ℕ, zero, suc, _+_, _≤_, _<_}
 use mathlib.Core.Path.{_≡_, refl, sym, _∙_, subst}
 use mathlib.Core.Logic.{_≢_}
 use mathlib.Core.Bool.{Bool, true, false}
@@ -32,13 +32,12 @@ use Rattle.refinement.specs.Encoding.{encV, actionsIn, Sound}
 use Rattle.meaning.specs.declared.scope.ExprValue.{ExprValue as WordExpr}
 use Rattle.expression.specs.declared.expr.Expr.{Expr}
 use Rattle.expression.specs.Answers.{resolved, onExpr}
-use Rattle.refinement.specs.Pushes.{marked}
 use Rattle.meaning.specs.Scopes.{namedTmp}
 use Rattle.expression.specs.Expressions.{resolveExpr}
 use Rattle.semantics.specs.Walks.{Stepped, stepped, besideP, stop}
 use Rattle.semantics.specs.Simple.{assign, localAssignment}
 use Rattle.semantics.specs.Copies.{copyInto, targetName, targetSize, afterTarget, newTarget, isWrong, isNew, resolveDst, copyTarget, copyStatement}
-use Rattle.expression_refinement.specs.Encodings.{encX, SoundX, Small, sound-more, x-more, count}
+use Rattle.expression_refinement.specs.Encodings.{encX, SoundX, Small, sound-more, x-more, tmps, count}
 use Rattle.expression_refinement.specs.Answers.{acts, temps, word}
 use Rattle.expression_refinement.specs.Below.{Spare}
 use Rattle.expression_refinement.specs.Scopes.{encM, ident-is}
@@ -50,6 +49,7 @@ use Rattle.semantics_refinement.specs.ReadInto.{read-to}
 use Rattle.semantics_refinement.specs.Copies.{copy-into}
 use Rattle.semantics_refinement.specs.Standing.{Standing, Steps}
 use Rattle.semantics_refinement.specs.Stepping.{steps-goes, steps-expr}
+use Rattle.semantics_refinement.specs.Locals.{hungMarks}
 use Rattle.semantics_refinement.specs.Naming.{Names, steps-named}
 
 module _ (s t : List ℕ) (e : Env) (p front tail rest : List ℕ) (we : WordEnv) (given : Given s t e front tail rest we) (spare : ℕ) (room : Spare spare tail) (b : Beside) (level : ℕ) where
@@ -81,8 +81,8 @@ module _ (s t : List ℕ) (e : Env) (p front tail rest : List ℕ) (we : WordEnv
     abbrev W : WordState
     W = word (e .section) front tail marks rest from
 
-    abbrev marks1 : List ℕ
-    marks1 = marked marks (count from) (we .scope % 8192)
+    abbrev marks1 : ℕ → Option ℕ → List ℕ
+    marks1 name size = hungMarks marks rest (tmps from) name size (we .scope)
 
     assigned-steps : (name : ℕ) → name < 1024 → (size : Option ℕ) → Small size → (pos : ℕ) (x : PcodeExpr) (next : ℕ) → exprWithin (le16 s 2) 32 (drop pos s) ≡ parsed x (drop next s) → next ≤ length s
         → Ends marks from next (onTmp (namedTmp t M we name (orNone size) W) (λ v st1 u. assign s t p A u we pos v st1 (walkOf b W)) (λ n u. stepped (stop n (walkOf b W)) A u))
@@ -90,8 +90,8 @@ module _ (s t : List ℕ) (e : Env) (p front tail rest : List ℕ) (we : WordEnv
     assigned-steps name known size small pos x next reads inside =
         steps-named s t e p front tail marks rest we given spare b from stand name known size small 0 level next (W .sizing .begun) refl (besideP p)
         (λ v st1 u. assign s t p A u we pos v st1 (walkOf b W)) (λ n u. stepped (stop n (walkOf b W)) A u) (λ to e1 st1. on e1 (expressions.resolveExpr x e1 st1) λ y. d.readTo y to) (λ n m. (A, p, m, unfold besideP in refl))
-        λ v u j q. subst (λ (y : List SemanticAction). Ends marks1 u next (assign s t p (actionsIn front tail y) (temps (e .section) front tail marks1 rest u) we pos (encV v) (word (e .section) front tail marks1 rest u) (walkOf b W)) (on e (expressions.resolveExpr x e u) λ y. d.readTo y v)) (j .actions)
-        (assign-steps marks1 u (j .stands) W q pos x next reads inside v (j .sound))
+        λ v u j q. subst (λ (y : List SemanticAction). Ends (marks1 name size) u next (assign s t p (actionsIn front tail y) (temps (e .section) front tail (marks1 name size) rest u) we pos (encV v) (word (e .section) front tail (marks1 name size) rest u) (walkOf b W)) (on e (expressions.resolveExpr x e u) λ y. d.readTo y v)) (j .actions)
+        (assign-steps (marks1 name size) u (j .stands) W q pos x next reads inside v (j .sound))
 
     pub assignment-steps : (pos : ℕ) → pos ≤ length s → (x : Statement) (u : List ℕ) (i : LocalAssignmentAt s (le16 s 2) pos x u)
         → Ends marks from (i .expr-end) (localAssignment s t p A M we pos (walkOf b W)) (on e (scope.namedTmp (le16 s (pos + 1)) (absentAt s (pos + 3)) e from) λ to e1 st1. on e1 (expressions.resolveExpr (i .expr) e1 st1) λ y. d.readTo y to)
@@ -193,8 +193,8 @@ module _ (s t : List ℕ) (e : Env) (p front tail marks rest : List ℕ) (we : W
         λ y u r h stand1 q. steps-goes s t e front tail rest we spare level p marks b u next (z .sizing .begun) _ (on e (d.asDestination y e u) (d.copyInto x)) stand1 q
         (copy-into s t e front tail marks rest we given spare room (walkOf b z) next u (r .stood) x y (x-more (e .section) (count st) (count u) (r .later .temporaries) x sound) h))
 
-    abbrev marks2 : List ℕ
-    marks2 = marked marks (count st) (we .scope % 8192)
+    abbrev marks2 : ℕ → Option ℕ → List ℕ
+    marks2 name size = hungMarks marks rest (tmps st) name size (we .scope)
 
     -- a new local
     new-target : (name : ℕ) → name < 1024 → (size : Option ℕ) → Small size
@@ -208,11 +208,11 @@ module _ (s t : List ℕ) (e : Env) (p front tail marks rest : List ℕ) (we : W
         λ v u j q. copied v u j q)
       where
         copied : (v : Value) (u : State) (j : Names s t e p front tail marks rest we given spare b st stand name known size small v u) → z .sizing .begun ≡ orNone (u .sizing .begun)
-            → Steps s t e front tail rest we spare 0 level p marks2 b u next (besideP p (onExpr (thenL (listed (Expr.Value (WordExpr.Local (encV v)) next (word (e .section) front tail marks2 rest u)) (temps (e .section) front tail marks2 rest u)) (λ r u. resolved r A2 u)) into refusing)) (on e (done (d.Destination.Local v) u) (d.copyInto x))
+            → Steps s t e front tail rest we spare 0 level p (marks2 name size) b u next (besideP p (onExpr (thenL (listed (Expr.Value (WordExpr.Local (encV v)) next (word (e .section) front tail (marks2 name size) rest u)) (temps (e .section) front tail (marks2 name size) rest u)) (λ r u. resolved r A2 u)) into refusing)) (on e (done (d.Destination.Local v) u) (d.copyInto x))
         copied v u j q = unfold thenL onExpr in
-            subst (λ (y : List SemanticAction). Steps s t e front tail rest we spare 0 level p marks2 b u next (besideP p (copyInto s t (actionsIn front tail y) (temps (e .section) front tail marks2 rest u) we (encX x) (WordExpr.Local (encV v)) next (word (e .section) front tail marks2 rest u) (walkOf b z))) (on e (done (d.Destination.Local v) u) (d.copyInto x))) (j .actions)
-            (steps-goes s t e front tail rest we spare level p marks2 b u next (z .sizing .begun) _ (on e (done (d.Destination.Local v) u) (d.copyInto x)) (j .stands) q
-            (unfold encX d.asDestination in copy-into s t e front tail marks2 rest we given spare room (walkOf b z) next u (j .stands .stood) x (ExprValue.Local v) (x-more (e .section) (count st) (count u) (j .framed 0 .temporaries) x sound) (j .sound)))
+            subst (λ (y : List SemanticAction). Steps s t e front tail rest we spare 0 level p (marks2 name size) b u next (besideP p (copyInto s t (actionsIn front tail y) (temps (e .section) front tail (marks2 name size) rest u) we (encX x) (WordExpr.Local (encV v)) next (word (e .section) front tail (marks2 name size) rest u) (walkOf b z))) (on e (done (d.Destination.Local v) u) (d.copyInto x))) (j .actions)
+            (steps-goes s t e front tail rest we spare level p (marks2 name size) b u next (z .sizing .begun) _ (on e (done (d.Destination.Local v) u) (d.copyInto x)) (j .stands) q
+            (unfold encX d.asDestination in copy-into s t e front tail (marks2 name size) rest we given spare room (walkOf b z) next u (j .stands .stood) x (ExprValue.Local v) (x-more (e .section) (count st) (count u) (j .framed 0 .temporaries) x sound) (j .sound)))
 
     pub target-steps : Copies st next (copyTarget s t p A2 M2 we (encX x) pos W2 (walkOf b z)) (on e (d.resolveDst to e st) (d.copyInto x))
     unfolding copyTarget resolveDst d.resolveDst
