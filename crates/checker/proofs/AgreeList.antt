@@ -1,28 +1,26 @@
 -- The whole list: the definition's checker is the checker of the words.
 use Prim.Native.Nat.{ℕ, zero, suc, _+_, _-_, _*_, _≤_, _<_, min}
 use mathlib.Core.Path.{_≡_, refl, sym, _∙_, ap}
-use mathlib.Core.Bool.{Bool, true, false, _&&_, not}
+use mathlib.Core.Bool.{Bool, true, false, _&&_, _||_, not}
 use mathlib.Core.List.{List, [], _∷_, _++_}
 use mathlib.Core.Option.{Option, none, some}
 use native.Mathlib.Omega.{arith}
-use native.Mathlib.Nat.{add-zero}
 use lib.ListN.{length, getD, take, drop, set, replicate, take-append-drop, length-drop, length-set, length-replicate}
 use lib.Seq.{length-take-le, drop-drop, getD-set-same, getD-set-other}
-use lib.Dec.{eqb, leb, ltb}
-use borrow.Author.Tests.{lt-ltb, le-ltb, le-leb, lt-leb, eq-eqb, ne-eqb, leb-true, leb-false, ltb-true, ltb-false, eqb-true, eqb-false}
+use lib.Dec.{eqb, ltb}
+use borrow.Author.Tests.{le-leb, lt-leb, ltb-true, eqb-true, eqb-false}
 use Rattle.definition.specs.Base.{if_then_else_, orElse, andThen, any, all, sameBytes}
-use Rattle.definition.specs.Operations.{Operation, operationNumber}
+use Rattle.definition.specs.Operations.{operationNumber}
 use Rattle.definition.specs.Value.{Value, ActionKind, SemanticAction, operationOf}
 use Rattle.definition.specs.ActionList.{actionKindNumber, operationWord, filled, actionWords, listWords, placesLabel}
 use Rattle.definition.specs.End.{isBuild, builds}
 use Rattle.definition.specs.Checker.{inputsFrom, outputFrom, actionKindNumbered, actionFrom, actionsFrom, layoutFits, sizesHold, places, labelsOnce, allBuilt, listHolds, check}
-use Rattle.checker.specs.Layout.{zeros, operationRight, belowOf, belowOfOperation, headFit, layoutFit}
-use Rattle.checker.specs.Marks as w
-use Rattle.checker.specs.Marks.{Noted, noted, noteLabel}
-use Rattle.checker.specs.Sweep.{actionFit, whenNew, rowsFit, labelsNew, buildsIt, anyBuilds, allBuiltBy, listFit}
+use Rattle.checker.specs.Action.{zeros, valueFit, inputsFit, rowOf, rowFit, operationFit, headFit, outputThere, actionFit}
+use Rattle.checker.specs.Sweep as w
+use Rattle.checker.specs.Sweep.{noted, noteLabel, whenNew, rowsFit, labelsNew, buildsIt, anyBuilds, allBuiltBy, listFit}
 use Rattle.checker.proofs.AgreeValue.{same-zeros, and-true}
-use Rattle.checker.proofs.AgreeKind.{KindIs, kind-is}
-use Rattle.checker.proofs.AgreeSizes.{if-and, eqb-comm, under, assoc, and-left, and-right}
+use Rattle.checker.proofs.AgreeKind.{operationRight, KindIs, kind-is}
+use Rattle.checker.proofs.AgreeSizes.{if-and, eqb-comm, assoc, and-left, and-right}
 use Rattle.checker.proofs.AgreeRow.{right, row-agrees}
 
 -- One row of a list.
@@ -231,7 +229,7 @@ labels-agree (suc n) ws (a ∷ rest) (more e r) q seen h =
     turn false false f = refl
 
     go : ((s : List ℕ) → length s ≡ 256 → labelsNew n (drop 24 ws) s ≡ (labelsOnce rest && fresh rest s)) → (l b : Bool) → (if l then ltb (a .number) 256 else true) ≡ true →
-        whenNew (if l then (if b then noted true (set seen (a .number) 1) else noted false seen) else noted true seen) (λ next. labelsNew n (drop 24 ws) next)
+        whenNew (if l then noted b (set seen (a .number) 1) else noted true seen) (λ next. labelsNew n (drop 24 ws) next)
         ≡ (not (l && any (places (a .number)) rest) && labelsOnce rest && ((if l then b else true) && fresh rest seen))
     go ih false b k = ih seen h
     go ih true false k = sym (and-false (not (any (places (a .number)) rest) && labelsOnce rest))
@@ -242,17 +240,14 @@ labels-agree (suc n) ws (a ∷ rest) (more e r) q seen h =
 
 -- a label that fits is below 256
 
-below-label : (s k op num : ℕ) → ltb num (belowOf s k op) ≡ true → (b : Bool) → eqb k 0 ≡ b → (if b then eqb op 62 else false) ≡ true → ltb num 256 ≡ true
-unfolding belowOf belowOfOperation if_then_else_
-below-label s k op num h true e f = rw (eqb-true k 0 e, eqb-true op 62 f) at h
-below-label s k op num h false e f = absurd (let z : _≡_ {A = ℕ} 0 1 = cc in omega arith)
+label-head : (s p : ℕ) (b : Bool) (ws : List ℕ) → eqb (getD ws 0 0) 0 ≡ true → getD ws 1 0 ≡ 62 → headFit s p b ws ≡ true → ltb (getD ws 2 0) 256 ≡ true
+unfolding headFit operationFit rowFit rowOf if_then_else_
+label-head s p b ws k o h = and-right (eqb (getD ws 3 0) 0 && not b) _ (rw (k, o) at h)
 
 label-below : (t s p : ℕ) (ws : List ℕ) → actionFit t s p ws ≡ true → w.placesLabel ws ≡ true → ltb (getD ws 2 0) 256 ≡ true
-unfolding actionFit layoutFit headFit w.placesLabel
+unfolding actionFit w.placesLabel
 label-below t s p ws h l =
-    let f : headFit s ws ≡ true = and-left _ _ (and-left _ _ h) in
-    let g = and-right (leb (getD ws 3 0) 8) _ (and-right (operationRight (getD ws 0 0) (getD ws 1 0)) _ f) in
-    below-label s (getD ws 0 0) (getD ws 1 0) (getD ws 2 0) (and-left _ _ g) (eqb (getD ws 0 0) 0) refl l
+    label-head s p (outputThere ws) ws (and-left (eqb (getD ws 0 0) 0) _ l) (eqb-true _ _ (and-right (eqb (getD ws 0 0) 0) _ l)) (and-right ((not (outputThere ws) || valueFit t s (eqb (getD ws 0 0) 0) (getD ws 4 0) (getD ws 5 0)) && inputsFit t s (eqb (getD ws 0 0) 0) ws) _ h)
 
 labels-small : (t s p n : ℕ) (ws : List ℕ) (found : List SemanticAction) → Reads n ws found → rowsFit t s p n ws ≡ true → small found ≡ true
 unfolding rowsFit small if_then_else_ placesLabel

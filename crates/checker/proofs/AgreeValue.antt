@@ -1,18 +1,18 @@
 -- A value's two words: read as a value, and asked whether they fit.
 use Prim.Native.Nat.{ℕ, zero, suc, _+_, _*_, _/_, _%_, _^_, _≤_, _<_}
-use mathlib.Core.Path.{_≡_, refl, sym, _∙_, ap}
+use mathlib.Core.Path.{_≡_, refl, sym, ap}
 use mathlib.Core.Bool.{Bool, true, false, _&&_, not}
 use mathlib.Core.List.{List, [], _∷_, _++_}
-use mathlib.Core.Option.{Option, none, some}
+use mathlib.Core.Option.{none, some}
 use native.Mathlib.Omega.{arith}
 use lib.ListN.{length, getD, drop, getElem?}
-use lib.Dec.{eqb, leb, ltb}
-use borrow.Author.Tests.{lt-ltb, le-ltb, le-leb, lt-leb, eq-eqb, ne-eqb, ltb-true, ltb-false, eqb-true, eqb-false}
-use Rattle.definition.specs.Base.{if_then_else_, orElse, andThen, isSome, all, sameBytes}
+use lib.Dec.{eqb, ltb}
+use borrow.Author.Tests.{lt-ltb, le-ltb, le-leb, eq-eqb, ne-eqb, ltb-true, ltb-false, eqb-true, eqb-false}
+use Rattle.definition.specs.Base.{if_then_else_, orElse, andThen, all, sameBytes}
 use Rattle.definition.specs.Value.{Kind, kindNumber, Value}
 use Rattle.definition.specs.ActionList.{orNone, valueWords, inputWords, filled}
 use Rattle.definition.specs.Checker.{kinds, sizeFrom, valueFrom, inputsFrom, numberFits, valueFits}
-use Rattle.checker.specs.Layout.{zeros, numberFit, valueFit, inputsFit}
+use Rattle.checker.specs.Action.{zeros, numberFit, valueFit, valuesFit}
 
 -- Readings that are total.
 
@@ -99,15 +99,30 @@ size-fit x = go (eqb (x / 16777216) 65535) (ltb (x / 16777216) 65535) refl refl
         let h : 65535 ≤ x / 16777216 = ltb-false _ _ f in
         rw (f, le-ltb x 1099511627776 (omega arith))
 
-pub value-fit : (t s n x : ℕ) → (known x && valueFits t s (valueOf n x)) ≡ valueFit t s n x
+pub value-fit : (t s n x : ℕ) → (known x && valueFits t s (valueOf n x)) ≡ valueFit t s false n x
 unfolding valueFits valueOf known valueFit
 value-fit t s n x =
     rw (le-leb (x / 256 % 65536) 65535 (omega arith), size-fit x, ← number-fit t s (x % 256) n) (go (ltb (x % 256) 8) (numberFits t s (kindOf (x % 256)) n) (ltb x 1099511627776))
   where
-    go : (a b c : Bool) → (a && (b && true && c)) ≡ (a && b && c)
+    go : (a b c : Bool) → (a && (b && true && c)) ≡ (c && true && (a && b))
+    go false b true = refl
+    go false b false = refl
+    go true false true = refl
+    go true false false = refl
+    go true true true = refl
+    go true true false = refl
+
+-- a value that is to be sized
+pub value-sized : (t s n x : ℕ) → valueFit t s true n x ≡ (valueFit t s false n x && not (eqb (x / 16777216) 65535))
+unfolding valueFit
+value-sized t s n x = go (ltb x 1099511627776) (not (eqb (x / 16777216) 65535)) (numberFit t s (x % 256) n)
+  where
+    go : (a b c : Bool) → (a && b && c) ≡ (a && true && c && b)
     go false b c = refl
-    go true false c = refl
-    go true true c = refl
+    go true true true = refl
+    go true true false = refl
+    go true false true = refl
+    go true false false = refl
 
 -- Inputs.
 
@@ -149,8 +164,8 @@ and-true false = refl
 
 -- the inputs are read, written as the same words, and fit
 pub inputs-fit : (t s n : ℕ) (r : List ℕ) → 2 * n ≤ length r →
-    (inputsKnown n r && (sameBytes r (filled (length r) (inputWords (inputsOf n r))) && all (valueFits t s) (inputsOf n r))) ≡ inputsFit t s n r
-unfolding inputsKnown inputsOf inputsFit inputWords all sameBytes filled if_then_else_
+    (inputsKnown n r && (sameBytes r (filled (length r) (inputWords (inputsOf n r))) && all (valueFits t s) (inputsOf n r))) ≡ valuesFit t s false n r
+unfolding inputsKnown inputsOf valuesFit inputWords all sameBytes filled if_then_else_
 inputs-fit t s zero r h = rw (same-zeros r) (and-true (zeros r))
 inputs-fit t s (suc n) [] h = absurd (omega arith)
 inputs-fit t s (suc n) (x ∷ []) h = absurd (omega arith)

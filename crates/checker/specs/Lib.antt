@@ -1,4 +1,2 @@
-pub mod Layout
-pub mod Sizes
-pub mod Marks
+pub mod Action
 pub mod Sweep

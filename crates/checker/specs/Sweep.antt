@@ -1,26 +1,40 @@
--- The sweeps over a list of actions.
-use Prim.Native.Nat.{ℕ, zero, suc}
-use mathlib.Core.Bool.{Bool, true, false, _&&_}
-use mathlib.Core.List.{List}
-use lib.ListN.{getD, take, drop, replicate}
-use lib.Dec.{eqb}
+-- The sweeps over a list of actions, with labels placed and subtables built marked in tables.
+use Prim.Native.Nat.{ℕ, zero, suc, _-_}
+use mathlib.Core.Bool.{Bool, true, false, _&&_, not}
+use mathlib.Core.List.{List, [], _∷_}
+use lib.ListN.{getD, set, take, drop, replicate}
+use lib.Dec.{eqb, leb}
 use Rattle.definition.specs.Base.{if_then_else_}
-use Rattle.checker.specs.Layout.{layoutFit}
-use Rattle.checker.specs.Sizes.{sizesFit}
-use Rattle.checker.specs.Marks.{Noted, noted, noteLabel, noteBuild, allMarked}
+use Rattle.checker.specs.Action.{actionFit}
 
-unfoldable pub actionFit : ℕ → ℕ → ℕ → List ℕ → Bool
-actionFit temporaries subtables pointer w = layoutFit temporaries subtables w && sizesFit pointer w
+unfoldable pub placesLabel : List ℕ → Bool
+placesLabel w = eqb (getD w 0 0) 0 && eqb (getD w 1 0) 62
+
+-- whether the label is new, and the table afterwards
+pub data Noted : Type 0 where
+  noted : Bool → List ℕ → Noted
+
+unfoldable pub noteLabel : List ℕ → List ℕ → Noted
+noteLabel w seen = if placesLabel w then noted (eqb (getD seen (getD w 2 0) 0) 0) (set seen (getD w 2 0) 1) else noted true seen
+
+unfoldable pub noteBuild : ℕ → List ℕ → List ℕ → List ℕ
+noteBuild base w built = if eqb (getD w 0 0) 5 && leb base (getD w 2 0) then set built (getD w 2 0 - base) 1 else built
+
+-- the first entries of a table, as many as are asked for or there are
+unfoldable pub allMarked : ℕ → List ℕ → Bool
+allMarked zero built = true
+allMarked (suc count) [] = true
+allMarked (suc count) (b ∷ built) = not (eqb b 0) && allMarked count built
 
 -- a new label lets the sweep go on
 unfoldable pub whenNew : Noted → (List ℕ → Bool) → Bool
 whenNew (noted true seen) f = f seen
 whenNew (noted false seen) f = false
 
-module _ (temporaries subtables pointer base count : ℕ) where
+module _ (temporaries subtables pointer base : ℕ) where
   -- n actions, the labels seen and the subtables built before
   unfoldable pub sweep : ℕ → List ℕ → List ℕ → List ℕ → Bool
-  sweep zero ws seen built = allMarked count built
+  sweep zero ws seen built = allMarked (subtables - base) built
   sweep (suc n) ws seen built =
       actionFit temporaries subtables pointer (take 24 ws)
       && whenNew (noteLabel (take 24 ws) seen) λ next. sweep n (drop 24 ws) next (noteBuild base (take 24 ws) built)
@@ -41,7 +55,7 @@ builtAfter base zero ws built = built
 builtAfter base (suc n) ws built = builtAfter base n (drop 24 ws) (noteBuild base (take 24 ws) built)
 
 unfoldable pub buildsIt : ℕ → List ℕ → Bool
-buildsIt i w = if eqb (getD w 0 0) 5 then eqb i (getD w 2 0) else false
+buildsIt i w = eqb (getD w 0 0) 5 && eqb i (getD w 2 0)
 
 unfoldable pub anyBuilds : ℕ → ℕ → List ℕ → Bool
 anyBuilds i zero ws = false

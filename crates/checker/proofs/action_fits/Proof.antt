@@ -3,25 +3,68 @@ use Rattle.checker.proofs.action_fits.Statement.{statement}
 use Rattle.checker.proofs.action_fits.Tie as tie
 use Rattle.checker.proofs.action_fits.Reads as reads
 use Rattle.checker.proofs.action_fits.Lts as lts
-use Rattle.checker.proofs.layout.layout_fits.Reads as layout-fits-reads
-use Rattle.checker.proofs.sizes.sizes_fit.Reads as sizes-fit-reads
-use Rattle.checker.proofs.FitLaws.{action-laws}
+use Rattle.checker.proofs.has_output.Reads as has-output-reads
+use Rattle.checker.proofs.head_fits.Reads as head-fits-reads
+use Rattle.checker.proofs.inputs_fit.Reads as inputs-fit-reads
+use Rattle.checker.proofs.value_fits.Reads as value-fits-reads
+use Rattle.checker.proofs.FitLaws.{action-law}
 
--- src/lib.rt:23:9
-layout-fits-requires : tie.Need-layout-fits-requires
-layout-fits-requires c κs = search (action-laws, needs)
+-- src/lib.rt:122:17
+shared-slice-read-sized : tie.Need-shared-slice-read-sized
+shared-slice-read-sized c = search needs
 
--- src/lib.rt:24:9
+-- src/lib.rt:123:29
+shared-slice-read-has-output : tie.Need-shared-slice-read-has-output
+shared-slice-read-has-output c = search needs
+
+-- src/lib.rt:123:35
+shared-slice-read-has-output-2 : tie.Need-shared-slice-read-has-output-2
+shared-slice-read-has-output-2 c = search needs
+
+-- src/lib.rt:123:41
+shared-slice-read-has-output-3 : tie.Need-shared-slice-read-has-output-3
+shared-slice-read-has-output-3 c = search needs
+
+-- src/lib.rt:123:9
+has-output-requires : tie.Need-has-output-requires
+has-output-requires c κs = search needs
+
+-- src/lib.rt:124:27
+shared-slice-read-value-fits : tie.Need-shared-slice-read-value-fits
+shared-slice-read-value-fits c = search needs
+
+-- src/lib.rt:124:33
+shared-slice-read-value-fits-2 : tie.Need-shared-slice-read-value-fits-2
+shared-slice-read-value-fits-2 c = search needs
+
+-- src/lib.rt:124:16
+value-fits-requires : tie.Need-value-fits-requires
+value-fits-requires c κs = search needs
+
+-- src/lib.rt:125:11
+inputs-fit-requires : tie.Need-inputs-fit-requires
+inputs-fit-requires c κs = search needs
+
+-- src/lib.rt:126:11
+head-fits-requires : tie.Need-head-fits-requires
+head-fits-requires c κs = search needs
+
+-- src/lib.rt:118:1
 returns : tie.Need-returns
-returns c = search (action-laws, needs)
-
--- src/lib.rt:26:5
-sizes-fit-requires : tie.Need-sizes-fit-requires
-sizes-fit-requires c κs = search (action-laws, needs)
-
--- src/lib.rt:19:1
-returns-2 : tie.Need-returns-2
-returns-2 c = search (action-laws, needs)
+returns c = search (action-law, needs)
 
 pub action-fits-spec : {M : Type 1} → statement M
-action-fits-spec = tie.close (tie.spec layout-fits-requires returns sizes-fit-requires returns-2)
+action-fits-spec =
+    tie.close
+    (tie.spec
+    shared-slice-read-sized
+    shared-slice-read-has-output
+    shared-slice-read-has-output-2
+    shared-slice-read-has-output-3
+    has-output-requires
+    shared-slice-read-value-fits
+    shared-slice-read-value-fits-2
+    value-fits-requires
+    inputs-fit-requires
+    head-fits-requires
+    returns)
