@@ -7,7 +7,7 @@ use native.Mathlib.Nat.{add-assoc}
 use native.Mathlib.Numerals.{add-one}
 use native.Mathlib.Omega.{arith}
 use lib.ListN.{length, getD, set, take, drop, take-append-drop, length-append, length-drop, drop-of-length-le}
-use lib.Seq.{drop-cons, drop-drop, take-suc, set-at, length-take-le, take-all, take-at, drop-at}
+use lib.Seq.{drop-cons, drop-drop, take-suc, take-add, set-at, length-take-le, take-all, take-at, drop-at}
 use lib.Dec.{eqb, leb}
 use borrow.Author.Tests.{eq-eqb, ne-eqb, le-leb, lt-leb}
 use Rattle.definition.specs.Base.{sum}
@@ -29,9 +29,16 @@ sum-end b i total w h e =
     let z : sum (drop i b) ≡ 0 = rw (drop-of-length-le b h) in
     omega arith
 
-pub checks-law : (b : List ℕ) (n x y : ℕ) → (x ≡ sum (take 510 b)) × (x ≤ 16711680) → (y ≡ le16 b 510) × (y < 65536) → eqb ((x + n) % 65536) y ≡ checksOut n b
+sum-append : (a b : List ℕ) → sum (a ++ b) ≡ sum a + sum b
+unfolding sum
+sum-append [] b = omega arith
+sum-append (x ∷ a) b = omega (arith, sum-append a b)
+
+pub checks-law : (b : List ℕ) (n x y z : ℕ) → x ≡ sum (take 256 b) → y ≡ sum (take 254 (drop 256 b)) → (z ≡ le16 b 510) × (z < 65536) → eqb ((x + y + n) % 65536) z ≡ checksOut n b
 unfolding checksOut le16
-checks-law b n x y p q = rw (p .0, q .0)
+checks-law b n x y z p q r =
+    let e : sum (take 510 b) ≡ x + y = ap sum (take-add 256 254 b) ∙ sum-append (take 256 b) (take 254 (drop 256 b)) ∙ rw (← p, ← q) in
+    rw (e, r .0)
 
 -- the length
 pub length-none : (file : List ℕ) → length file ≡ 0 → 1 ≡ refusalOf (streamOf file)

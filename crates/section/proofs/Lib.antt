@@ -2,6 +2,7 @@
 mod CursorLaws
 mod CodeLaws
 mod NameLaws
+mod ChainLaws
 mod ListLaws
 mod BlockLaws
 mod InbuiltLaws

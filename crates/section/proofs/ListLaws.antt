@@ -8,16 +8,16 @@ use lib.ListN.{length, getD, set}
 use lib.Dec.{eqb, ltb}
 use borrow.Author.Tests.{eq-eqb, ne-eqb, lt-ltb, le-ltb}
 use Rattle.definition.specs.Base.{if_then_else_}
-use Rattle.cells.specs.Le.{le16}
+use Rattle.cells.specs.Le.{le16, le32, le64}
 use Rattle.section.specs.declared.cursor.Cursor.{Cursor}
-use Rattle.section.specs.Cursors.{refuse, u16, u16or, code, name, size, sizeOr, bits, smallCount, run}
+use Rattle.section.specs.Cursors.{cursor, refuse, u16, u16or, code, name, size, sizeOr, bits, smallCount, run}
 use Rattle.section.specs.Expressions.{counted}
 use Rattle.section.specs.Statements.{body}
 use Rattle.section.specs.Names.{Reading, reading, names}
 use Rattle.section.specs.Headers.{globalCounts, counts, roles, header}
 use Rattle.section.specs.Lists.{slot, stamp, mark, Which, whichOf, afterName, after, params, macroHead, noted, macro, named, restOf, entry, list, lists}
 use Rattle.section.specs.Stream.{Answer, answer, answerOf, zeros, tail, statements, readStream}
-use Rattle.section.proofs.CursorLaws.{run-end}
+use Rattle.section.proofs.CursorLaws.{u16-read, u16or-read, run-end}
 use Rattle.section.proofs.CodeLaws.{counted-law}
 
 pub global-counts-law : (s : List ℕ) (c c0 c1 c2 c3 c4 c5 c6 c7 r : Cursor) → c0 ≡ u16 s 1 4 c → c1 ≡ u16 s 1025 4 c0 → c2 ≡ u16 s 9 4 c1 → c3 ≡ u16 s 1025 4 c2 → c4 ≡ u16 s 1025 4 c3 → c5 ≡ u16 s 257 4 c4 → c6 ≡ u16 s 257 4 c5 → c7 ≡ u16 s 129 4 c6 → r ≡ u16 s 1025 4 c7 → r ≡ globalCounts s c
@@ -35,6 +35,32 @@ roles-law s m n c c0 c1 c2 c3 r hm hn p0 p1 p2 p3 p = rw (← hm .0, ← hn .0, 
 pub header-law : (s : List ℕ) (c0 c1 r : Cursor) → c0 ≡ globalCounts s (record { at = 0; bad = 0; val = 0 }) → c1 ≡ counts s c0 → r ≡ roles s c1 → r ≡ header s
 unfolding header
 header-law s c0 c1 r p0 p1 p = rw (← p0, ← p1) p
+
+-- a header that is not refused has at most 1,024 names
+good : (s : List ℕ) (lim k : ℕ) (c : Cursor) → u16 s lim (suc k) c .bad ≡ 0 → c .bad ≡ 0
+good s lim k c e = u16-read s lim (suc k) c (omega arith) e .good
+
+roles-good : (s : List ℕ) (c : Cursor) → roles s c .bad ≡ 0 → c .bad ≡ 0
+unfolding roles
+roles-good s c e = u16or-read s (le16 s 4) 5 c (omega arith) (good s (le16 s 2) 4 _ (good s (le16 s 2) 4 _ (good s (le16 s 2) 4 _ (good s (le16 s 2) 4 _ e))))
+
+counts-good : (s : List ℕ) (c : Cursor) → counts s c .bad ≡ 0 → c .bad ≡ 0
+unfolding counts
+counts-good s c e = good s 65 3 _ (good s 33 3 _ (good s 1025 3 _ e))
+
+names-few : (s : List ℕ) → globalCounts s (cursor 0 0 0) .bad ≡ 0 → le16 s 2 < 1025
+unfolding globalCounts
+names-few s e =
+    let g = good s 9 3 _ (good s 1025 3 _ (good s 1025 3 _ (good s 257 3 _ (good s 257 3 _ (good s 129 3 _ (good s 1025 3 _ e)))))) in
+    let r = u16-read s 1025 4 (u16 s 1 4 (cursor 0 0 0)) (omega arith) g in
+    let z : u16 s 1 4 (cursor 0 0 0) .at ≡ 2 = u16-read s 1 4 (cursor 0 0 0) (omega arith) (r .good) .next in
+    rw z at (r .below)
+
+pub header-few : (s : List ℕ) (h : Cursor) (m : ℕ) → h ≡ header s → h .bad ≡ 0 → (m ≡ le16 s 2) × (m < 65536) → m ≤ 1024
+unfolding header
+header-few s h m e z p =
+    let b : header s .bad ≡ 0 = rw e at z in
+    omega (arith, names-few s (counts-good s _ (roles-good s _ b)))
 
 pub slot-global : (k x : ℕ) → k < 7 → 1024 + x % 65536 ≡ slot k x
 unfolding slot if_then_else_
@@ -166,6 +192,28 @@ zeros-more s i w h d e =
 pub zeros-end : (s : List ℕ) (i : ℕ) (w : Bool) → length s ≤ i → zeros (length s - i) i s ≡ w → true ≡ w
 unfolding zeros
 zeros-end s i w h e = let z : length s - i ≡ 0 = omega arith in rw z at e
+
+up : (i a b d : ℕ) → a + b ≡ d → i + a + b ≡ i + d
+up i a b d e = omega arith
+
+-- eight zeros
+no-byte : (s : List ℕ) (i : ℕ) → le64 s i ≡ 0 →
+    (getD s i 0 ≡ 0) × (getD s (i + 1) 0 ≡ 0) × (getD s (i + 2) 0 ≡ 0) × (getD s (i + 2 + 1) 0 ≡ 0) × (getD s (i + 4) 0 ≡ 0) × (getD s (i + 4 + 1) 0 ≡ 0) × (getD s (i + 4 + 2) 0 ≡ 0) × (getD s (i + 4 + 2 + 1) 0 ≡ 0)
+unfolding le64 le32 le16
+no-byte s i e = (omega arith, omega arith, omega arith, omega arith, omega arith, omega arith, omega arith, omega arith)
+
+pub zeros-eight : (s : List ℕ) (i v : ℕ) (w : Bool) → i < length s - 7 → v ≡ le64 s i → v ≡ 0 → zeros (length s - i) i s ≡ w → zeros (length s - (i + 8)) (i + 8) s ≡ w
+zeros-eight s i v w h d z e =
+    let b = no-byte s i (sym d ∙ z) in
+    let e1 = zeros-more s i w (omega arith) (b .0) e in
+    let e2 = zeros-more s (i + 1) w (omega arith) (b .1) e1 in
+    let e3 = zeros-more s (i + 2) w (omega arith) (b .2) (rw (up i 1 1 2 refl) at e2) in
+    let e4 = zeros-more s (i + 3) w (omega arith) (rw (up i 2 1 3 refl) at (b .3)) (rw (up i 2 1 3 refl) at e3) in
+    let e5 = zeros-more s (i + 4) w (omega arith) (b .4) (rw (up i 3 1 4 refl) at e4) in
+    let e6 = zeros-more s (i + 5) w (omega arith) (rw (up i 4 1 5 refl) at (b .5)) (rw (up i 4 1 5 refl) at e5) in
+    let e7 = zeros-more s (i + 6) w (omega arith) (rw (up i 4 2 6 refl) at (b .6)) (rw (up i 5 1 6 refl) at e6) in
+    let e8 = zeros-more s (i + 7) w (omega arith) (rw (up i 4 2 6 refl, up i 6 1 7 refl) at (b .7)) (rw (up i 6 1 7 refl) at e7) in
+    rw (up i 7 1 8 refl) at e8
 
 pub tail-found : (s : List ℕ) (c r : Cursor) → false ≡ zeros (length s - c .at) (c .at) s → r ≡ refuse 3 c → r ≡ tail s c
 unfolding tail if_then_else_

@@ -3,6 +3,7 @@ pub mod Cursors
 pub mod Expressions
 pub mod Statements
 pub mod Names
+pub mod Chains
 pub mod Headers
 pub mod Lists
 pub mod Stream

@@ -7,13 +7,14 @@ ghost use Rattle.definition.specs.Base.{sum};
 ghost use Rattle.definition.specs.SectionFile.{checksOut, streamOf};
 ghost use Rattle.section.specs.Blocks.{refusalOf, joined};
 
-fn sum(bytes: &[u8]) -> u64
-    requires { ⌜ length (now bytes) ≤ 65536 ⌝ }
-    ensures { λ r. ⌜ (r ≡ sum (now (bytes .entry))) × (r ≤ 16711680) ⌝ }
+// So few bytes that a u16 holds their sum.
+fn sum(bytes: &[u8]) -> u16
+    requires { ⌜ length (now bytes) ≤ 256 ⌝ }
+    ensures { λ r. ⌜ r ≡ sum (now (bytes .entry)) ⌝ }
 {
-    let mut total: u64 = 0;
+    let mut total: u16 = 0;
     for i in 0..bytes.len() {
-        total += bytes[i] as u64;
+        total += bytes[i] as u16;
     }
     total
 }
@@ -23,7 +24,7 @@ fn checks_out(block: &[u8], number: usize) -> bool
     requires { ⌜ (length (now block) ≡ 512) × (number ≤ 65536) ⌝ }
     ensures { λ r. ⌜ r ≡ checksOut number (now (block .entry)) ⌝ }
 {
-    let total = sum(&block[..510]);
+    let total = sum(&block[..256]) as u64 + sum(&block[256..510]) as u64;
     (total + number as u64) % 65536 == cells::u16_at(block, 510)
 }
 

@@ -12,17 +12,18 @@
 //   3338         the first ordinal of the section's own statements
 // The header stays in the stream, at its fixed offsets.
 use cursor::Cursor;
-use cursor::refuse;
 use header::header;
 use lists::lists;
 use names::low;
 use names::names;
 use statements::body;
+use zeros::tail;
 ghost use mathlib.Core.Path.{_≡_};
-ghost use Rattle.section.specs.Stream.{tail, statements, answer, readStream};
+ghost use Rattle.section.specs.Stream.{statements, answer, readStream};
 ghost use Rattle.section.specs.Names.{reading};
 
 pub mod blocks;
+pub mod chains;
 pub mod cursor;
 pub mod expressions;
 pub mod header;
@@ -30,20 +31,7 @@ pub mod inbuilt;
 pub mod lists;
 pub mod names;
 pub mod statements;
-
-// The stream after the cursor is zero.
-fn tail(s: &[u8], c: Cursor) -> Cursor
-    ensures { λ r. ⌜ r ≡ tail (now (s .entry)) c ⌝ }
-{
-    let mut i = c.at;
-    while i < s.len() {
-        if s[i] != 0 {
-            return refuse(3, c);
-        }
-        i += 1;
-    }
-    c
-}
+pub mod zeros;
 
 // The section's own statements, and the end.
 fn own_statements(s: &[u8], c: Cursor, t: &mut [u16]) -> Cursor

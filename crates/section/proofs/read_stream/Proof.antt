@@ -8,7 +8,8 @@ use Rattle.section.proofs.header.header.Reads as header-reads
 use Rattle.section.proofs.lists.lists.Reads as lists-reads
 use Rattle.section.proofs.names.names.Reads as names-reads
 use Rattle.section.proofs.own_statements.Reads as own-statements-reads
-use Rattle.section.proofs.ListLaws.{list-laws}
+use Rattle.section.proofs.ListLaws.{list-laws, header-few}
+use native.Mathlib.Omega.{arith}
 
 -- src/lib.rt:60:9
 header-requires : tie.Need-header-requires
@@ -24,7 +25,7 @@ u16-at-requires c κs = search (list-laws, needs)
 
 -- src/lib.rt:64:9
 names-requires : tie.Need-names-requires
-names-requires c κs = search (list-laws, needs)
+names-requires c κs = header-few _ _ _ (c .before .before .before .before .header .ensures) (c .before .before .if1 .left) (c .before .u16-at .ensures)
 
 -- src/lib.rt:65:9
 lists-requires : tie.Need-lists-requires

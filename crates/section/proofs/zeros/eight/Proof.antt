@@ -1,0 +1,36 @@
+use borrow.Author.Needs.{needs}
+use Rattle.section.proofs.zeros.eight.Statement.{statement}
+use Rattle.section.proofs.zeros.eight.Tie as tie
+use Rattle.section.proofs.zeros.eight.Reads as reads
+use Rattle.section.proofs.zeros.eight.Lts as lts
+use Rattle.section.proofs.zeros.four.Reads as four-reads
+use Rattle.cells.specs.Le.{le64}
+
+-- src/zeros.rt:26:5
+four-requires : tie.Need-four-requires
+four-requires c κs = search needs
+
+-- src/zeros.rt:26:39
+add-four : tie.Need-add-four
+add-four c = search needs
+
+-- src/zeros.rt:26:31
+four-requires-2 : tie.Need-four-requires-2
+four-requires-2 c κs = search needs
+
+-- src/zeros.rt:26:18
+mul-result : tie.Need-mul-result
+mul-result c = search needs
+
+-- src/zeros.rt:26:5
+add-result : tie.Need-add-result
+add-result c = search needs
+
+-- src/zeros.rt:22:1
+returns : tie.Need-returns
+unfolding le64
+returns c = search needs
+
+pub eight-spec : {M : Type 1} → statement M
+eight-spec =
+    tie.close (tie.spec four-requires add-four four-requires-2 mul-result add-result returns)

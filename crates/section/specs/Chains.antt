@@ -1,0 +1,45 @@
+-- Chains of the names whose spellings have the same hash. A list of 1,280 numbers keeps them: at j, 1 + the name before
+-- name j on its chain, and at 1,024 + h, 1 + the last name whose hash is h; 0 for none.
+use Prim.Native.Nat.{ℕ, zero, suc, _+_, _-_, _*_, _/_, _%_, _<_}
+use mathlib.Core.Path.{_≡_}
+use mathlib.Core.List.{List}
+use lib.ListN.{length, getD, set}
+use lib.Dec.{eqb}
+use Rattle.definition.specs.Base.{if_then_else_}
+use Rattle.cells.specs.Le.{le16}
+
+-- a number below 256 from two bytes and four single ones
+unfoldable pub spread : ℕ → ℕ → ℕ → ℕ → ℕ → ℕ
+spread w x y z m = (28933 * w + 64083 * x + 60201 * y + 34067 * z + 59333 * m) / 4096 % 256
+
+-- of the name at p: its length with the first letter, the last three letters, and one in the middle
+unfoldable pub hash : List ℕ → ℕ → ℕ
+hash s p =
+    spread
+    (le16 s p)
+    (getD s (p + (getD s p 0 - 2)) 0)
+    (getD s (p + (getD s p 0 - 1)) 0)
+    (getD s (p + getD s p 0) 0)
+    (getD s (p + getD s p 0 / 2) 0)
+
+-- the hash of the name at p, whose length is a byte
+pub record Hashed (s : List ℕ) (p h : ℕ) : Type 0 where
+  pub is : h ≡ hash s p
+  pub below : h < 256
+  pub small : getD s p 0 < 256
+
+-- 1 + the last of the first n names whose hash is h
+unfoldable pub last : List ℕ → List ℕ → ℕ → ℕ → ℕ
+last s t h zero = 0
+last s t h (suc i) = if eqb (hash s (getD t i 0)) h then suc i else last s t h i
+
+-- the chains of the first n names
+pub record Linked (s t k : List ℕ) (n : ℕ) : Type 0 where
+  pub size : length k ≡ 1280
+  pub small : (j : ℕ) → j < n → getD s (getD t j 0) 0 < 256
+  pub heads : (h : ℕ) → h < 256 → getD k (1024 + h) 0 ≡ last s t h n
+  pub links : (j : ℕ) → j < n → getD k j 0 ≡ last s t (hash s (getD t j 0)) j
+
+-- name i put on the chain of the hash h
+unfoldable pub link : ℕ → ℕ → List ℕ → List ℕ
+link h i k = set (set k i (getD k (1024 + h) 0)) (1024 + h) (i + 1)

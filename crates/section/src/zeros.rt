@@ -1,0 +1,61 @@
+// The stream after its statements is zero, which is tested by eight bytes at a time.
+use crate::cursor::Cursor;
+use crate::cursor::refuse;
+ghost use mathlib.Core.Path.{_≡_};
+ghost use Prim.Native.Nat.{_+_, _-_, _≤_, _<_};
+ghost use lib.ListN.{length};
+ghost use Rattle.cells.specs.Le.{le16, le32, le64};
+ghost use Rattle.section.specs.Stream.{zeros, tail};
+
+fn two(s: &[u8], i: usize) -> u64
+    requires { ⌜ i + 2 ≤ length (now s) ⌝ }
+    ensures { λ r. ⌜ (r ≡ le16 (now (s .entry)) i) × (r < 65536) ⌝ }
+{
+    s[i] as u64 + 256 * (s[i + 1] as u64)
+}
+
+fn four(s: &[u8], i: usize) -> u64
+    requires { ⌜ i + 4 ≤ length (now s) ⌝ }
+    ensures { λ r. ⌜ (r ≡ le32 (now (s .entry)) i) × (r < 4294967296) ⌝ }
+{
+    two(s, i) + 65536 * two(s, i + 2)
+}
+
+fn eight(s: &[u8], i: usize) -> u64
+    requires { ⌜ i + 8 ≤ length (now s) ⌝ }
+    ensures { λ r. ⌜ r ≡ le64 (now (s .entry)) i ⌝ }
+{
+    four(s, i) + 4294967296 * four(s, i + 4)
+}
+
+// From a place on: the place of the first eight bytes that are not all zero, or of the last seven.
+fn past_zeros(s: &[u8], from: usize) -> usize
+    ensures { λ r. ⌜ zeros (length (now (s .entry)) - r) r (now (s .entry)) ≡ zeros (length (now (s .entry)) - from) from (now (s .entry)) ⌝ }
+{
+    let n = s.len();
+    if n < 8 {
+        return from;
+    }
+    let mut i = from;
+    while i < n - 7 {
+        if eight(s, i) != 0 {
+            return i;
+        }
+        i += 8;
+    }
+    i
+}
+
+// The stream after the cursor is zero.
+pub fn tail(s: &[u8], c: Cursor) -> Cursor
+    ensures { λ r. ⌜ r ≡ tail (now (s .entry)) c ⌝ }
+{
+    let mut i = past_zeros(s, c.at);
+    while i < s.len() {
+        if s[i] != 0 {
+            return refuse(3, c);
+        }
+        i += 1;
+    }
+    c
+}
