@@ -6,20 +6,20 @@ use native.Mathlib.Omega.{arith}
 use lib.ListN.{getD, replicate}
 use borrow.Author.Tests.{eq-eqb, ne-eqb, le-leb, lt-leb}
 use Rattle.cells.specs.Le.{le16}
-use Rattle.pcode.specs.declared.push.State.{State}
-use Rattle.pcode.specs.declared.push.Env.{Env}
+use Rattle.pushing.specs.declared.push.State.{State}
+use Rattle.pushing.specs.declared.push.Env.{Env}
 use Rattle.pcode.specs.Base.{if_then_else_, listed, thenL}
 use Rattle.meaning.proofs.scope.ExprValue as exprValue
 use Rattle.meaning.specs.declared.args.Args.{Args}
 use Rattle.expression.specs.Answers.{passed, onArgs, after}
-use Rattle.semantics.specs.declared.walk.Walk.{Walk}
-use Rattle.semantics.specs.declared.walk.Step.{Step}
+use Rattle.walking.specs.declared.walk.Walk.{Walk}
+use Rattle.walking.specs.declared.walk.Step.{Step}
 use Rattle.semantics.specs.declared.calls.Called.{Called}
-use Rattle.semantics.specs.Walks.{stepped, Walked, walked, besideP, onStep, stop}
-use Rattle.semantics.specs.Branches.{branch, condBranch, labelStatement}
+use Rattle.walking.specs.Walks.{stepped, Walked, walked, besideP, onStep, stop}
+use Rattle.jumps.specs.Branches.{branch, condBranch, labelStatement}
 use Rattle.semantics.specs.Simple.{unimplemented, exportStatement, localStatement, localAssignment, build}
-use Rattle.semantics.specs.Stores.{storeStatement}
-use Rattle.semantics.specs.Copies.{copyStatement}
+use Rattle.assignments.specs.Stores.{storeStatement}
+use Rattle.assignments.specs.Copies.{copyStatement}
 use Rattle.semantics.specs.Calls.{calledOf, otherCall, bindParams, macroAt, macroArgs}
 use Rattle.bodies.specs.Statements.{simple, otherStatement, begun, begin, entered, returned, returnedTo, paramsAt, macroEnv, bodyAt, firstOrdinal, Enter, macroStatement, callNamed, callStatement, statementBy, statementBegun, resolveStatement, Statement, resolveAll, macroBody, enterMacro, resolveBody}
 

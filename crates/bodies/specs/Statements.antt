@@ -4,18 +4,18 @@ use mathlib.Core.List.{List}
 use lib.ListN.{getD, replicate}
 use lib.Dec.{eqb, leb}
 use Rattle.cells.specs.Le.{le16}
-use Rattle.pcode.specs.declared.push.State.{State}
-use Rattle.pcode.specs.declared.push.Env.{Env}
+use Rattle.pushing.specs.declared.push.State.{State}
+use Rattle.pushing.specs.declared.push.Env.{Env}
 use Rattle.pcode.specs.Base.{if_then_else_, thenL}
 use Rattle.expression.specs.Answers.{onArgs, after}
-use Rattle.semantics.specs.declared.walk.Walk.{Walk}
-use Rattle.semantics.specs.declared.walk.Step.{Step}
+use Rattle.walking.specs.declared.walk.Walk.{Walk}
+use Rattle.walking.specs.declared.walk.Step.{Step}
 use Rattle.semantics.specs.declared.calls.Called.{Called}
-use Rattle.semantics.specs.Walks.{Stepped, stepped, Walked, walked, besideP, onStep, stop}
-use Rattle.semantics.specs.Branches.{branch, condBranch, labelStatement}
+use Rattle.walking.specs.Walks.{Stepped, stepped, Walked, walked, besideP, onStep, stop}
+use Rattle.jumps.specs.Branches.{branch, condBranch, labelStatement}
 use Rattle.semantics.specs.Simple.{unimplemented, exportStatement, localStatement, localAssignment, build}
-use Rattle.semantics.specs.Stores.{storeStatement}
-use Rattle.semantics.specs.Copies.{copyStatement}
+use Rattle.assignments.specs.Stores.{storeStatement}
+use Rattle.assignments.specs.Copies.{copyStatement}
 use Rattle.semantics.specs.Calls.{calledOf, otherCall, bindParams, macroAt, macroArgs}
 
 unfoldable pub simple : ℕ → List ℕ → List ℕ → List ℕ → List ℕ → List ℕ → Env → ℕ → Walk → Stepped

@@ -1,30 +1,30 @@
 // Statements and macro bodies, which resolve each other: a macro call one level deeper.
+use assignments::copies::copy_statement;
+use assignments::stores::store_statement;
 use expression::expr::after;
+use jumps::branches::branch;
+use jumps::branches::cond_branch;
+use jumps::branches::label_statement;
 use meaning::args::Args;
 use meaning::scope::u16_in;
-use pcode::push::Env;
-use pcode::push::State;
 use pcode::sizes::Sizing;
-use semantics::branches::branch;
-use semantics::branches::cond_branch;
-use semantics::branches::label_statement;
+use pushing::push::Env;
+use pushing::push::State;
 use semantics::calls::bind_params;
 use semantics::calls::called_of;
 use semantics::calls::macro_args;
 use semantics::calls::macro_at;
 use semantics::calls::other_call;
-use semantics::copies::copy_statement;
 use semantics::simple::build;
 use semantics::simple::export_statement;
 use semantics::simple::local_assignment;
 use semantics::simple::local_statement;
 use semantics::simple::unimplemented;
-use semantics::stores::store_statement;
-use semantics::walk::Step;
-use semantics::walk::Walk;
-use semantics::walk::stop;
+use walking::walk::Step;
+use walking::walk::Walk;
+use walking::walk::stop;
 ghost use mathlib.Core.Path.{_≡_};
-ghost use Rattle.semantics.specs.Walks.{stepped, walked};
+ghost use Rattle.walking.specs.Walks.{stepped, walked};
 ghost use Rattle.bodies.specs.Statements.{simple, otherStatement, begun, begin, entered, returned, paramsAt, macroEnv, bodyAt, firstOrdinal, callStatement, macroStatement, enterMacro, resolveStatement, resolveBody};
 
 fn simple(

@@ -8,7 +8,7 @@ use Rattle.cells.specs.Le.{le16}
 use Rattle.definition.specs.SectionFile.{streamOf, read}
 use Rattle.definition.specs.Passing.{subtableCount, pointerSizeIn}
 use Rattle.pcode.specs.Base.{if_then_else_}
-use Rattle.section.specs.Blocks.{refusalOf, joined}
+use Rattle.framing.specs.Blocks.{refusalOf, joined}
 use Rattle.section.specs.Stream.{answer, readStream}
 use Rattle.section_refinement.specs.FileTheorem.{one-block, checked-room, front, front-room}
 use Rattle.resolution.specs.Files.{pointerSize}

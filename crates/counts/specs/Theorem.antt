@@ -12,7 +12,7 @@ use Rattle.definition.specs.Ast.{Section}
 use Rattle.definition.specs.SectionFile.{Parsed, parsed, refused, on, streamOf, section, read}
 use Rattle.definition.specs.Passing.{subtableCount, pointerSizeIn}
 use Rattle.pcode.specs.Base.{if_then_else_}
-use Rattle.section.specs.Blocks.{refusalOf, joined}
+use Rattle.framing.specs.Blocks.{refusalOf, joined}
 use Rattle.section.specs.Stream.{readStream}
 use Rattle.section_refinement.specs.Agree.{refusal-bad}
 use Rattle.section_refinement.specs.FileTheorem.{noTable, stream-refusal, stream-holds, file-stream}

@@ -6,7 +6,7 @@ ghost use Prim.Native.Nat.{_*_, _/_, _≤_};
 ghost use lib.ListN.{length, take};
 ghost use Rattle.definition.specs.SectionFile.{read};
 ghost use Rattle.definition.specs.Passing.{subtableCount, pointerSizeIn};
-ghost use Rattle.section.specs.Blocks.{joined};
+ghost use Rattle.framing.specs.Blocks.{joined};
 ghost use Rattle.counts.specs.Counts.{counts, tableCounts, streamCounts};
 
 pub struct Counts {
@@ -57,7 +57,7 @@ fn blocks_counts(file: &[u8]) -> Counts
     ensures { λ r. ⌜ r ≡ streamCounts (joined (length (now (file .entry)) / 512) (now (file .entry))) ⌝ }
 {
     let mut buf = [0u8; 65280];
-    section::blocks::join(file, &mut buf);
+    framing::blocks::join(file, &mut buf);
     let n = file.len() / 512 * 510;
     front_counts(&buf, n)
 }
@@ -65,7 +65,7 @@ fn blocks_counts(file: &[u8]) -> Counts
 pub fn section_counts(file: &[u8]) -> Counts
     ensures { λ r. ⌜ r ≡ counts (subtableCount (read (now (file .entry)))) (pointerSizeIn (read (now (file .entry)))) ⌝ }
 {
-    let bad = section::blocks::check_blocks(file);
+    let bad = framing::blocks::check_blocks(file);
     if bad != 0 {
         return Counts {
             subtables: 0,

@@ -7,7 +7,7 @@ use Rattle.pcode.specs.declared.sizes.Sizing.{Sizing}
 use Rattle.pcode.specs.Base.{run, runDown}
 use Rattle.pcode.specs.Values.{place}
 use Rattle.pcode.specs.Sizes.{sized, thenS}
-use Rattle.pcode.specs.Rules.{updateOperandSizes}
+use Rattle.pushing.specs.Rules.{updateOperandSizes}
 use Rattle.ending.specs.Passes.{updateAction, backwardPass, forwardPass}
 use Rattle.pcode.proofs.LoopLaws.{run-end, down-end}
 

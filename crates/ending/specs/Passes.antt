@@ -6,7 +6,7 @@ use Rattle.pcode.specs.declared.sizes.Sizing.{Sizing}
 use Rattle.pcode.specs.Base.{run, runDown}
 use Rattle.pcode.specs.Values.{place}
 use Rattle.pcode.specs.Sizes.{Sized, sized, thenS}
-use Rattle.pcode.specs.Rules.{updateOperandSizes}
+use Rattle.pushing.specs.Rules.{updateOperandSizes}
 
 -- the rule of action i
 unfoldable pub updateAction : List ℕ → List ℕ → Bool → ℕ → ℕ → ℕ → Sized → Sized

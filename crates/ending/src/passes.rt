@@ -1,7 +1,7 @@
 // The two passes over the n actions from a position on: backward, then forward with fallback.
-use pcode::rules::update_operand_sizes;
 use pcode::sizes::Sizing;
 use pcode::value::place;
+use pushing::rules::update_operand_sizes;
 ghost use mathlib.Core.Path.{_≡_};
 ghost use Rattle.pcode.specs.Sizes.{sized};
 ghost use Rattle.ending.specs.Passes.{backwardPass, forwardPass};

@@ -12,12 +12,12 @@ use Rattle.section.specs.declared.cursor.Cursor.{Cursor}
 use Rattle.section.specs.Cursors.{cursor}
 use Rattle.section.specs.Expressions as section
 use Rattle.pcode.specs.declared.value.Value.{Value}
-use Rattle.pcode.specs.declared.push.State.{State}
-use Rattle.pcode.specs.declared.push.Env.{Env}
-use Rattle.pcode.specs.declared.push.Read.{Read}
+use Rattle.pushing.specs.declared.push.State.{State}
+use Rattle.pushing.specs.declared.push.Env.{Env}
+use Rattle.pushing.specs.declared.push.Read.{Read}
 use Rattle.pcode.specs.Base.{if_then_else_}
 use Rattle.pcode.specs.Values.{absent}
-use Rattle.pcode.specs.Pushes.{read}
+use Rattle.pushing.specs.Pushes.{read}
 use Rattle.meaning.specs.declared.scope.ExprValue.{ExprValue}
 use Rattle.meaning.proofs.scope.ExprValue as exprValues
 use Rattle.meaning.specs.declared.scope.Meaning.{Meaning}

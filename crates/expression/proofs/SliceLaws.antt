@@ -13,13 +13,13 @@ use borrow.Author.Tests.{eq-eqb, ne-eqb, lt-ltb, le-ltb, le-leb, lt-leb}
 use Rattle.cells.specs.Le.{le16}
 use Rattle.cells.specs.Mask.{maskOf}
 use Rattle.pcode.specs.declared.value.Value.{Value}
-use Rattle.pcode.specs.declared.push.State.{State}
-use Rattle.pcode.specs.declared.push.Env.{Env}
-use Rattle.pcode.specs.declared.push.Read.{Read}
+use Rattle.pushing.specs.declared.push.State.{State}
+use Rattle.pushing.specs.declared.push.Env.{Env}
+use Rattle.pushing.specs.declared.push.Read.{Read}
 use Rattle.pcode.specs.Base.{if_then_else_}
 use Rattle.pcode.specs.Values.{withSize, absent}
 use Rattle.pcode.specs.Sizes.{entry}
-use Rattle.pcode.specs.Pushes.{read, onRead}
+use Rattle.pushing.specs.Pushes.{read, onRead}
 use Rattle.meaning.specs.declared.scope.ExprValue.{ExprValue}
 use Rattle.meaning.proofs.scope.ExprValue as exprValue
 use Rattle.expression.specs.declared.expr.Expr.{Expr}

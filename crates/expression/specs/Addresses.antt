@@ -5,9 +5,9 @@ use lib.ListN.{getD}
 use lib.Dec.{eqb}
 use Rattle.cells.specs.Le.{le16}
 use Rattle.pcode.specs.declared.value.Value.{Value}
-use Rattle.pcode.specs.declared.push.State.{State}
-use Rattle.pcode.specs.declared.push.Env.{Env}
-use Rattle.pcode.specs.declared.push.Read.{Read}
+use Rattle.pushing.specs.declared.push.State.{State}
+use Rattle.pushing.specs.declared.push.Env.{Env}
+use Rattle.pushing.specs.declared.push.Read.{Read}
 use Rattle.pcode.specs.Base.{if_then_else_}
 use Rattle.pcode.specs.Values.{withSize}
 use Rattle.pcode.specs.Sizes.{entry}

@@ -3,10 +3,10 @@ use Prim.Native.Nat.{ℕ, _+_}
 use mathlib.Core.List.{List}
 use lib.Dec.{ltb}
 use Rattle.pcode.specs.declared.value.Value.{Value}
-use Rattle.pcode.specs.declared.push.State.{State}
-use Rattle.pcode.specs.declared.push.Read.{Read}
+use Rattle.pushing.specs.declared.push.State.{State}
+use Rattle.pushing.specs.declared.push.Read.{Read}
 use Rattle.pcode.specs.Base.{if_then_else_}
-use Rattle.pcode.specs.Pushes.{ReadOut, read}
+use Rattle.pushing.specs.Pushes.{ReadOut, read}
 use Rattle.meaning.specs.declared.scope.ExprValue.{ExprValue}
 use Rattle.expression.specs.declared.expr.Expr.{Expr}
 use Rattle.expression.specs.declared.expr.Operand.{Operand}

@@ -4,16 +4,16 @@ use mathlib.Core.List.{List}
 use lib.ListN.{getD}
 use lib.Dec.{eqb, ltb}
 use Rattle.cells.specs.Le.{le64}
-use Rattle.section.specs.declared.inbuilt.Inbuilt.{Inbuilt}
-use Rattle.section.specs.Inbuilts.{inbuiltAt}
+use Rattle.inbuilts.specs.declared.inbuilt.Inbuilt.{Inbuilt}
+use Rattle.inbuilts.specs.Inbuilts.{inbuiltAt}
 use Rattle.pcode.specs.declared.value.Value.{Value}
-use Rattle.pcode.specs.declared.push.State.{State}
-use Rattle.pcode.specs.declared.push.Env.{Env}
-use Rattle.pcode.specs.declared.push.Read.{Read}
-use Rattle.pcode.specs.declared.push.Pushed.{Pushed}
+use Rattle.pushing.specs.declared.push.State.{State}
+use Rattle.pushing.specs.declared.push.Env.{Env}
+use Rattle.pushing.specs.declared.push.Read.{Read}
+use Rattle.pushing.specs.declared.push.Pushed.{Pushed}
 use Rattle.pcode.specs.Base.{if_then_else_}
 use Rattle.pcode.specs.Values.{absent, noOutput}
-use Rattle.pcode.specs.Pushes.{PushedOut, pushed, pushOp, onRead, onPushed}
+use Rattle.pushing.specs.Pushes.{PushedOut, pushed, pushOp, onRead, onPushed}
 use Rattle.meaning.specs.declared.scope.ExprValue.{ExprValue}
 use Rattle.meaning.specs.declared.scope.Meaning.{Meaning}
 use Rattle.expression.specs.declared.expr.Expr.{Expr}

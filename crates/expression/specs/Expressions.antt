@@ -7,9 +7,9 @@ use Rattle.cells.specs.Le.{le16, le64}
 use Rattle.section.specs.Cursors.{cursor}
 use Rattle.section.specs.Expressions as section
 use Rattle.pcode.specs.declared.value.Value.{Value}
-use Rattle.pcode.specs.declared.push.State.{State}
-use Rattle.pcode.specs.declared.push.Env.{Env}
-use Rattle.pcode.specs.declared.push.Read.{Read}
+use Rattle.pushing.specs.declared.push.State.{State}
+use Rattle.pushing.specs.declared.push.Env.{Env}
+use Rattle.pushing.specs.declared.push.Read.{Read}
 use Rattle.pcode.specs.Base.{if_then_else_}
 use Rattle.pcode.specs.Values.{absent}
 use Rattle.meaning.specs.declared.scope.ExprValue.{ExprValue}

@@ -4,12 +4,12 @@ use mathlib.Core.Bool.{false}
 use mathlib.Core.List.{List}
 use lib.Dec.{eqb, ltb, leb}
 use Rattle.pcode.specs.declared.value.Value.{Value}
-use Rattle.pcode.specs.declared.push.State.{State}
-use Rattle.pcode.specs.declared.push.Env.{Env}
-use Rattle.pcode.specs.declared.push.Read.{Read}
+use Rattle.pushing.specs.declared.push.State.{State}
+use Rattle.pushing.specs.declared.push.Env.{Env}
+use Rattle.pushing.specs.declared.push.Read.{Read}
 use Rattle.pcode.specs.Base.{if_then_else_}
 use Rattle.pcode.specs.Values.{absent}
-use Rattle.pcode.specs.Pushes.{onRead}
+use Rattle.pushing.specs.Pushes.{onRead}
 use Rattle.meaning.specs.declared.scope.ExprValue.{ExprValue}
 use Rattle.expression.specs.declared.expr.Expr.{Expr}
 use Rattle.meaning.specs.Reading.{neededBytes, readSlice, readOperand}

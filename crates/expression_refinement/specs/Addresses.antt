@@ -19,12 +19,12 @@ use Rattle.definition.specs.Scope.{find, SymbolKind, symbolNumber, Symbol, isSy
 use Rattle.definition.specs.Expressions as d
 use Rattle.definition.specs.ActionList.{orNone}
 use Rattle.pcode.specs.declared.value.Value.{Value as WordValue}
-use Rattle.pcode.specs.declared.push.State.{State as WordState}
-use Rattle.pcode.specs.declared.push.Env.{Env as WordEnv}
-use Rattle.pcode.specs.declared.push.Read.{Read}
+use Rattle.pushing.specs.declared.push.State.{State as WordState}
+use Rattle.pushing.specs.declared.push.Env.{Env as WordEnv}
+use Rattle.pushing.specs.declared.push.Read.{Read}
 use Rattle.pcode.specs.Base.{if_then_else_}
 use Rattle.pcode.specs.Sizes.{entry}
-use Rattle.pcode.specs.Pushes.{ReadOut, read}
+use Rattle.pushing.specs.Pushes.{ReadOut, read}
 use Rattle.section_refinement.specs.Holds.{Holds, spaceAt, spaceKind, symbolWord, absentAt}
 use Rattle.refinement.specs.Encoding.{encV, Sound}
 use Rattle.refinement.specs.Seen.{yes, no, seenRead}

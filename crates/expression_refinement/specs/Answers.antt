@@ -11,11 +11,11 @@ use Rattle.definition.specs.Refusals.{Refusal, refusalNumber}
 use Rattle.definition.specs.Ast.{Section}
 use Rattle.definition.specs.Walk.{State, Env, Outcome, done, stopped, on, Walk, require}
 use Rattle.pcode.specs.declared.value.Value.{Value as WordValue}
-use Rattle.pcode.specs.declared.push.State.{State as WordState}
-use Rattle.pcode.specs.declared.push.Read.{Read}
-use Rattle.pcode.specs.declared.push.Pushed.{Pushed}
+use Rattle.pushing.specs.declared.push.State.{State as WordState}
+use Rattle.pushing.specs.declared.push.Read.{Read}
+use Rattle.pushing.specs.declared.push.Pushed.{Pushed}
 use Rattle.pcode.specs.Base.{if_then_else_, Listed, listed}
-use Rattle.pcode.specs.Pushes.{ReadOut, read, PushedOut, pushed, onRead, onPushed, onTmp}
+use Rattle.pushing.specs.Pushes.{ReadOut, read, PushedOut, pushed, onRead, onPushed, onTmp}
 use Rattle.refinement.specs.Encoding.{actionsIn, temporariesIn, encS}
 use Rattle.refinement.specs.Seen.{Seen, no, yes, seenRead, seenPushed, seenTmp, outcome}
 use Rattle.meaning.specs.declared.scope.ExprValue.{ExprValue as WordExpr}

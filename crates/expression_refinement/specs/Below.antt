@@ -19,10 +19,10 @@ use Rattle.definition.specs.Walk as d
 use Rattle.definition.specs.Walk.{State, Env, done, withSizing}
 use Rattle.definition.specs.ActionList.{orNone, actionKindNumber, operationWord, placesLabel}
 use Rattle.pcode.specs.declared.value.Value.{Value as WordValue}
-use Rattle.pcode.specs.declared.push.Env.{Env as WordEnv}
+use Rattle.pushing.specs.declared.push.Env.{Env as WordEnv}
 use Rattle.pcode.specs.Base.{if_then_else_, Listed, listed, thenL}
 use Rattle.pcode.specs.Values.{absent, noOutput}
-use Rattle.pcode.specs.Pushes.{addTmp, push, pushOp, opTo}
+use Rattle.pushing.specs.Pushes.{addTmp, push, pushOp, opTo}
 use Rattle.refinement.specs.Encoding.{encV, temporariesIn, encZ, Sound, Each, SoundAction, SizesHold}
 use Rattle.refinement.specs.Settled.{size-is, known-small, settled-is, settled-sets}
 use Rattle.refinement.specs.Lists.{firstOf, secondOf, outputOf}

@@ -18,14 +18,14 @@ use Rattle.definition.specs.Walk.{ExprValue, State, Env, Outcome, done, stopped
 use Rattle.definition.specs.Scope.{find, SymbolKind, symbolNumber, Symbol, isSymbol, globals, Meaning, means, wrong, innerMeaning, meaningOf, meaning, meant, resolveIdent}
 use Rattle.definition.specs.Expressions as d
 use Rattle.pcode.specs.declared.value.Value.{Value as WordValue}
-use Rattle.pcode.specs.declared.push.State.{State as WordState}
-use Rattle.pcode.specs.declared.push.Env.{Env as WordEnv}
-use Rattle.pcode.specs.declared.push.Read.{Read}
+use Rattle.pushing.specs.declared.push.State.{State as WordState}
+use Rattle.pushing.specs.declared.push.Env.{Env as WordEnv}
+use Rattle.pushing.specs.declared.push.Read.{Read}
 use Rattle.pcode.specs.Base.{if_then_else_}
 use Rattle.pcode.specs.Values.{absent}
-use Rattle.pcode.specs.Pushes.{ReadOut, read, PushedOut}
+use Rattle.pushing.specs.Pushes.{ReadOut, read, PushedOut}
 use Rattle.section_refinement.specs.Holds.{Holds, spelledAt, symbolWord}
-use Rattle.section.specs.Inbuilts.{inbuiltWords, inbuiltOf, inbuiltAt}
+use Rattle.inbuilts.specs.Inbuilts.{inbuiltWords, inbuiltOf, inbuiltAt}
 use Rattle.refinement.specs.Encoding.{encV, Sound, Each}
 use Rattle.refinement.specs.RuleKinds.{kindOf}
 use Rattle.refinement.specs.Lists.{firstOf, secondOf}

@@ -26,15 +26,15 @@ use Rattle.definition.specs.Scope.{find, SymbolKind, Symbol, isSymbol, globals,
 use Rattle.definition.specs.Expressions as d
 use Rattle.definition.specs.ActionList.{orNone}
 use Rattle.pcode.specs.declared.value.Value.{Value as WordValue}
-use Rattle.pcode.specs.declared.push.State.{State as WordState}
-use Rattle.pcode.specs.declared.push.Env.{Env as WordEnv}
-use Rattle.pcode.specs.declared.push.Read.{Read as WordRead}
+use Rattle.pushing.specs.declared.push.State.{State as WordState}
+use Rattle.pushing.specs.declared.push.Env.{Env as WordEnv}
+use Rattle.pushing.specs.declared.push.Read.{Read as WordRead}
 use Rattle.pcode.specs.Base.{if_then_else_}
 use Rattle.pcode.specs.Values.{absent}
-use Rattle.pcode.specs.Pushes.{ReadOut, read}
+use Rattle.pushing.specs.Pushes.{ReadOut, read}
 use Rattle.section.specs.declared.cursor.Cursor.{Cursor}
 use Rattle.section_refinement.specs.Holds.{Holds, absentAt, symbolWord}
-use Rattle.section.specs.Inbuilts.{inbuiltWords}
+use Rattle.inbuilts.specs.Inbuilts.{inbuiltWords}
 use Rattle.section_refinement.specs.Inversion.{OpAt, CallAt, expr-begun, nothing-deeper, ident-at, integer-at, address-of-at, truncate-at, slice-bits-at, op-at, deref-at, constant-pool-at, call-at, arg-at, no-arg-at}
 use Rattle.refinement.specs.Encoding.{encV, Sound, Each}
 use Rattle.refinement.specs.Lists.{firstOf, secondOf}

@@ -20,8 +20,8 @@ use Rattle.definition.specs.Sizes.{Operand, Step, equal, sized, unsized, Sizing
 use Rattle.definition.specs.Walk as d
 use Rattle.definition.specs.Walk.{State, Env, Outcome, done, stopped, on, require, withSizing, withAction}
 use Rattle.definition.specs.ActionList.{orNone, actionKindNumber, operationWord, placesLabel, labelsPlaced}
-use Rattle.pcode.specs.declared.push.Env.{Env as WordEnv}
-use Rattle.pcode.specs.Pushes.{addTmp, push, pushOp, opTo}
+use Rattle.pushing.specs.declared.push.Env.{Env as WordEnv}
+use Rattle.pushing.specs.Pushes.{addTmp, push, pushOp, opTo}
 use Rattle.pcode.specs.Values.{absent, noOutput}
 use Rattle.refinement.specs.Seen.{seenRead, seenPushed, seenTmp, seenPush}
 use Rattle.refinement.specs.Lists.{firstOf, secondOf, outputOf}

@@ -21,14 +21,14 @@ use Rattle.definition.specs.Walk.{ExprValue, State, Env, Outcome, done, on, Wal
 use Rattle.definition.specs.Expressions as d
 use Rattle.definition.specs.ActionList.{orNone, actionKindNumber, operationWord, placesLabel}
 use Rattle.pcode.specs.declared.value.Value.{Value as WordValue}
-use Rattle.pcode.specs.declared.push.State.{State as WordState}
-use Rattle.pcode.specs.declared.push.Env.{Env as WordEnv}
-use Rattle.pcode.specs.declared.push.Read.{Read}
-use Rattle.pcode.specs.declared.push.Pushed.{Pushed}
+use Rattle.pushing.specs.declared.push.State.{State as WordState}
+use Rattle.pushing.specs.declared.push.Env.{Env as WordEnv}
+use Rattle.pushing.specs.declared.push.Read.{Read}
+use Rattle.pushing.specs.declared.push.Pushed.{Pushed}
 use Rattle.pcode.specs.Base.{if_then_else_, Listed, listed}
 use Rattle.pcode.specs.Values.{absent}
 use Rattle.pcode.specs.Sizes.{sizeOf}
-use Rattle.pcode.specs.Pushes.{ReadOut, read, onRead, outputOr, push, opTo, op}
+use Rattle.pushing.specs.Pushes.{ReadOut, read, onRead, outputOr, push, opTo, op}
 use Rattle.refinement.specs.Encoding.{encV, Sound, Each, EachOption}
 use Rattle.refinement.specs.Settled.{size-is, known-small}
 use Rattle.refinement.specs.RuleKinds.{kindOf}

@@ -10,7 +10,7 @@ use Rattle.definition.specs.SectionFile.{parsed, exprWithin}
 use Rattle.definition.specs.Sizes.{pointerSize}
 use Rattle.definition.specs.Walk.{ExprValue, State, Env}
 use Rattle.definition.specs.Expressions as d
-use Rattle.pcode.specs.declared.push.Env.{Env as WordEnv}
+use Rattle.pushing.specs.declared.push.Env.{Env as WordEnv}
 use Rattle.section_refinement.specs.Holds.{Holds}
 use Rattle.refinement.specs.Encoding.{actionsIn, temporariesIn, encS, SizesHold}
 use Rattle.refinement.specs.Pushes.{Lent}

@@ -19,7 +19,7 @@ use Rattle.definition.specs.Walk.{ExprValue, State, Env, on}
 use Rattle.definition.specs.Scope as d
 use Rattle.definition.specs.Scope.{find, SymbolKind, symbolNumber, Symbol, isSymbol, symbols, globals, Meaning, means, wrong, registerBits, globalMeaning, innerMeaning, meaningOf}
 use Rattle.definition.specs.ActionList.{orNone}
-use Rattle.pcode.specs.declared.push.Env.{Env as WordEnv}
+use Rattle.pushing.specs.declared.push.Env.{Env as WordEnv}
 use Rattle.pcode.specs.Base.{if_then_else_}
 use Rattle.pcode.specs.Sizes.{entry}
 use Rattle.section_refinement.specs.Holds.{Holds, bitRangeAt, symbolWord}

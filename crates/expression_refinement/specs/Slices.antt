@@ -14,12 +14,12 @@ use Rattle.definition.specs.Walk.{ExprValue, State, Env, Outcome, done}
 use Rattle.definition.specs.Expressions as d
 use Rattle.definition.specs.ActionList.{orNone}
 use Rattle.pcode.specs.declared.value.Value.{Value as WordValue}
-use Rattle.pcode.specs.declared.push.State.{State as WordState}
-use Rattle.pcode.specs.declared.push.Env.{Env as WordEnv}
-use Rattle.pcode.specs.declared.push.Read.{Read}
+use Rattle.pushing.specs.declared.push.State.{State as WordState}
+use Rattle.pushing.specs.declared.push.Env.{Env as WordEnv}
+use Rattle.pushing.specs.declared.push.Read.{Read}
 use Rattle.pcode.specs.Base.{if_then_else_}
 use Rattle.pcode.specs.Values.{absent}
-use Rattle.pcode.specs.Pushes.{ReadOut, read}
+use Rattle.pushing.specs.Pushes.{ReadOut, read}
 use Rattle.refinement.specs.Encoding.{encV, Sound}
 use Rattle.refinement.specs.Seen.{yes, no, seenRead}
 use Rattle.meaning.specs.declared.scope.ExprValue.{ExprValue as WordExpr}

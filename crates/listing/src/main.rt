@@ -3,11 +3,11 @@
 use actions::actions;
 use libc::STDERR_FILENO;
 use mizgalon::Checked;
+use outcome::answer::Answer;
 use print::count;
 use print::text;
 use refusals::refusal;
 use refusals::refusal_at;
-use resolution::answer::Answer;
 use values::size;
 use values::value;
 
@@ -114,13 +114,13 @@ fn list_blocks(file: &[u8], list: &[u64], temporaries: &[u64], r: Checked) {
     let mut buf = [0u8; 65280];
     let n = file.len() / 512 * 510;
     if n <= 65280 {
-        section::blocks::join(file, &mut buf);
+        framing::blocks::join(file, &mut buf);
         list_front(&buf, n, list, temporaries, r);
     }
 }
 
 fn list_file(file: &[u8], list: &[u64], temporaries: &[u64], r: Checked) {
-    if section::blocks::check_blocks(file) != 0 {
+    if framing::blocks::check_blocks(file) != 0 {
         refusal(r.answer);
         return;
     }

@@ -3,7 +3,7 @@ use crate::print::count;
 use crate::print::number;
 use crate::print::text;
 use crate::statements::statement;
-use resolution::answer::Answer;
+use outcome::answer::Answer;
 
 fn of_file(n: u64) {
     match n {

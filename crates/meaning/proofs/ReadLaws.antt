@@ -9,14 +9,14 @@ use borrow.Author.Tests.{eq-eqb, ne-eqb, le-leb, lt-leb}
 use Rattle.cells.specs.Mask.{maskOf}
 use Rattle.pcode.specs.declared.value.Value.{Value}
 use Rattle.pcode.specs.declared.sizes.Sizing.{Sizing}
-use Rattle.pcode.specs.declared.push.State.{State}
-use Rattle.pcode.specs.declared.push.Env.{Env}
-use Rattle.pcode.specs.declared.push.Read.{Read}
-use Rattle.pcode.specs.declared.push.Pushed.{Pushed}
+use Rattle.pushing.specs.declared.push.State.{State}
+use Rattle.pushing.specs.declared.push.Env.{Env}
+use Rattle.pushing.specs.declared.push.Read.{Read}
+use Rattle.pushing.specs.declared.push.Pushed.{Pushed}
 use Rattle.pcode.specs.Base.{if_then_else_, listed, thenL}
 use Rattle.pcode.specs.Values.{local, withSize, absent}
 use Rattle.pcode.specs.Sizes.{sizeOf, settled}
-use Rattle.pcode.specs.Pushes.{read, onRead, onTmp, withSizing, addTmp, outputOr, push, opTo, op}
+use Rattle.pushing.specs.Pushes.{read, onRead, onTmp, withSizing, addTmp, outputOr, push, opTo, op}
 use Rattle.meaning.specs.declared.scope.ExprValue.{ExprValue}
 use Rattle.meaning.specs.declared.read.Stated.{Stated}
 use Rattle.meaning.specs.Reading.{neededBytes, constant, stated, setSize, setStated, takeStated, copyTo, byteAligned, sliced, shiftTo, shiftAndMask, partOf, readSlice, pushedTo, pushedOut, readAddress, loadTo, load, loadRegisterTo, loadRegister, readValue, readOperand}

@@ -5,14 +5,14 @@ use mathlib.Core.List.{List}
 use lib.Dec.{eqb, leb}
 use Rattle.cells.specs.Mask.{maskOf}
 use Rattle.pcode.specs.declared.value.Value.{Value}
-use Rattle.pcode.specs.declared.push.State.{State}
-use Rattle.pcode.specs.declared.push.Env.{Env}
-use Rattle.pcode.specs.declared.push.Read.{Read}
-use Rattle.pcode.specs.declared.push.Pushed.{Pushed}
+use Rattle.pushing.specs.declared.push.State.{State}
+use Rattle.pushing.specs.declared.push.Env.{Env}
+use Rattle.pushing.specs.declared.push.Read.{Read}
+use Rattle.pushing.specs.declared.push.Pushed.{Pushed}
 use Rattle.pcode.specs.Base.{if_then_else_, Listed, listed, thenL}
 use Rattle.pcode.specs.Values.{local, withSize, absent}
 use Rattle.pcode.specs.Sizes.{sizeOf, settled}
-use Rattle.pcode.specs.Pushes.{ReadOut, read, onRead, onTmp, withSizing, addTmp, outputOr, push, opTo, op}
+use Rattle.pushing.specs.Pushes.{ReadOut, read, onRead, onTmp, withSizing, addTmp, outputOr, push, opTo, op}
 use Rattle.meaning.specs.declared.scope.ExprValue.{ExprValue}
 use Rattle.meaning.specs.declared.read.Stated.{Stated}
 

@@ -5,7 +5,7 @@ use crate::scope::param_place;
 use crate::scope::put_slot;
 use crate::scope::slot_at;
 use crate::scope::slot_of;
-use pcode::push::State;
+use pushing::push::State;
 ghost use mathlib.Core.Path.{_≡_};
 ghost use Rattle.meaning.specs.Slots.{argAt, putArg};
 

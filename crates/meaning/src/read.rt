@@ -1,14 +1,5 @@
 // Reading: an expression's value becomes an operand, in the output where one is given.
 use crate::scope::ExprValue;
-use pcode::push::Env;
-use pcode::push::Pushed;
-use pcode::push::Read;
-use pcode::push::State;
-use pcode::push::add_tmp;
-use pcode::push::op;
-use pcode::push::op_to;
-use pcode::push::output_or;
-use pcode::push::push;
 use pcode::sizes::Sizing;
 use pcode::sizes::settle;
 use pcode::sizes::size_of;
@@ -16,10 +7,19 @@ use pcode::value::Value;
 use pcode::value::absent;
 use pcode::value::local;
 use pcode::value::with_size;
+use pushing::push::Env;
+use pushing::push::Pushed;
+use pushing::push::Read;
+use pushing::push::State;
+use pushing::push::add_tmp;
+use pushing::push::op;
+use pushing::push::op_to;
+use pushing::push::output_or;
+use pushing::push::push;
 ghost use mathlib.Core.Path.{_≡_};
 ghost use Rattle.pcode.specs.Base.{listed};
 ghost use Rattle.pcode.specs.Values.{local};
-ghost use Rattle.pcode.specs.Pushes.{read, withSizing};
+ghost use Rattle.pushing.specs.Pushes.{read, withSizing};
 ghost use Rattle.meaning.specs.Reading.{neededBytes, constant, setSize, setStated, takeStated, copyTo, byteAligned, sliced, shiftTo, shiftAndMask, partOf, readSlice, pushedTo, readAddress, load, loadRegister, readValue, readOperand};
 
 pub fn needed_bytes(bits: u64) -> u64

@@ -1,8 +1,4 @@
 // What a name means: a macro parameter, inst_next, inst_start, a local, a global register or bit range.
-use pcode::push::Env;
-use pcode::push::Read;
-use pcode::push::State;
-use pcode::push::add_tmp;
 use pcode::sizes::entry;
 use pcode::value::Value;
 use pcode::value::absent;
@@ -11,6 +7,10 @@ use pcode::value::local;
 use pcode::value::put;
 use pcode::value::put_value;
 use pcode::value::value_at;
+use pushing::push::Env;
+use pushing::push::Read;
+use pushing::push::State;
+use pushing::push::add_tmp;
 ghost use mathlib.Core.Path.{_≡_};
 ghost use Prim.Native.Nat.{_+_, _<_};
 ghost use Rattle.cells.specs.Le.{le16};

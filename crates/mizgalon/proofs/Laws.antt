@@ -15,8 +15,8 @@ use Rattle.definition.specs.Passing.{subtableCount, pointerSizeIn, refusalIn, a
 use Rattle.guarantee.specs.Guarantee.{accepted-files-pass}
 use Rattle.counts.specs.declared.Counts.{Counts}
 use Rattle.counts.specs.Counts.{counts}
-use Rattle.resolution.specs.declared.answer.Answer.{Answer as Numbers}
-use Rattle.resolution.specs.Answers.{resolvedTo}
+use Rattle.outcome.specs.declared.answer.Answer.{Answer as Numbers}
+use Rattle.outcome.specs.Answers.{resolvedTo}
 use Rattle.resolution.specs.Files.{resolveFile}
 use Rattle.resolution_refinement.specs.Answers.{asAnswer}
 use Rattle.resolution_refinement.specs.Theorem.{answered-is}

@@ -1,5 +1,5 @@
 // The public face: a section file resolved into lent lists, and the checker of such lists; for Rattle, and as C functions.
-use resolution::answer::Answer;
+use outcome::answer::Answer;
 ghost use mathlib.Core.Path.{_≡_};
 ghost use lib.ListN.{length};
 ghost use Rattle.definition.specs.ActionList.{resolve};

@@ -2,5 +2,3 @@
 pub mod Base
 pub mod Values
 pub mod Sizes
-pub mod Rules
-pub mod Pushes

@@ -1,5 +1,3 @@
-// Values, the pushes that make actions of them, and the size rules.
-pub mod push;
-pub mod rules;
+// Values and their sizes.
 pub mod sizes;
 pub mod value;

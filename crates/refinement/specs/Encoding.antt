@@ -14,7 +14,7 @@ use Rattle.definition.specs.Walk.{State}
 use Rattle.definition.specs.ActionList.{orNone, listWords}
 use Rattle.pcode.specs.declared.value.Value.{Value as WordValue}
 use Rattle.pcode.specs.declared.sizes.Sizing.{Sizing as WordSizing}
-use Rattle.pcode.specs.declared.push.State.{State as WordState}
+use Rattle.pushing.specs.declared.push.State.{State as WordState}
 use Rattle.pcode.specs.Sizes.{listSize, exportSizeOf}
 
 -- a value; its second word is that of `valueWords`

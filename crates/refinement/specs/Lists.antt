@@ -13,7 +13,7 @@ use Rattle.definition.specs.ActionList.{inputWords, valueWords, actionKindNumbe
 use Rattle.pcode.specs.declared.value.Value.{Value as WordValue}
 use Rattle.pcode.specs.Base.{run}
 use Rattle.pcode.specs.Values.{absent, noOutput, word, putValue}
-use Rattle.pcode.specs.Pushes.{writeOperands, writeZeros, writeHead, write}
+use Rattle.pushing.specs.Pushes.{writeOperands, writeZeros, writeHead, write}
 use Rattle.refinement.specs.Encoding.{encV, packed, actionsIn, Sound, Each, EachOption, SoundAction}
 use Rattle.refinement.specs.Operands.{word-is, words-of, outNumber, outWord, action-length}
 use Rattle.refinement.specs.Focus.{wordsOf}

@@ -15,7 +15,7 @@ use Rattle.definition.specs.ActionList.{listWords}
 use Rattle.pcode.specs.Base.{if_then_else_, run, runDown}
 use Rattle.pcode.specs.Values.{place}
 use Rattle.pcode.specs.Sizes.{Sized, sized, thenS}
-use Rattle.pcode.specs.Rules.{updateOperandSizes}
+use Rattle.pushing.specs.Rules.{updateOperandSizes}
 use Rattle.ending.specs.Passes.{updateAction, backwardPass, forwardPass}
 use Rattle.refinement.specs.Encoding.{actionsIn, temporariesIn, encZ, SoundTmp, Each, SoundAction, SizesHold}
 use Rattle.refinement.specs.Rules.{Ruled, ruled-after, updated-after, update-is}

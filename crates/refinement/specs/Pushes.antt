@@ -20,14 +20,14 @@ use Rattle.definition.specs.Walk as d
 use Rattle.definition.specs.Walk.{State, Env, Outcome, done, stopped, on, require, withSizing, withAction}
 use Rattle.definition.specs.ActionList.{orNone, listWords, actionKindNumber, operationWord}
 use Rattle.pcode.specs.declared.value.Value.{Value as WordValue}
-use Rattle.pcode.specs.declared.push.Env.{Env as WordEnv}
-use Rattle.pcode.specs.declared.push.Read.{Read}
-use Rattle.pcode.specs.declared.push.Pushed.{Pushed}
+use Rattle.pushing.specs.declared.push.Env.{Env as WordEnv}
+use Rattle.pushing.specs.declared.push.Read.{Read}
+use Rattle.pushing.specs.declared.push.Pushed.{Pushed}
 use Rattle.pcode.specs.Base.{if_then_else_, listed}
 use Rattle.pcode.specs.Values.{valueAt}
 use Rattle.pcode.specs.Sizes.{sized, thenS}
-use Rattle.pcode.specs.Rules.{updateOperandSizes}
-use Rattle.pcode.specs.Pushes.{read, pushed, onPush, onState, tmpWord, addTmp, outputOr, write, push, updateLast, pushOp, opTo, op}
+use Rattle.pushing.specs.Rules.{updateOperandSizes}
+use Rattle.pushing.specs.Pushes.{read, pushed, onPush, onState, tmpWord, addTmp, outputOr, write, push, updateLast, pushOp, opTo, op}
 use Rattle.refinement.specs.Encoding.{encV, actionsIn, markedWord, temporaryWords, temporariesIn, encZ, encS, Within, Sound, SoundTmp, Each, EachOption, SoundAction, SizesHold}
 use Rattle.refinement.specs.Operands.{size-word}
 use Rattle.refinement.specs.Settled.{Ready, present}

@@ -8,7 +8,7 @@ use Rattle.definition.specs.Value.{SemanticAction}
 use Rattle.definition.specs.Sizes as d
 use Rattle.definition.specs.Sizes.{in0, in1, out, one, pointer, Step, equal, sized, unsized, rules}
 use Rattle.pcode.specs.Base.{if_then_else_}
-use Rattle.pcode.specs.Rules.{ruleOf, ruleOfOperator, ruleOfOneInput, ruleOfOther}
+use Rattle.pushing.specs.Rules.{ruleOf, ruleOfOperator, ruleOfOneInput, ruleOfOther}
 use Rattle.refinement.specs.Settled.{has}
 
 pub data RuleKind : Type 0 where

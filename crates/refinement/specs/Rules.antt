@@ -15,7 +15,7 @@ use Rattle.definition.specs.Sizes.{Operand, in0, in1, out, at, Sizing, setGiven
 use Rattle.definition.specs.ActionList.{actionWords, actionKindNumber, operationWord}
 use Rattle.pcode.specs.Base.{if_then_else_}
 use Rattle.pcode.specs.Sizes.{thenS, setOperand}
-use Rattle.pcode.specs.Rules.{ruleOf, shift, comparison, boolNot, branch, fewOperands, applyRule, updateOperandSizes}
+use Rattle.pushing.specs.Rules.{ruleOf, shift, comparison, boolNot, branch, fewOperands, applyRule, updateOperandSizes}
 use Rattle.refinement.specs.Encoding.{encZ, SizesHold}
 use Rattle.refinement.specs.Framing.{get-in}
 use Rattle.refinement.specs.Operands.{words-of, action-length}

@@ -8,11 +8,11 @@ use lib.ListN.{length}
 use Rattle.definition.specs.Refusals.{refusalNumber}
 use Rattle.definition.specs.Walk.{State, Env, Outcome, done, stopped, on, Walk}
 use Rattle.pcode.specs.declared.value.Value.{Value as WordValue}
-use Rattle.pcode.specs.declared.push.State.{State as WordState}
-use Rattle.pcode.specs.declared.push.Read.{Read}
-use Rattle.pcode.specs.declared.push.Pushed.{Pushed}
+use Rattle.pushing.specs.declared.push.State.{State as WordState}
+use Rattle.pushing.specs.declared.push.Read.{Read}
+use Rattle.pushing.specs.declared.push.Pushed.{Pushed}
 use Rattle.pcode.specs.Base.{Listed, listed}
-use Rattle.pcode.specs.Pushes.{ReadOut, read, PushedOut, pushed, onRead, onPushed, onTmp, onPush}
+use Rattle.pushing.specs.Pushes.{ReadOut, read, PushedOut, pushed, onRead, onPushed, onTmp, onPush}
 use Rattle.refinement.specs.Encoding.{actionsIn, temporariesIn, encS}
 
 pub data Seen (A : Type 0) : Type 0 where

@@ -6,21 +6,21 @@ use lib.ListN.{length, getD, take, replicate}
 use borrow.Author.Tests.{eq-eqb, ne-eqb, lt-ltb, le-ltb}
 use Rattle.definition.specs.SectionFile.{streamOf}
 use Rattle.cells.specs.Le.{le16}
-use Rattle.section.specs.Blocks.{refusalOf, joined}
+use Rattle.framing.specs.Blocks.{refusalOf, joined}
 use Rattle.section.specs.Stream.{answer, readStream}
 use Rattle.section_refinement.specs.FileTheorem.{one-block, checked-room, front, front-room}
-use Rattle.pcode.specs.declared.push.Env.{Env}
+use Rattle.pushing.specs.declared.push.Env.{Env}
 use Rattle.pcode.specs.declared.value.Value.{Value}
 use Rattle.pcode.specs.Base.{if_then_else_}
 use Rattle.pcode.specs.Values.{absent, place}
 use Rattle.pcode.specs.Sizes.{entry}
-use Rattle.semantics.specs.declared.walk.Walk.{Walk}
-use Rattle.semantics.specs.declared.walk.Step.{Step}
-use Rattle.semantics.specs.Walks.{stepped, walked}
+use Rattle.walking.specs.declared.walk.Walk.{Walk}
+use Rattle.walking.specs.declared.walk.Step.{Step}
+use Rattle.walking.specs.Walks.{stepped, walked}
 use Rattle.bodies.specs.Statements.{resolveBody}
-use Rattle.resolution.specs.declared.answer.Answer.{Answer}
-use Rattle.resolution.specs.Answers.{resolvedTo, refused}
-use Rattle.resolution.specs.Ends.{finish}
+use Rattle.outcome.specs.declared.answer.Answer.{Answer}
+use Rattle.outcome.specs.Answers.{resolvedTo, refused}
+use Rattle.outcome.specs.Ends.{finish}
 use Rattle.resolution.specs.Files.{pointerSize, atStart, startEnv, withoutP, walkSection, resolveWalked, resolveSection, resolveRead, resolveStream, resolveFile}
 
 module _ (s t : List ℕ) (i : ℕ) (p : (i ≡ le16 s 24) × (i < 65536)) where

@@ -5,18 +5,18 @@ use lib.ListN.{length, getD, replicate}
 use lib.Dec.{eqb, ltb}
 use Rattle.definition.specs.SectionFile.{streamOf}
 use Rattle.cells.specs.Le.{le16}
-use Rattle.section.specs.Blocks.{refusalOf, joined}
+use Rattle.framing.specs.Blocks.{refusalOf, joined}
 use Rattle.section.specs.Stream.{Answer, readStream}
-use Rattle.pcode.specs.declared.push.Env.{Env}
+use Rattle.pushing.specs.declared.push.Env.{Env}
 use Rattle.pcode.specs.Base.{if_then_else_}
 use Rattle.pcode.specs.Values.{absent, place}
 use Rattle.pcode.specs.Sizes.{entry}
-use Rattle.semantics.specs.declared.walk.Walk.{Walk}
-use Rattle.semantics.specs.declared.walk.Step.{Step}
-use Rattle.semantics.specs.Walks.{Stepped, stepped, Walked, walked}
+use Rattle.walking.specs.declared.walk.Walk.{Walk}
+use Rattle.walking.specs.declared.walk.Step.{Step}
+use Rattle.walking.specs.Walks.{Stepped, stepped, Walked, walked}
 use Rattle.bodies.specs.Statements.{resolveBody}
-use Rattle.resolution.specs.Answers.{Resolved, refused}
-use Rattle.resolution.specs.Ends.{finish}
+use Rattle.outcome.specs.Answers.{Resolved, refused}
+use Rattle.outcome.specs.Ends.{finish}
 
 -- of the default space, 8 where there is none
 unfoldable pub pointerSize : List ℕ → List ℕ → ℕ

@@ -1,26 +1,23 @@
 // A section file resolved into lent lists: the file is read, its statements are walked, the end is run. After a refusal both
 // lists are zero.
-use answer::Answer;
-use answer::refused;
-use finish::finish;
-use pcode::push::Env;
-use pcode::push::State;
+use outcome::answer::Answer;
+use outcome::answer::refused;
+use outcome::finish::finish;
 use pcode::sizes::Sizing;
 use pcode::value::absent;
 use pcode::value::place;
-use semantics::walk::Export;
-use semantics::walk::Step;
-use semantics::walk::Walk;
+use pushing::push::Env;
+use pushing::push::State;
+use walking::walk::Export;
+use walking::walk::Step;
+use walking::walk::Walk;
 ghost use mathlib.Core.Path.{_≡_};
 ghost use Prim.Native.Nat.{_*_, _/_, _≤_};
 ghost use lib.ListN.{length, take};
-ghost use Rattle.section.specs.Blocks.{joined};
-ghost use Rattle.semantics.specs.Walks.{stepped};
-ghost use Rattle.resolution.specs.Answers.{resolvedTo};
+ghost use Rattle.framing.specs.Blocks.{joined};
+ghost use Rattle.walking.specs.Walks.{stepped};
+ghost use Rattle.outcome.specs.Answers.{resolvedTo};
 ghost use Rattle.resolution.specs.Files.{pointerSize, atStart, startEnv, walkSection, resolveSection, resolveStream, resolveFile};
-
-pub mod answer;
-pub mod finish;
 
 // The size of the default space's pointers, 8 where there is none.
 pub fn pointer_size(s: &[u8], t: &[u16]) -> u64
@@ -136,7 +133,7 @@ fn resolve_blocks(file: &[u8], a: &mut [u64], m: &mut [u64]) -> Answer
     ensures { λ r. ⌜ resolvedTo r (now (a .exit)) (now (m .exit)) ≡ resolveStream (joined (length (now (file .entry)) / 512) (now (file .entry))) (now (a .entry)) (now (m .entry)) ⌝ }
 {
     let mut buf = [0u8; 65280];
-    section::blocks::join(file, &mut buf);
+    framing::blocks::join(file, &mut buf);
     let n = file.len() / 512 * 510;
     resolve_front(&buf, n, a, m)
 }
@@ -144,7 +141,7 @@ fn resolve_blocks(file: &[u8], a: &mut [u64], m: &mut [u64]) -> Answer
 pub fn resolve_words(file: &[u8], actions: &mut [u64], temporaries: &mut [u64]) -> Answer
     ensures { λ r. ⌜ resolvedTo r (now (actions .exit)) (now (temporaries .exit)) ≡ resolveFile (now (file .entry)) (now (actions .entry)) (now (temporaries .entry)) ⌝ }
 {
-    let bad = section::blocks::check_blocks(file);
+    let bad = framing::blocks::check_blocks(file);
     if bad != 0 {
         return refused(actions, temporaries, bad, 65535, 0);
     }

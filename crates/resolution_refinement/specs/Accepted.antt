@@ -16,10 +16,10 @@ use Rattle.definition.specs.ActionList as d
 use Rattle.definition.specs.ActionList.{labelsPlaced, points, valueWords, Answer}
 use Rattle.pcode.specs.Base.{if_then_else_, thenL}
 use Rattle.pcode.specs.Values.{word}
-use Rattle.semantics.specs.declared.walk.Walk.{Walk}
-use Rattle.semantics.specs.declared.walk.Export.{Export as WordExport}
-use Rattle.resolution.specs.declared.answer.Words.{Words}
-use Rattle.resolution.specs.Answers.{pointsOf, words, exportWords, accepted}
+use Rattle.walking.specs.declared.walk.Walk.{Walk}
+use Rattle.walking.specs.declared.walk.Export.{Export as WordExport}
+use Rattle.outcome.specs.declared.answer.Words.{Words}
+use Rattle.outcome.specs.Answers.{pointsOf, words, exportWords, accepted}
 use Rattle.refinement.specs.Encoding.{encV, packed, actionsIn, temporariesIn, SoundTmp, Each, EachOption}
 use Rattle.refinement.specs.Operands.{word-is}
 use Rattle.refinement.specs.Assembling.{implicit-few, assembled-is}

@@ -9,7 +9,7 @@ use Rattle.definition.specs.Refusals.{Refusal, refusalNumber}
 use Rattle.definition.specs.ActionList as d
 use Rattle.definition.specs.ActionList.{orNone, filled, Answer}
 use Rattle.ending.specs.End.{zeroFrom}
-use Rattle.resolution.specs.Answers.{Resolved, resolvedTo, refused}
+use Rattle.outcome.specs.Answers.{Resolved, resolvedTo, refused}
 
 unfoldable pub asAnswer : Resolved → Answer
 asAnswer (resolvedTo r a m) = record {

@@ -30,10 +30,10 @@ use Rattle.pcode.specs.Values.{place}
 use Rattle.pcode.specs.Sizes.{thenS}
 use Rattle.ending.specs.Passes.{backwardPass, forwardPass}
 use Rattle.ending.specs.End.{fixSize, finishActions}
-use Rattle.semantics.specs.declared.walk.Walk.{Walk}
-use Rattle.semantics.specs.declared.walk.Export.{Export as WordExport}
-use Rattle.resolution.specs.Answers.{Resolved, refused, accepted}
-use Rattle.resolution.specs.Ends.{judged, exportFixed, judgedFixed, finishExport, finishDone, finishSized, actionsBetween, bothPasses, finishAll, finish}
+use Rattle.walking.specs.declared.walk.Walk.{Walk}
+use Rattle.walking.specs.declared.walk.Export.{Export as WordExport}
+use Rattle.outcome.specs.Answers.{Resolved, refused, accepted}
+use Rattle.outcome.specs.Ends.{judged, exportFixed, judgedFixed, finishExport, finishDone, finishSized, actionsBetween, bothPasses, finishAll, finish}
 use Rattle.refinement.specs.Encoding.{actionsIn, temporariesIn, firstError, encZ, encS, SoundTmp, Each, SoundAction, SizesHold}
 use Rattle.refinement.specs.Lists.{list-length}
 use Rattle.refinement.specs.Pushes.{tmps-length}

@@ -22,15 +22,15 @@ use Rattle.guarantee.specs.Kept.{Kept, small-section}
 use Rattle.pcode.specs.Base.{if_then_else_}
 use Rattle.pcode.specs.Values.{place}
 use Rattle.ending.specs.End.{zeroFrom}
-use Rattle.semantics.specs.Walks.{Stepped, Walked}
+use Rattle.walking.specs.Walks.{Stepped, Walked}
 use Rattle.bodies.specs.Statements.{resolveBody}
 use Rattle.section_refinement.specs.Holds.{Holds}
 use Rattle.refinement.specs.Encoding.{temporaryWords}
 use Rattle.refinement.specs.FromSection.{TablesNamed, sizes-hold}
 use Rattle.refinement.specs.Passes.{place-is}
 use Rattle.refinement.specs.Marks.{start-actions, start-state}
-use Rattle.resolution.specs.Answers.{Resolved, resolvedTo, refused}
-use Rattle.resolution.specs.Ends.{finish}
+use Rattle.outcome.specs.Answers.{Resolved, resolvedTo, refused}
+use Rattle.outcome.specs.Ends.{finish}
 use Rattle.resolution.specs.Files as w
 use Rattle.resolution.specs.Files.{startEnv, withoutP, walkSection, resolveWalked}
 use Rattle.expression_refinement.specs.Encodings.{count}

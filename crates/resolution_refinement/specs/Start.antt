@@ -29,7 +29,7 @@ use Rattle.resolution.specs.Files as w
 use Rattle.resolution.specs.Files.{startEnv}
 use Rattle.expression_refinement.specs.Scopes.{BitRangesFit}
 use Rattle.expression_refinement.specs.Start.{start-locals}
-use Rattle.semantics.specs.Labels.{findLabel}
+use Rattle.jumps.specs.Labels.{findLabel}
 use Rattle.semantics_refinement.specs.Views.{Beside, beside}
 use Rattle.semantics_refinement.specs.Given.{Given}
 use Rattle.semantics_refinement.specs.Labels.{LabelsIn, idOr}

@@ -9,7 +9,7 @@ use Rattle.definition.specs.Value.{Temporary}
 use Rattle.definition.specs.ActionList.{filled, temporaryWord}
 use Rattle.pcode.specs.Base.{run}
 use Rattle.ending.specs.End.{zeroFrom}
-use Rattle.resolution.specs.Answers.{clearMark, clearMarks}
+use Rattle.outcome.specs.Answers.{clearMark, clearMarks}
 use Rattle.refinement.specs.Encoding.{markedWord, temporaryWords, temporariesIn, SoundTmp, Each}
 use Rattle.refinement.specs.Fixing.{filled-append}
 use Rattle.refinement.specs.Marks.{tmp-clean}

@@ -16,14 +16,14 @@ use Rattle.definition.specs.ActionList as d
 use Rattle.definition.specs.ActionList.{orNone}
 use Rattle.guarantee.specs.Limits.{read-within}
 use Rattle.pcode.specs.Base.{if_then_else_}
-use Rattle.section.specs.Blocks.{refusalOf, joined}
+use Rattle.framing.specs.Blocks.{refusalOf, joined}
 use Rattle.section.specs.Stream.{readStream}
 use Rattle.section_refinement.specs.Agree.{refusal-bad}
 use Rattle.section_refinement.specs.FileTheorem.{noTable, stream-refusal, stream-holds, file-stream}
 use Rattle.refinement.specs.Named.{section-named, tables-named}
-use Rattle.resolution.specs.declared.answer.Answer.{Answer as WordAnswer}
-use Rattle.resolution.specs.Answers as answers
-use Rattle.resolution.specs.Answers.{Resolved, resolvedTo}
+use Rattle.outcome.specs.declared.answer.Answer.{Answer as WordAnswer}
+use Rattle.outcome.specs.Answers as answers
+use Rattle.outcome.specs.Answers.{Resolved, resolvedTo}
 use Rattle.resolution.specs.Files as w
 use Rattle.resolution.specs.Files.{resolveStream, resolveFile}
 use Rattle.semantics_refinement.specs.Statements.{statements-follow}

@@ -4,5 +4,3 @@ mod CodeLaws
 mod NameLaws
 mod ChainLaws
 mod ListLaws
-mod BlockLaws
-mod InbuiltLaws

@@ -7,5 +7,3 @@ pub mod Chains
 pub mod Headers
 pub mod Lists
 pub mod Stream
-pub mod Blocks
-pub mod Inbuilts

@@ -1,6 +1,5 @@
-// The section file: `blocks::check_blocks` finds refusals 1 and 2, `blocks::join` joins the payloads of a file of more than
-// one block, and `read_stream` reads the stream strictly in sequence: refusals 3 to 6, and a table of all that a later walk
-// needs. The table is 3,344 numbers:
+// The section's stream: `read_stream` reads it strictly in sequence, with refusals 3 to 6 and a table of all that a later
+// walk needs. The table is 3,344 numbers:
 //   n            where the length byte of name n stands in the stream
 //   1024 + name  0, or 1 + kind + 8 × index of the global of that name: kind 0 space, 1 register, 2 bit range, 3 table,
 //                4 user op, 5 macro, 6 other symbol
@@ -22,12 +21,10 @@ ghost use mathlib.Core.Path.{_≡_};
 ghost use Rattle.section.specs.Stream.{statements, answer, readStream};
 ghost use Rattle.section.specs.Names.{reading};
 
-pub mod blocks;
 pub mod chains;
 pub mod cursor;
 pub mod expressions;
 pub mod header;
-pub mod inbuilt;
 pub mod lists;
 pub mod names;
 pub mod statements;

@@ -22,7 +22,7 @@ use Rattle.section.specs.Names.{Reading, reading, names}
 use Rattle.section.specs.Headers.{header}
 use Rattle.section.specs.Lists.{stamp, lists}
 use Rattle.section.specs.Stream.{statements, Answer, answer, answerOf, readStream}
-use Rattle.section.specs.Blocks.{refusalOf}
+use Rattle.framing.specs.Blocks.{refusalOf}
 use Rattle.section_refinement.specs.Holds.{absentAt, Limits, Named, Listed, spaceAt, registerAt, bitRangeAt, tableAt, nameOnly, fieldAt, subtableAt, symbolWord, localWord, bodies, MacroAt, StatementsAt, Holds}
 use Rattle.section_refinement.specs.Agree.{Agrees, went, stopped, refusal-bad}
 use Rattle.section_refinement.specs.AgreeNames.{headerAt, header-agrees, Fills, goes, stops, NamesHeld}

@@ -5,7 +5,7 @@ use Prim.Native.Nat.{ℕ, _*_, _/_, _≤_}
 use lib.ListN.{length, take, replicate, length-replicate}
 use lib.Seq.{length-take-le}
 use Rattle.definition.specs.SectionFile.{streamOf}
-use Rattle.section.specs.Blocks.{refusalOf}
+use Rattle.framing.specs.Blocks.{refusalOf}
 use Rattle.section_refinement.specs.FileTheorem.{checked-room}
 
 pub room : (file : List ℕ) (bad : ℕ) → bad ≡ refusalOf (streamOf file) → bad ≡ 0 → length file / 512 * 510 ≤ length {A = ℕ} (replicate 65280 0)

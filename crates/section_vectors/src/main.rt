@@ -74,7 +74,7 @@ fn seal(file: &mut [u8; 65537], n: usize)
 
 // The refusal of a file, or 0.
 fn judge(file: &[u8]) -> u64 {
-    let bad = section::blocks::check_blocks(file);
+    let bad = framing::blocks::check_blocks(file);
     if bad != 0 {
         return bad;
     }
@@ -83,7 +83,7 @@ fn judge(file: &[u8]) -> u64 {
         return section::read_stream(&file[..510], &mut t);
     }
     let mut stream = [0u8; 65280];
-    section::blocks::join(file, &mut stream);
+    framing::blocks::join(file, &mut stream);
     let n = file.len() / 512 * 510;
     section::read_stream(&stream[..n], &mut t)
 }

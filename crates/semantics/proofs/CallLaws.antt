@@ -7,13 +7,13 @@ use lib.ListN.{getD, set, replicate}
 use borrow.Author.Tests.{eq-eqb, ne-eqb}
 use Rattle.cells.specs.Le.{le16}
 use Rattle.pcode.specs.declared.value.Value.{Value}
-use Rattle.pcode.specs.declared.push.State.{State}
-use Rattle.pcode.specs.declared.push.Env.{Env}
-use Rattle.pcode.specs.declared.push.Read.{Read}
-use Rattle.pcode.specs.declared.push.Pushed.{Pushed}
+use Rattle.pushing.specs.declared.push.State.{State}
+use Rattle.pushing.specs.declared.push.Env.{Env}
+use Rattle.pushing.specs.declared.push.Read.{Read}
+use Rattle.pushing.specs.declared.push.Pushed.{Pushed}
 use Rattle.pcode.specs.Base.{if_then_else_, run, listed, thenL}
 use Rattle.pcode.specs.Values.{absent, noOutput, valueAt, putValue}
-use Rattle.pcode.specs.Pushes.{read, onRead, onPush, push}
+use Rattle.pushing.specs.Pushes.{read, onRead, onPush, push}
 use Rattle.meaning.specs.declared.scope.ExprValue.{ExprValue}
 use Rattle.meaning.proofs.scope.ExprValue as exprValue
 use Rattle.meaning.specs.declared.scope.Slot.{Slot}
@@ -24,10 +24,10 @@ use Rattle.meaning.specs.Reading.{readOperand}
 use Rattle.expression.specs.Answers.{passed, onArgs, after}
 use Rattle.expression.specs.Calls.{onlyInteger}
 use Rattle.expression.specs.Expressions.{resolveArgs, resolveExpr}
-use Rattle.semantics.specs.declared.walk.Walk.{Walk}
-use Rattle.semantics.specs.declared.walk.Step.{Step}
+use Rattle.walking.specs.declared.walk.Walk.{Walk}
+use Rattle.walking.specs.declared.walk.Step.{Step}
 use Rattle.semantics.specs.declared.calls.Called.{Called}
-use Rattle.semantics.specs.Walks.{stepped, stop, pushedThen}
+use Rattle.walking.specs.Walks.{stepped, stop, pushedThen}
 use Rattle.pcode.proofs.LoopLaws.{run-end}
 use Rattle.semantics.specs.Calls.{called, symbolOf, calledOf, delaySlot, ArgsRead, argsRead, readArgs, writeInput, writeInputs, pushUserOp, userOpRead, userOpArgs, stepArgs, userOpStatement, otherCall, bindParam, bindArg, bindParams, macroAt, counted, macroCounted, macroArgs}
 

@@ -1,5 +1,2 @@
-mod LabelLaws
-mod BranchLaws
 mod SimpleLaws
-mod CopyLaws
 mod CallLaws

@@ -9,29 +9,25 @@ use denote.Enum.Declared.{tagOf}
 use borrow.Author.Tests.{eq-eqb, ne-eqb, lt-ltb, le-ltb}
 use Rattle.cells.specs.Le.{le16}
 use Rattle.pcode.specs.declared.value.Value.{Value}
-use Rattle.pcode.specs.declared.push.State.{State}
-use Rattle.pcode.specs.declared.push.Env.{Env}
-use Rattle.pcode.specs.declared.push.Read.{Read}
-use Rattle.pcode.specs.declared.push.Pushed.{Pushed}
+use Rattle.pushing.specs.declared.push.State.{State}
+use Rattle.pushing.specs.declared.push.Env.{Env}
+use Rattle.pushing.specs.declared.push.Read.{Read}
+use Rattle.pushing.specs.declared.push.Pushed.{Pushed}
 use Rattle.pcode.specs.Base.{if_then_else_, listed, thenL}
 use Rattle.pcode.specs.Values.{absent, noOutput}
 use Rattle.pcode.specs.Sizes.{entry}
-use Rattle.pcode.specs.Pushes.{read, pushed, onTmp, push, pushOp}
+use Rattle.pushing.specs.Pushes.{read, pushed, onTmp, push, pushOp}
 use Rattle.meaning.specs.declared.scope.ExprValue.{ExprValue}
 use Rattle.meaning.proofs.scope.ExprValue as exprValue
 use Rattle.expression.specs.declared.expr.Expr.{Expr}
-use Rattle.expression.specs.declared.expr.Operand.{Operand}
-use Rattle.meaning.specs.declared.read.Stated.{Stated}
 use Rattle.meaning.specs.Scopes.{global, namedTmp}
-use Rattle.meaning.specs.Reading.{setStated, takeStated, readValue, readOperand}
-use Rattle.expression.specs.Answers.{resolved, onExpr, operand, onOperand, after}
-use Rattle.expression.specs.Addresses.{resolveAddress}
-use Rattle.expression.specs.Expressions.{exprValue, skipExpr, resolveExpr}
-use Rattle.semantics.specs.declared.walk.Walk.{Walk}
-use Rattle.semantics.specs.declared.walk.Step.{Step}
-use Rattle.semantics.specs.Walks.{stepped, stepPushed, stepRead, stop, pushedThen, readThen}
+use Rattle.meaning.specs.Reading.{readValue, readOperand}
+use Rattle.expression.specs.Answers.{resolved, onExpr, after}
+use Rattle.expression.specs.Expressions.{exprValue, resolveExpr}
+use Rattle.walking.specs.declared.walk.Walk.{Walk}
+use Rattle.walking.specs.declared.walk.Step.{Step}
+use Rattle.walking.specs.Walks.{stepped, stepPushed, stepRead, stop, pushedThen, readThen}
 use Rattle.semantics.specs.Simple.{unimplemented, exported, exportValue, exportRead, exportOf, exportStatement, localStatement, assign, localAssignment, findSubtable, buildSubtable, buildTable, buildSymbol, build}
-use Rattle.semantics.specs.Stores.{storeStated, store, registerStated, storeRegister, storeAt, storeIn, storePointer, storeStatement}
 
 pub unimplemented-law : (s t a m : List ℕ) (e : Env) (pos : ℕ) (w : Walk) (next : ℕ) (o x y : Value) (r : Pushed) (a1 m1 : List ℕ) (z : Step) →
     o ≡ noOutput → x ≡ absent → y ≡ absent → pushed r a1 m1 ≡ pushOp s t a m e 65 0 0 o x y (w .st) → next ≡ after pos 1 → z ≡ pushedThen next w r →
@@ -158,73 +154,4 @@ module _ (s t a : List ℕ) (pos : ℕ) (w : Walk) (name g : ℕ) (en : (name �
   unfolding build buildSymbol if_then_else_
   build-named a1 o d k = rw (← en .0, ← eg, ne-eqb g 0 o, eq-eqb ((g - 1) % 8) 3 d) k
 
--- ---- stores
-pub store-law : (s t a m : List ℕ) (e : Env) (pointer : Value) (size : ℕ) (v : Value) (next : ℕ) (st : State) (w : Walk) (x : Stated) (m1 : List ℕ) (o : Value) (r : Pushed) (a2 m2 : List ℕ) (z : Step) →
-    listed x m1 ≡ takeStated s t m v size st → o ≡ noOutput → pushed r a2 m2 ≡ pushOp s t a m1 e 59 0 2 o pointer (x .v) (x .st) → z ≡ pushedThen next w r →
-    stepped z a2 m2 ≡ store s t a m e pointer size v next st w
-unfolding store storeStated stepPushed
-store-law s t a m e pointer size v next st w x m1 o r a2 m2 z f eo g h =
-    let k : pushed r a2 m2 ≡ pushOp s t a m1 e 59 0 2 noOutput pointer (x .v) (x .st) = rw eo at g in
-    rw (← f, ← k, h)
-
-pub register-law : (s t a m : List ℕ) (pointer : Value) (size : ℕ) (v : Value) (next : ℕ) (st : State) (w : Walk) (x : Stated) (m1 : List ℕ) (o : Value) (r : Pushed) (a2 : List ℕ) (z : Step) →
-    listed x m1 ≡ setStated s t m v size st → o ≡ absent → listed r a2 ≡ push a 3 0 size 2 o pointer (x .v) (x .st) → z ≡ pushedThen next w r →
-    stepped z a2 m1 ≡ storeRegister s t a m pointer size v next st w
-unfolding storeRegister registerStated thenL
-register-law s t a m pointer size v next st w x m1 o r a2 z f eo g h =
-    let k : listed r a2 ≡ push a 3 0 size 2 absent pointer (x .v) (x .st) = rw eo at g in
-    rw (← f, ← k, h)
-
-module _ (s t a m : List ℕ) (e : Env) (x : ExprValue) (v : Value) (next : ℕ) (st : State) (w : Walk) (z : Step) (a1 m1 : List ℕ) (pointer : Value) (size : ℕ) where
-  pub at-ram : x ≡ ExprValue.RamRef pointer size → stepped z a1 m1 ≡ store s t a m e pointer size v next st w → stepped z a1 m1 ≡ storeAt s t a m e x v next st w
-  unfolding storeAt
-  at-ram q h = rw q h
-
-  pub at-register : x ≡ ExprValue.RegisterRef pointer size → stepped z a1 m1 ≡ storeRegister s t a m pointer size v next st w → stepped z a1 m1 ≡ storeAt s t a m e x v next st w
-  unfolding storeAt
-  at-register q h = rw q h
-
-pub at-other : (s t a m : List ℕ) (e : Env) (x : ExprValue) (v : Value) (next : ℕ) (st : State) (w : Walk) (z : Step) → OneOf (0 ∷ 1 ∷ 2 ∷ 3 ∷ 6 ∷ 7 ∷ []) (tagOf exprValue.the-type x) → z ≡ stop 28 w →
-    stepped z a m ≡ storeAt s t a m e x v next st w
-unfolding storeAt
-at-other s t a m e (ExprValue.RamRef y size) v next st w z o h = absurd (miss (0 ∷ 1 ∷ 2 ∷ 3 ∷ 6 ∷ 7 ∷ []) 4 tt o)
-at-other s t a m e (ExprValue.RegisterRef y size) v next st w z o h = absurd (miss (0 ∷ 1 ∷ 2 ∷ 3 ∷ 6 ∷ 7 ∷ []) 5 tt o)
-at-other s t a m e (ExprValue.Local y) v next st w z o h = rw h
-at-other s t a m e (ExprValue.Unbound y) v next st w z o h = rw h
-at-other s t a m e (ExprValue.Const n k) v next st w z o h = rw h
-at-other s t a m e (ExprValue.Apply op n c x y) v next st w z o h = rw h
-at-other s t a m e (ExprValue.AddressOf y k) v next st w z o h = rw h
-at-other s t a m e (ExprValue.BitRange y b c) v next st w z o h = rw h
-
-module _ (s t a m : List ℕ) (e : Env) (pos : ℕ) (x : ExprValue) (v : Value) (end : ℕ) (st : State) (w : Walk) (space size : ℕ) (en : (space ≡ le16 s (pos + 1)) × (space < 65536)) (es : (size ≡ le16 s (pos + 3)) × (size < 65536))
-    (r : Expr) (a1 m1 : List ℕ) (f : resolved r a1 m1 ≡ resolveAddress s t a m e space size x end st) where
-  pub in-no : (n : ℕ) (z : Step) → r ≡ Expr.No n → z ≡ stop n w → stepped z a1 m1 ≡ storeIn s t a m e pos x v end st w
-  unfolding storeIn onExpr
-  in-no n z q h = rw (← en .0, ← es .0, ← f, q, h)
-
-  pub in-yes : (to : ExprValue) (next : ℕ) (st1 : State) (z : Step) (a2 m2 : List ℕ) → r ≡ Expr.Value to next st1 → stepped z a2 m2 ≡ storeAt s t a1 m1 e to v next st1 w → stepped z a2 m2 ≡ storeIn s t a m e pos x v end st w
-  unfolding storeIn onExpr
-  in-yes to next st1 z a2 m2 q h = rw (← en .0, ← es .0, ← f, q) h
-
-module _ (s t p a m : List ℕ) (e : Env) (pos : ℕ) (v : Value) (end : ℕ) (st : State) (w : Walk) (at : ℕ) (ea : at ≡ after pos 5) (r : Expr) (a1 m1 : List ℕ) (f : resolved r a1 m1 ≡ resolveExpr 32 s t p e at a m st) where
-  pub pointer-no : (n : ℕ) (z : Step) → r ≡ Expr.No n → z ≡ stop n w → stepped z a1 m1 ≡ storePointer s t p a m e pos v end st w
-  unfolding storePointer onExpr
-  pointer-no n z q h = rw (← ea, ← f, q, h)
-
-  pub pointer-yes : (x : ExprValue) (next : ℕ) (st1 : State) (z : Step) (a2 m2 : List ℕ) → r ≡ Expr.Value x next st1 → stepped z a2 m2 ≡ storeIn s t a1 m1 e pos x v end st1 w → stepped z a2 m2 ≡ storePointer s t p a m e pos v end st w
-  unfolding storePointer onExpr
-  pointer-yes x next st1 z a2 m2 q h = rw (← ea, ← f, q) h
-
-module _ (s t p a m : List ℕ) (e : Env) (pos : ℕ) (w : Walk) (at value : ℕ) (ea : at ≡ after pos 5) (ev : value ≡ skipExpr s at) (r : Operand) (a1 m1 : List ℕ)
-    (f : operand r a1 m1 ≡ exprValue (resolveExpr 32 s t p e) s t e value a m (w .st)) where
-  pub store-no : (n : ℕ) (z : Step) → r ≡ Operand.No n → z ≡ stop n w → stepped z a1 m1 ≡ storeStatement s t p a m e pos w
-  unfolding storeStatement onOperand
-  store-no n z q h = rw (← ea, ← ev, ← f, q, h)
-
-  pub store-yes : (v : Value) (next : ℕ) (st : State) (z : Step) (a2 m2 : List ℕ) → r ≡ Operand.Value v next st → stepped z a2 m2 ≡ storePointer s t p a1 m1 e pos v next st w → stepped z a2 m2 ≡ storeStatement s t p a m e pos w
-  unfolding storeStatement onOperand
-  store-yes v next st z a2 m2 q h = rw (← ea, ← ev, ← f, q) h
-
 pub ruleset simple-laws = (unimplemented-law, export-value-no, export-value-yes, export-ram, export-register, export-other, export-no, export-yes, local-law, assign-no, assign-yes, assignment-no, assignment-yes, table-built, table-absent, build-undefined, build-wrong, build-named)
-
-pub ruleset store-laws = (store-law, register-law, at-ram, at-register, at-other, in-no, in-yes, pointer-no, pointer-yes, store-no, store-yes)

@@ -4,12 +4,12 @@ use mathlib.Core.List.{List}
 use lib.ListN.{getD, set, replicate}
 use lib.Dec.{eqb}
 use Rattle.cells.specs.Le.{le16}
-use Rattle.pcode.specs.declared.push.State.{State}
-use Rattle.pcode.specs.declared.push.Env.{Env}
-use Rattle.pcode.specs.declared.push.Pushed.{Pushed}
+use Rattle.pushing.specs.declared.push.State.{State}
+use Rattle.pushing.specs.declared.push.Env.{Env}
+use Rattle.pushing.specs.declared.push.Pushed.{Pushed}
 use Rattle.pcode.specs.Base.{if_then_else_, run, Listed, listed, thenL}
 use Rattle.pcode.specs.Values.{absent, noOutput, valueAt, putValue}
-use Rattle.pcode.specs.Pushes.{onRead, onPush, push}
+use Rattle.pushing.specs.Pushes.{onRead, onPush, push}
 use Rattle.meaning.specs.declared.scope.Slot.{Slot}
 use Rattle.meaning.specs.declared.args.Args.{Args}
 use Rattle.meaning.specs.Slots.{putSlot, slotAt, paramPlace, argAt}
@@ -18,10 +18,10 @@ use Rattle.meaning.specs.Reading.{readOperand}
 use Rattle.expression.specs.Answers.{ArgsOut, passed, onArgs, after}
 use Rattle.expression.specs.Calls.{onlyInteger}
 use Rattle.expression.specs.Expressions.{resolveArgs, resolveExpr}
-use Rattle.semantics.specs.declared.walk.Walk.{Walk}
-use Rattle.semantics.specs.declared.walk.Step.{Step}
+use Rattle.walking.specs.declared.walk.Walk.{Walk}
+use Rattle.walking.specs.declared.walk.Step.{Step}
 use Rattle.semantics.specs.declared.calls.Called.{Called}
-use Rattle.semantics.specs.Walks.{Stepped, stepped, stop, pushedThen}
+use Rattle.walking.specs.Walks.{Stepped, stepped, stop, pushedThen}
 
 abbrev pub called : ℕ → ℕ → Called
 called kind number = record { kind = kind; number = number }

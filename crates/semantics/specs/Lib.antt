@@ -1,8 +1,3 @@
 -- The words: for each function of the code, what it computes on the very lists and positions that it has.
-pub mod Walks
-pub mod Labels
-pub mod Branches
 pub mod Simple
-pub mod Stores
-pub mod Copies
 pub mod Calls

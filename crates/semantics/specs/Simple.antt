@@ -5,21 +5,21 @@ use mathlib.Core.List.{List}
 use lib.Dec.{eqb, ltb}
 use Rattle.cells.specs.Le.{le16}
 use Rattle.pcode.specs.declared.value.Value.{Value}
-use Rattle.pcode.specs.declared.push.State.{State}
-use Rattle.pcode.specs.declared.push.Env.{Env}
-use Rattle.pcode.specs.declared.push.Read.{Read}
+use Rattle.pushing.specs.declared.push.State.{State}
+use Rattle.pushing.specs.declared.push.Env.{Env}
+use Rattle.pushing.specs.declared.push.Read.{Read}
 use Rattle.pcode.specs.Base.{if_then_else_, Listed, listed, thenL}
 use Rattle.pcode.specs.Values.{absent, noOutput}
 use Rattle.pcode.specs.Sizes.{entry}
-use Rattle.pcode.specs.Pushes.{onTmp, push, pushOp}
+use Rattle.pushing.specs.Pushes.{onTmp, push, pushOp}
 use Rattle.meaning.specs.declared.scope.ExprValue.{ExprValue}
 use Rattle.meaning.specs.Scopes.{global, namedTmp}
 use Rattle.meaning.specs.Reading.{readValue, readOperand}
 use Rattle.expression.specs.Answers.{onExpr, after}
 use Rattle.expression.specs.Expressions.{resolveExpr}
-use Rattle.semantics.specs.declared.walk.Walk.{Walk}
-use Rattle.semantics.specs.declared.walk.Step.{Step}
-use Rattle.semantics.specs.Walks.{Stepped, stepped, stepPushed, stepRead, stop, pushedThen, readThen}
+use Rattle.walking.specs.declared.walk.Walk.{Walk}
+use Rattle.walking.specs.declared.walk.Step.{Step}
+use Rattle.walking.specs.Walks.{Stepped, stepped, stepPushed, stepRead, stop, pushedThen, readThen}
 
 unfoldable pub unimplemented : List ℕ → List ℕ → List ℕ → List ℕ → Env → ℕ → Walk → Stepped
 unimplemented s t a m e pos w =

@@ -1,8 +1,4 @@
 // Calls that enter no macro: the delay slot and user ops; and what a macro call is given.
-use crate::walk::Step;
-use crate::walk::Walk;
-use crate::walk::pushed_then;
-use crate::walk::stop;
 use expression::calls::only_integer;
 use expression::expr::after;
 use expression::expr::resolve_args;
@@ -15,20 +11,24 @@ use meaning::scope::param_place;
 use meaning::scope::put_slot;
 use meaning::scope::slot_at;
 use meaning::scope::u16_in;
-use pcode::push::Env;
-use pcode::push::Pushed;
-use pcode::push::Read;
-use pcode::push::State;
-use pcode::push::push;
 use pcode::value::absent;
 use pcode::value::no_output;
 use pcode::value::put;
 use pcode::value::put_value;
 use pcode::value::value_at;
+use pushing::push::Env;
+use pushing::push::Pushed;
+use pushing::push::Read;
+use pushing::push::State;
+use pushing::push::push;
+use walking::walk::Step;
+use walking::walk::Walk;
+use walking::walk::pushed_then;
+use walking::walk::stop;
 ghost use mathlib.Core.Path.{_≡_};
 ghost use Rattle.pcode.specs.Base.{listed};
 ghost use Rattle.expression.specs.Answers.{passed};
-ghost use Rattle.semantics.specs.Walks.{stepped};
+ghost use Rattle.walking.specs.Walks.{stepped};
 ghost use Rattle.semantics.specs.Calls.{symbolOf, calledOf, delaySlot, argsRead, readArgs, writeInputs, pushUserOp, userOpArgs, userOpStatement, otherCall, bindParam, bindParams, macroAt, counted, macroArgs};
 
 // What a call statement calls: 0 the delay slot, 1 a user op, 2 a macro, 3 a refusal.

@@ -1,8 +1,3 @@
-// The kinds of statements: labels and branches, stores and copies, calls, and the state of the walk over them.
-pub mod branches;
+// The kinds of statements that are neither jumps nor stores nor copies: declarations, exports, builds, calls.
 pub mod calls;
-pub mod copies;
-mod labels;
 pub mod simple;
-pub mod stores;
-pub mod walk;

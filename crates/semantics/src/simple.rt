@@ -1,10 +1,4 @@
 // Statements of one step: unimplemented, the export, locals, and builds.
-use crate::walk::Export;
-use crate::walk::Step;
-use crate::walk::Walk;
-use crate::walk::pushed_then;
-use crate::walk::read_then;
-use crate::walk::stop;
 use expression::expr::Expr;
 use expression::expr::after;
 use expression::expr::resolve_expr;
@@ -14,18 +8,24 @@ use meaning::scope::ExprValue;
 use meaning::scope::global;
 use meaning::scope::named_tmp;
 use meaning::scope::u16_in;
-use pcode::push::Env;
-use pcode::push::Read;
-use pcode::push::State;
-use pcode::push::push;
-use pcode::push::push_op;
 use pcode::sizes::entry;
 use pcode::value::Value;
 use pcode::value::absent;
 use pcode::value::no_output;
+use pushing::push::Env;
+use pushing::push::Read;
+use pushing::push::State;
+use pushing::push::push;
+use pushing::push::push_op;
+use walking::walk::Export;
+use walking::walk::Step;
+use walking::walk::Walk;
+use walking::walk::pushed_then;
+use walking::walk::read_then;
+use walking::walk::stop;
 ghost use mathlib.Core.Path.{_≡_};
 ghost use Rattle.pcode.specs.Base.{listed};
-ghost use Rattle.semantics.specs.Walks.{stepped};
+ghost use Rattle.walking.specs.Walks.{stepped};
 ghost use Rattle.semantics.specs.Simple.{unimplemented, exported, exportValue, exportOf, exportStatement, localStatement, assign, localAssignment, findSubtable, buildTable, build};
 
 pub fn unimplemented(

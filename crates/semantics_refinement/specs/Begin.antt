@@ -14,7 +14,7 @@ use Rattle.definition.specs.Statements as d
 use Rattle.definition.specs.ActionList.{orNone}
 use Rattle.pcode.specs.Base.{if_then_else_}
 use Rattle.refinement.specs.Encoding.{encS}
-use Rattle.semantics.specs.declared.walk.Step.{Step}
+use Rattle.walking.specs.declared.walk.Step.{Step}
 use Rattle.bodies.specs.Statements.{begun, begin}
 use Rattle.semantics_refinement.specs.Views.{Beside, exportNumber, ExportIs}
 use Rattle.semantics_refinement.specs.Given.{walkOf}

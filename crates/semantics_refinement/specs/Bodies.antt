@@ -23,15 +23,15 @@ use Rattle.guarantee.specs.Limits.{StatementWithin, WithinLimits}
 use Rattle.guarantee.specs.Kept.{Kept, ExprFits, Ends, keep-untouched}
 use Rattle.guarantee.specs.KeptLabels.{no-label, keep-macro}
 use Rattle.guarantee.specs.KeptStatements.{keep-body}
-use Rattle.pcode.specs.declared.push.Env.{Env as WordEnv}
-use Rattle.pcode.specs.declared.push.State.{State as WordState}
+use Rattle.pushing.specs.declared.push.Env.{Env as WordEnv}
+use Rattle.pushing.specs.declared.push.State.{State as WordState}
 use Rattle.section_refinement.specs.Holds.{Holds}
 use Rattle.section_refinement.specs.Inversion.{statement-at, MacroParts}
 use Rattle.refinement.specs.Encoding.{Each}
 use Rattle.expression.specs.Answers.{after}
-use Rattle.semantics.specs.declared.walk.Walk.{Walk}
-use Rattle.semantics.specs.declared.walk.Step.{Step}
-use Rattle.semantics.specs.Walks.{Walked, onStep}
+use Rattle.walking.specs.declared.walk.Walk.{Walk}
+use Rattle.walking.specs.declared.walk.Step.{Step}
+use Rattle.walking.specs.Walks.{Walked, onStep}
 use Rattle.semantics.specs.Calls.{bindParams}
 use Rattle.bodies.specs.Statements.{statementBy, statementBegun, resolveStatement, resolveAll, macroEnv, paramsAt, bodyAt, returned, returnedTo, macroBody, enterMacro, resolveBody}
 use Rattle.expression_refinement.specs.Encodings.{SoundX, count}

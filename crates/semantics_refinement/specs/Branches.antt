@@ -24,21 +24,21 @@ use Rattle.definition.specs.Scope.{Meaning, means, wrong, innerMeaning, meaning
 use Rattle.definition.specs.Expressions as expressions
 use Rattle.definition.specs.Statements as d
 use Rattle.definition.specs.ActionList.{orNone, placesLabel, labelsPlaced}
-use Rattle.pcode.specs.declared.push.State.{State as WordState}
-use Rattle.pcode.specs.declared.push.Env.{Env as WordEnv}
+use Rattle.pushing.specs.declared.push.State.{State as WordState}
+use Rattle.pushing.specs.declared.push.Env.{Env as WordEnv}
 use Rattle.pcode.specs.Base.{if_then_else_}
 use Rattle.pcode.specs.Values.{absent, noOutput}
-use Rattle.pcode.specs.Pushes.{PushedOut, pushOp}
+use Rattle.pushing.specs.Pushes.{PushedOut, pushOp}
 use Rattle.section_refinement.specs.Inversion.{Begun, jump-begun, jump-name-at, jump-integer-at, hints, direct-at, indirect-at, branch-label-at, branch-dst-begun, branch-at, cond-branch-at, label-at}
 use Rattle.refinement.specs.Encoding.{encV, Sound, SoundAction}
 use Rattle.refinement.specs.Lists.{firstOf, secondOf, outputOf}
 use Rattle.refinement.specs.RuleKinds.{kindOf}
 use Rattle.refinement.specs.Seen.{seenPushed, outcome}
 use Rattle.refinement.specs.Pushes.{Stands, push-op-is, push-op-done}
-use Rattle.semantics.specs.declared.walk.Walk.{Walk}
-use Rattle.semantics.specs.Walks.{stepPushed, Walked, walked, besideP, stop, pushedThen}
-use Rattle.semantics.specs.Labels.{getOrInsertLabel, onLabel, resolveLabel, labelsAfter}
-use Rattle.semantics.specs.Branches.{pushLabel, labelStatement, branchLabel, labelBranch, jumpValue, afterJump, jumpTo, jumpMeant, jump, resolveBranch, branch, condBranch}
+use Rattle.walking.specs.declared.walk.Walk.{Walk}
+use Rattle.walking.specs.Walks.{stepPushed, Walked, walked, besideP, stop, pushedThen}
+use Rattle.jumps.specs.Labels.{getOrInsertLabel, onLabel, resolveLabel, labelsAfter}
+use Rattle.jumps.specs.Branches.{pushLabel, labelStatement, branchLabel, labelBranch, jumpValue, afterJump, jumpTo, jumpMeant, jump, resolveBranch, branch, condBranch}
 use Rattle.expression.specs.Answers.{after}
 use Rattle.expression.specs.Expressions.{exprValue, resolveExpr}
 use Rattle.expression_refinement.specs.Encodings.{encX, SoundX, opAction, each-last, placed-last, count, stood-more}

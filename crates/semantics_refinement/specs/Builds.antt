@@ -19,15 +19,15 @@ use Rattle.definition.specs.Walk as walks
 use Rattle.definition.specs.Scope.{find, SymbolKind, symbolNumber, Symbol, isSymbol, globals, lookup, lookupKind}
 use Rattle.definition.specs.Statements as d
 use Rattle.definition.specs.ActionList.{orNone, actionKindNumber, operationWord}
-use Rattle.pcode.specs.declared.push.Env.{Env as WordEnv}
+use Rattle.pushing.specs.declared.push.Env.{Env as WordEnv}
 use Rattle.pcode.specs.Base.{if_then_else_, Listed, listed, thenL}
 use Rattle.pcode.specs.Sizes.{entry}
 use Rattle.section_refinement.specs.Holds.{subtableAt, symbolWord}
 use Rattle.refinement.specs.Lists.{firstOf, secondOf, outputOf}
 use Rattle.expression.specs.Answers.{after}
-use Rattle.semantics.specs.declared.walk.Walk.{Walk}
-use Rattle.semantics.specs.declared.walk.Step.{Step}
-use Rattle.semantics.specs.Walks.{stepped, stop}
+use Rattle.walking.specs.declared.walk.Walk.{Walk}
+use Rattle.walking.specs.declared.walk.Step.{Step}
+use Rattle.walking.specs.Walks.{stepped, stop}
 use Rattle.semantics.specs.Simple.{findSubtable, buildSubtable, buildTable, buildSymbol, build}
 use Rattle.expression_refinement.specs.Encodings.{Stood, stood-more}
 use Rattle.expression_refinement.specs.Answers.{acts, temps, word}

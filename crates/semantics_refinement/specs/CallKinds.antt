@@ -21,9 +21,9 @@ use Rattle.definition.specs.Scope.{find, SymbolKind, symbolNumber, Symbol, isSy
 use Rattle.definition.specs.Expressions as expressions
 use Rattle.definition.specs.Statements as d
 use Rattle.definition.specs.ActionList.{orNone, actionKindNumber, operationWord}
-use Rattle.pcode.specs.declared.push.Env.{Env as WordEnv}
+use Rattle.pushing.specs.declared.push.Env.{Env as WordEnv}
 use Rattle.pcode.specs.Base.{if_then_else_, Listed, listed, thenL}
-use Rattle.pcode.specs.Pushes.{push}
+use Rattle.pushing.specs.Pushes.{push}
 use Rattle.pcode.specs.Values.{absent}
 use Rattle.section_refinement.specs.Holds.{symbolWord}
 use Rattle.section_refinement.specs.Inversion.{CallStatementAt, call-statement-at}
@@ -31,9 +31,9 @@ use Rattle.refinement.specs.Seen.{seenPush}
 use Rattle.refinement.specs.Lists.{firstOf, secondOf, outputOf}
 use Rattle.expression.specs.Answers.{after}
 use Rattle.expression.specs.Calls.{onlyInteger}
-use Rattle.semantics.specs.declared.walk.Walk.{Walk}
-use Rattle.semantics.specs.declared.walk.Step.{Step}
-use Rattle.semantics.specs.Walks.{Stepped, stepped, besideP, stop, pushedThen}
+use Rattle.walking.specs.declared.walk.Walk.{Walk}
+use Rattle.walking.specs.declared.walk.Step.{Step}
+use Rattle.walking.specs.Walks.{Stepped, stepped, besideP, stop, pushedThen}
 use Rattle.semantics.specs.Calls.{called, symbolOf, calledOf, delaySlot, userOpStatement, otherCall}
 use Rattle.bodies.specs.Statements.{Enter, callNamed, callStatement}
 use Rattle.expression_refinement.specs.Encodings.{stood-more}

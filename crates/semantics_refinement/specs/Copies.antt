@@ -19,20 +19,20 @@ use Rattle.definition.specs.Walk.{ExprValue, State, Env, Outcome, done, stopped
 use Rattle.definition.specs.Expressions as expressions
 use Rattle.definition.specs.Statements as d
 use Rattle.definition.specs.ActionList.{orNone}
-use Rattle.pcode.specs.declared.push.State.{State as WordState}
-use Rattle.pcode.specs.declared.push.Env.{Env as WordEnv}
-use Rattle.pcode.specs.declared.push.Read.{Read}
+use Rattle.pushing.specs.declared.push.State.{State as WordState}
+use Rattle.pushing.specs.declared.push.Env.{Env as WordEnv}
+use Rattle.pushing.specs.declared.push.Read.{Read}
 use Rattle.pcode.specs.Base.{if_then_else_}
-use Rattle.pcode.specs.Pushes.{ReadOut, read}
+use Rattle.pushing.specs.Pushes.{ReadOut, read}
 use Rattle.refinement.specs.Encoding.{encV, Sound}
 use Rattle.refinement.specs.Settled.{size-is, known-small}
 use Rattle.refinement.specs.Lists.{firstOf, secondOf}
 use Rattle.refinement.specs.RuleKinds.{kindOf}
 use Rattle.refinement.specs.Seen.{Seen, no, yes, seenRead}
 use Rattle.meaning.specs.Reading.{byteAligned, sliced, readValue}
-use Rattle.semantics.specs.declared.walk.Walk.{Walk}
-use Rattle.semantics.specs.Walks.{Stepped, stepped, stepRead, stop, readThen}
-use Rattle.semantics.specs.Copies.{mergeBits, extendBits, insertIn, insertBits, keepBits, writeBits, copyBits, readSliced, copyBytes, copyRange, copyRam, copyInto}
+use Rattle.walking.specs.declared.walk.Walk.{Walk}
+use Rattle.walking.specs.Walks.{Stepped, stepped, stepRead, stop, readThen}
+use Rattle.assignments.specs.Copies.{mergeBits, extendBits, insertIn, insertBits, keepBits, writeBits, copyBits, readSliced, copyBytes, copyRange, copyRam, copyInto}
 use Rattle.expression_refinement.specs.Encodings.{encX, SoundX, Applies, sound-more, tmps, count, Stood, stood-more}
 use Rattle.expression_refinement.specs.Answers.{acts, temps, word, Refines, refines-map, refines-stopped, bind-read, bind-tmp, bind-unless}
 use Rattle.expression_refinement.specs.Below.{Spare}

@@ -15,9 +15,9 @@ use Rattle.guarantee.specs.Limits.{StatementWithin, WithinLimits}
 use Rattle.guarantee.specs.Kept.{Kept, ExprFits, Ends, Keeps, count, keep-refuse}
 use Rattle.guarantee.specs.KeptLabels.{keep-macro}
 use Rattle.guarantee.specs.KeptStatements.{Nothing, keep-statement, keep-body}
-use Rattle.pcode.specs.declared.push.Env.{Env as WordEnv}
-use Rattle.semantics.specs.declared.walk.Step.{Step}
-use Rattle.semantics.specs.Walks.{Walked, walked}
+use Rattle.pushing.specs.declared.push.Env.{Env as WordEnv}
+use Rattle.walking.specs.declared.walk.Step.{Step}
+use Rattle.walking.specs.Walks.{Walked, walked}
 use Rattle.semantics_refinement.specs.Views.{Beside}
 use Rattle.semantics_refinement.specs.Standing.{Steps, Follows}
 use Rattle.semantics_refinement.specs.Bodies.{levelOf, enterOf, Begun}

@@ -9,7 +9,7 @@ use lib.Dec.{ltb}
 use borrow.Author.Tests.{ltb-true, ltb-false}
 use Rattle.definition.specs.Walk.{State, Env}
 use Rattle.definition.specs.Statements as d
-use Rattle.pcode.specs.declared.push.Env.{Env as WordEnv}
+use Rattle.pushing.specs.declared.push.Env.{Env as WordEnv}
 use Rattle.semantics_refinement.specs.Views.{Beside}
 use Rattle.semantics_refinement.specs.Begin.{oneMore, started}
 use Rattle.semantics_refinement.specs.Standing.{labelScope, Standing, Framed}

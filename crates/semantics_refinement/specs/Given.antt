@@ -11,13 +11,13 @@ use Rattle.definition.specs.SectionFile.{parsed, exprWithin}
 use Rattle.definition.specs.Sizes.{pointerSize}
 use Rattle.definition.specs.Walk.{ExprValue, State, Env}
 use Rattle.definition.specs.Expressions as d
-use Rattle.pcode.specs.declared.push.State.{State as WordState}
-use Rattle.pcode.specs.declared.push.Env.{Env as WordEnv}
+use Rattle.pushing.specs.declared.push.State.{State as WordState}
+use Rattle.pushing.specs.declared.push.Env.{Env as WordEnv}
 use Rattle.section_refinement.specs.Holds.{Holds}
 use Rattle.refinement.specs.Encoding.{encV, Sound, SizesHold}
 use Rattle.refinement.specs.Pushes.{Lent}
 use Rattle.expression.specs.Expressions.{exprValue, resolveExpr}
-use Rattle.semantics.specs.declared.walk.Walk.{Walk}
+use Rattle.walking.specs.declared.walk.Walk.{Walk}
 use Rattle.expression_refinement.specs.Encodings.{encX, SoundX, Stood}
 use Rattle.expression_refinement.specs.Answers.{acts, temps, word, seenExpr, seenOperand, Refines}
 use Rattle.expression_refinement.specs.Below.{Spare, Below}

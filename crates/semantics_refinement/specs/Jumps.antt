@@ -18,16 +18,16 @@ use Rattle.definition.specs.Walk.{ExprValue, State, Env, Outcome, stopped, on, 
 use Rattle.definition.specs.Expressions as expressions
 use Rattle.definition.specs.Statements as d
 use Rattle.definition.specs.ActionList.{orNone}
-use Rattle.pcode.specs.declared.push.State.{State as WordState}
-use Rattle.pcode.specs.declared.push.Env.{Env as WordEnv}
+use Rattle.pushing.specs.declared.push.State.{State as WordState}
+use Rattle.pushing.specs.declared.push.Env.{Env as WordEnv}
 use Rattle.pcode.specs.Base.{if_then_else_}
 use Rattle.refinement.specs.Encoding.{encV, Within, Sound}
 use Rattle.refinement.specs.Lists.{firstOf, secondOf}
 use Rattle.refinement.specs.RuleKinds.{kindOf}
 use Rattle.expression.specs.Answers.{after}
-use Rattle.semantics.specs.declared.walk.Walk.{Walk}
-use Rattle.semantics.specs.Walks.{Stepped, stepped, stop}
-use Rattle.semantics.specs.Branches.{branchTo, directAddress, direct, indirect}
+use Rattle.walking.specs.declared.walk.Walk.{Walk}
+use Rattle.walking.specs.Walks.{Stepped, stepped, stop}
+use Rattle.jumps.specs.Branches.{branchTo, directAddress, direct, indirect}
 use Rattle.expression_refinement.specs.Encodings.{encX, SoundX, sound-more, count, Stood, stood-more}
 use Rattle.expression_refinement.specs.Answers.{acts, temps, word, bind-read}
 use Rattle.expression_refinement.specs.Below.{Spare}

@@ -12,7 +12,7 @@ use Rattle.definition.specs.SectionFile.{parsed, statement}
 use Rattle.definition.specs.Walk as walks
 use Rattle.definition.specs.Walk.{ExprValue, State, Env}
 use Rattle.definition.specs.Statements as d
-use Rattle.pcode.specs.declared.push.Env.{Env as WordEnv}
+use Rattle.pushing.specs.declared.push.Env.{Env as WordEnv}
 use Rattle.pcode.specs.Base.{if_then_else_}
 use Rattle.section_refinement.specs.Inversion.{statement-begun}
 use Rattle.bodies.specs.Statements.{otherStatement}

@@ -15,10 +15,10 @@ use Rattle.definition.specs.Refusals.{Refusal, refusalNumber, tooManyLabels, la
 use Rattle.definition.specs.Walk.{Label, State, Env, Outcome, done, stopped, on, require, withScope, withLabel}
 use Rattle.definition.specs.Scope as scope
 use Rattle.definition.specs.Scope.{find, withEntry}
-use Rattle.pcode.specs.declared.push.Env.{Env as WordEnv}
+use Rattle.pushing.specs.declared.push.Env.{Env as WordEnv}
 use Rattle.pcode.specs.Base.{if_then_else_, Listed, listed}
-use Rattle.semantics.specs.declared.labels.Label.{Label as WordLabel}
-use Rattle.semantics.specs.Labels.{labelKey, getOrInsertLabel, onLabel, placeLabel, resolveLabel, labelsAfter}
+use Rattle.jumps.specs.declared.labels.Label.{Label as WordLabel}
+use Rattle.jumps.specs.Labels.{labelKey, getOrInsertLabel, onLabel, placeLabel, resolveLabel, labelsAfter}
 use Rattle.semantics_refinement.specs.Views.{Beside}
 use Rattle.semantics_refinement.specs.Labels.{LabelsIn, label-found, labels-full, label-new, label-inserted, keys, key-at, label-placed, label-once, label-twice}
 use Rattle.semantics_refinement.specs.Searches.{params-same}

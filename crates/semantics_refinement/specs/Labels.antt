@@ -15,8 +15,8 @@ use Rattle.definition.specs.Base.{_or_, first, base-opens}
 use Rattle.definition.specs.Walk.{Label}
 use Rattle.definition.specs.Scope.{find}
 use Rattle.pcode.specs.Base.{if_then_else_, listed}
-use Rattle.semantics.specs.declared.labels.Label.{Label as WordLabel}
-use Rattle.semantics.specs.Labels.{findLabel, labelKey, labelOr, getOrInsertLabel, placeLabel}
+use Rattle.jumps.specs.declared.labels.Label.{Label as WordLabel}
+use Rattle.jumps.specs.Labels.{findLabel, labelKey, labelOr, getOrInsertLabel, placeLabel}
 use Rattle.expression_refinement.specs.Scopes.{eqb-swap}
 
 unfoldable pub idOr : ℕ → Option Label → ℕ

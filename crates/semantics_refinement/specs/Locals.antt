@@ -19,10 +19,10 @@ use Rattle.definition.specs.Walk.{State, Scope, Env, Outcome, done, stopped, on
 use Rattle.definition.specs.Scope as d
 use Rattle.definition.specs.Scope.{find}
 use Rattle.definition.specs.ActionList.{orNone}
-use Rattle.pcode.specs.declared.push.Env.{Env as WordEnv}
-use Rattle.pcode.specs.declared.push.Read.{Read}
+use Rattle.pushing.specs.declared.push.Env.{Env as WordEnv}
+use Rattle.pushing.specs.declared.push.Read.{Read}
 use Rattle.pcode.specs.Base.{if_then_else_, Listed, listed}
-use Rattle.pcode.specs.Pushes.{addTmp, onTmp}
+use Rattle.pushing.specs.Pushes.{addTmp, onTmp}
 use Rattle.refinement.specs.Encoding.{encV, markedWord, temporaryWords, temporariesIn, SoundTmp, Each}
 use Rattle.refinement.specs.Marks.{marked-same, marked-other, uppers, uppers-length, uppers-at, words-again}
 use Rattle.refinement.specs.Pushes.{Stands, Made, marked, words-marked, words-length, tmps-length, marked-length, each-snoc, named-is, add-done}

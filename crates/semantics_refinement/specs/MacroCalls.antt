@@ -23,8 +23,8 @@ use Rattle.definition.specs.ActionList.{orNone}
 use Rattle.guarantee.specs.Limits.{ArgsWithin, StatementWithin, WithinLimits}
 use Rattle.guarantee.specs.Kept.{Kept, ExprFits, Ends}
 use Rattle.guarantee.specs.KeptExpressions.{keep-args}
-use Rattle.pcode.specs.declared.push.Env.{Env as WordEnv}
-use Rattle.pcode.specs.declared.push.State.{State as WordState}
+use Rattle.pushing.specs.declared.push.Env.{Env as WordEnv}
+use Rattle.pushing.specs.declared.push.State.{State as WordState}
 use Rattle.pcode.specs.Base.{if_then_else_}
 use Rattle.section_refinement.specs.Holds.{Holds, symbolWord}
 use Rattle.section_refinement.specs.Inversion.{CallStatementAt, call-statement-at}
@@ -33,9 +33,9 @@ use Rattle.refinement.specs.Seen.{outcome}
 use Rattle.meaning.specs.declared.args.Args.{Args as WordArgs}
 use Rattle.expression.specs.Answers.{ArgsOut, passed, onArgs}
 use Rattle.expression.specs.Expressions.{resolveArgs, resolveExpr}
-use Rattle.semantics.specs.declared.walk.Walk.{Walk}
+use Rattle.walking.specs.declared.walk.Walk.{Walk}
 use Rattle.semantics.specs.declared.calls.Called.{Called}
-use Rattle.semantics.specs.Walks.{Walked, walked, stop}
+use Rattle.walking.specs.Walks.{Walked, walked, stop}
 use Rattle.semantics.specs.Calls.{called, symbolOf, calledOf, macroAt, counted, macroCounted, macroArgs}
 use Rattle.bodies.specs.Statements.{enterMacro, macroStatement, callNamed, callStatement}
 use Rattle.expression_refinement.specs.Encodings.{SoundX, count}

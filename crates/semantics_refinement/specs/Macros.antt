@@ -13,7 +13,7 @@ use Rattle.definition.specs.Base.{first}
 use Rattle.definition.specs.Walk.{ExprValue, Scope, State, Env, withScope}
 use Rattle.definition.specs.Scope as scope
 use Rattle.definition.specs.Scope.{find}
-use Rattle.pcode.specs.declared.push.Env.{Env as WordEnv}
+use Rattle.pushing.specs.declared.push.Env.{Env as WordEnv}
 use Rattle.pcode.specs.Base.{run}
 use Rattle.pcode.specs.Values.{word, valueOf, valueAt}
 use Rattle.refinement.specs.Encoding.{Each}

@@ -11,16 +11,16 @@ use Rattle.definition.specs.Walk.{State, Env, Outcome, done, stopped, on}
 use Rattle.definition.specs.Scope as scope
 use Rattle.definition.specs.ActionList.{orNone, labelsPlaced}
 use Rattle.pcode.specs.declared.value.Value.{Value as WordValue}
-use Rattle.pcode.specs.declared.push.State.{State as WordState}
-use Rattle.pcode.specs.declared.push.Env.{Env as WordEnv}
-use Rattle.pcode.specs.declared.push.Read.{Read}
+use Rattle.pushing.specs.declared.push.State.{State as WordState}
+use Rattle.pushing.specs.declared.push.Env.{Env as WordEnv}
+use Rattle.pushing.specs.declared.push.Read.{Read}
 use Rattle.pcode.specs.Base.{Listed, listed, thenL}
-use Rattle.pcode.specs.Pushes.{onTmp}
+use Rattle.pushing.specs.Pushes.{onTmp}
 use Rattle.refinement.specs.Encoding.{encV, actionsIn, Sound}
 use Rattle.refinement.specs.Seen.{seenTmp, outcome}
 use Rattle.meaning.specs.Scopes.{namedTmp}
-use Rattle.semantics.specs.declared.walk.Step.{Step}
-use Rattle.semantics.specs.Walks.{stepped, Walked, walked, besideP, readThen}
+use Rattle.walking.specs.declared.walk.Step.{Step}
+use Rattle.walking.specs.Walks.{stepped, Walked, walked, besideP, readThen}
 use Rattle.expression_refinement.specs.Encodings.{Small, tmps, count}
 use Rattle.expression_refinement.specs.Answers.{acts, temps, word, Halts}
 use Rattle.semantics_refinement.specs.Views.{Beside}

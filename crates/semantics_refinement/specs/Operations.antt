@@ -14,8 +14,8 @@ use Rattle.definition.specs.Sizes.{Sizing, pointerSize}
 use Rattle.definition.specs.Walk as d
 use Rattle.definition.specs.Walk.{State, Env, withSizing, withAction}
 use Rattle.definition.specs.ActionList.{placesLabel, labelsPlaced}
-use Rattle.pcode.specs.declared.push.Env.{Env as WordEnv}
-use Rattle.pcode.specs.Pushes.{pushOp}
+use Rattle.pushing.specs.declared.push.Env.{Env as WordEnv}
+use Rattle.pushing.specs.Pushes.{pushOp}
 use Rattle.pcode.specs.Values.{noOutput}
 use Rattle.refinement.specs.Seen.{seenPushed}
 use Rattle.refinement.specs.Lists.{firstOf, secondOf, outputOf}

@@ -8,12 +8,12 @@ use Rattle.definition.specs.Value.{Value}
 use Rattle.definition.specs.Walk.{ExprValue, State, Env}
 use Rattle.definition.specs.Expressions as expressions
 use Rattle.definition.specs.Statements as d
-use Rattle.pcode.specs.declared.push.Env.{Env as WordEnv}
+use Rattle.pushing.specs.declared.push.Env.{Env as WordEnv}
 use Rattle.refinement.specs.Encoding.{encV, Sound}
 use Rattle.refinement.specs.Seen.{seenRead}
 use Rattle.meaning.specs.Reading.{readValue}
-use Rattle.semantics.specs.declared.walk.Walk.{Walk}
-use Rattle.semantics.specs.Walks.{stepRead, readThen}
+use Rattle.walking.specs.declared.walk.Walk.{Walk}
+use Rattle.walking.specs.Walks.{stepRead, readThen}
 use Rattle.expression_refinement.specs.Encodings.{encX, SoundX, count, Stood}
 use Rattle.expression_refinement.specs.Answers.{acts, temps, word}
 use Rattle.expression_refinement.specs.Below.{Spare}

@@ -18,7 +18,7 @@ use Rattle.pcode.specs.Values.{valueAt}
 use Rattle.meaning.specs.declared.scope.Found.{Found}
 use Rattle.meaning.specs.Slots.{slotAt, paramPlace}
 use Rattle.meaning.specs.Scopes.{isLocal, lookupLocal}
-use Rattle.semantics.specs.Labels.{findLabel, labelKey}
+use Rattle.jumps.specs.Labels.{findLabel, labelKey}
 use Rattle.expression_refinement.specs.Tree.{none-local}
 use Rattle.expression_refinement.specs.Scopes.{ParamsIn}
 use Rattle.semantics_refinement.specs.Labels.{idOr, LabelsIn}

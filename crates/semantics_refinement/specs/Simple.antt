@@ -17,11 +17,11 @@ use Rattle.definition.specs.Expressions as expressions
 use Rattle.definition.specs.Statements as d
 use Rattle.definition.specs.ActionList.{orNone}
 use Rattle.pcode.specs.declared.value.Value.{Value as WordValue}
-use Rattle.pcode.specs.declared.push.State.{State as WordState}
-use Rattle.pcode.specs.declared.push.Env.{Env as WordEnv}
-use Rattle.pcode.specs.declared.push.Read.{Read}
+use Rattle.pushing.specs.declared.push.State.{State as WordState}
+use Rattle.pushing.specs.declared.push.Env.{Env as WordEnv}
+use Rattle.pushing.specs.declared.push.Read.{Read}
 use Rattle.pcode.specs.Base.{if_then_else_}
-use Rattle.pcode.specs.Pushes.{ReadOut, read}
+use Rattle.pushing.specs.Pushes.{ReadOut, read}
 use Rattle.section_refinement.specs.Inversion.{ExportAt}
 use Rattle.refinement.specs.Encoding.{encV, Sound}
 use Rattle.refinement.specs.Lists.{firstOf, secondOf}
@@ -29,8 +29,8 @@ use Rattle.refinement.specs.RuleKinds.{kindOf}
 use Rattle.refinement.specs.Seen.{seenRead}
 use Rattle.expression.specs.Answers.{after}
 use Rattle.meaning.specs.Reading.{readOperand}
-use Rattle.semantics.specs.declared.walk.Walk.{Walk}
-use Rattle.semantics.specs.Walks.{Stepped, stepRead}
+use Rattle.walking.specs.declared.walk.Walk.{Walk}
+use Rattle.walking.specs.Walks.{Stepped, stepRead}
 use Rattle.semantics.specs.Simple.{unimplemented, exportValue, exportRead, exportOf, exportStatement}
 use Rattle.expression_refinement.specs.Encodings.{encX, SoundX, count, Stood, stood-more}
 use Rattle.expression_refinement.specs.Answers.{acts, temps, word, Refines, refines-done, refines-map, bind-expr}

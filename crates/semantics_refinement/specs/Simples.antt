@@ -16,18 +16,18 @@ use Rattle.definition.specs.Expressions as expressions
 use Rattle.definition.specs.Statements as d
 use Rattle.definition.specs.ActionList.{orNone}
 use Rattle.guarantee.specs.Outcomes.{positive}
-use Rattle.pcode.specs.declared.push.State.{State as WordState}
-use Rattle.pcode.specs.declared.push.Env.{Env as WordEnv}
+use Rattle.pushing.specs.declared.push.State.{State as WordState}
+use Rattle.pushing.specs.declared.push.Env.{Env as WordEnv}
 use Rattle.pcode.specs.Base.{if_then_else_, listed, thenL}
 use Rattle.section_refinement.specs.Holds.{absentAt}
 use Rattle.section_refinement.specs.Inversion.{unimplemented-at, export-at, local-at, local-assignment-at, build-at, copy-at, store-at}
 use Rattle.refinement.specs.Seen.{outcome}
 use Rattle.expression.specs.Answers.{after}
 use Rattle.meaning.specs.Scopes.{namedTmp}
-use Rattle.semantics.specs.Walks.{Stepped, stepped, besideP, readThen}
+use Rattle.walking.specs.Walks.{Stepped, stepped, besideP, readThen}
 use Rattle.semantics.specs.Simple.{unimplemented, exportStatement, localStatement, localAssignment, build}
-use Rattle.semantics.specs.Stores.{storeStatement}
-use Rattle.semantics.specs.Copies.{copyStatement}
+use Rattle.assignments.specs.Stores.{storeStatement}
+use Rattle.assignments.specs.Copies.{copyStatement}
 use Rattle.bodies.specs.Statements.{simple}
 use Rattle.expression_refinement.specs.Encodings.{count}
 use Rattle.expression_refinement.specs.Answers.{acts, temps, word, Refines}

@@ -10,11 +10,11 @@ use Rattle.definition.specs.Refusals.{Refusal, refusalNumber}
 use Rattle.definition.specs.Walk.{State, Env, Outcome, done, stopped}
 use Rattle.definition.specs.ActionList.{orNone, labelsPlaced}
 use Rattle.guarantee.specs.Kept.{Kept}
-use Rattle.pcode.specs.declared.push.Env.{Env as WordEnv}
+use Rattle.pushing.specs.declared.push.Env.{Env as WordEnv}
 use Rattle.refinement.specs.Encoding.{EachOption}
 use Rattle.meaning.specs.Scopes.{tmpLocal}
-use Rattle.semantics.specs.declared.walk.Step.{Step}
-use Rattle.semantics.specs.Walks.{Walked, walked}
+use Rattle.walking.specs.declared.walk.Step.{Step}
+use Rattle.walking.specs.Walks.{Walked, walked}
 use Rattle.expression_refinement.specs.Encodings.{count, Stood}
 use Rattle.expression_refinement.specs.Answers.{acts, temps, word}
 use Rattle.expression_refinement.specs.Scopes.{Scoped}

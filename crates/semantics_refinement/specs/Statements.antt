@@ -17,9 +17,9 @@ use Rattle.definition.specs.Walk.{State, Env}
 use Rattle.definition.specs.Statements as d
 use Rattle.definition.specs.ActionList.{placesLabel, labelsPlaced}
 use Rattle.guarantee.specs.Limits.{StatementWithin, WithinLimits}
-use Rattle.pcode.specs.declared.push.Env.{Env as WordEnv}
+use Rattle.pushing.specs.declared.push.Env.{Env as WordEnv}
 use Rattle.pcode.specs.Base.{if_then_else_}
-use Rattle.semantics.specs.Walks.{Walked}
+use Rattle.walking.specs.Walks.{Walked}
 use Rattle.semantics.specs.Calls.{calledOf}
 use Rattle.bodies.specs.Statements.{otherStatement, callStatement, statementBy, enterMacro}
 use Rattle.expression_refinement.specs.Answers.{acts, temps, word}

@@ -15,8 +15,8 @@ use Rattle.definition.specs.Walk.{ExprValue, Scope, State, Env, Outcome, done, 
 use Rattle.definition.specs.ActionList.{orNone, labelsPlaced}
 use Rattle.guarantee.specs.Outcomes.{positive}
 use Rattle.pcode.specs.declared.value.Value.{Value as WordValue}
-use Rattle.pcode.specs.declared.push.State.{State as WordState}
-use Rattle.pcode.specs.declared.push.Env.{Env as WordEnv}
+use Rattle.pushing.specs.declared.push.State.{State as WordState}
+use Rattle.pushing.specs.declared.push.Env.{Env as WordEnv}
 use Rattle.pcode.specs.Base.{if_then_else_}
 use Rattle.refinement.specs.Encoding.{encV, Sound, EachOption}
 use Rattle.refinement.specs.Seen.{Seen, no, yes, outcome}
@@ -24,8 +24,8 @@ use Rattle.meaning.specs.declared.scope.ExprValue.{ExprValue as WordExpr}
 use Rattle.expression.specs.declared.expr.Expr.{Expr}
 use Rattle.expression.specs.declared.expr.Operand.{Operand}
 use Rattle.expression.specs.Answers.{ExprOut, resolved, onExpr, OperandOut, operand, onOperand}
-use Rattle.semantics.specs.declared.walk.Step.{Step}
-use Rattle.semantics.specs.Walks.{Stepped, stepped, Walked, walked, besideP}
+use Rattle.walking.specs.declared.walk.Step.{Step}
+use Rattle.walking.specs.Walks.{Stepped, stepped, Walked, walked, besideP}
 use Rattle.expression_refinement.specs.Encodings.{encX, SoundX, count, sound-more}
 use Rattle.expression_refinement.specs.Answers.{acts, temps, word, seenExpr, seenOperand, Halts, Reached, Refines}
 use Rattle.expression_refinement.specs.Scopes.{tmp-later, scoped-later}

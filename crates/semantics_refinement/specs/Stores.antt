@@ -23,11 +23,11 @@ use Rattle.definition.specs.Expressions as expressions
 use Rattle.definition.specs.Statements as d
 use Rattle.definition.specs.ActionList.{orNone, actionKindNumber, operationWord}
 use Rattle.pcode.specs.declared.value.Value.{Value as WordValue}
-use Rattle.pcode.specs.declared.push.State.{State as WordState}
-use Rattle.pcode.specs.declared.push.Env.{Env as WordEnv}
+use Rattle.pushing.specs.declared.push.State.{State as WordState}
+use Rattle.pushing.specs.declared.push.Env.{Env as WordEnv}
 use Rattle.pcode.specs.Base.{if_then_else_, Listed, listed, thenL}
 use Rattle.pcode.specs.Values.{absent, noOutput}
-use Rattle.pcode.specs.Pushes.{push, pushOp}
+use Rattle.pushing.specs.Pushes.{push, pushOp}
 use Rattle.section.specs.declared.cursor.Cursor.{Cursor}
 use Rattle.section_refinement.specs.Holds.{absentAt}
 use Rattle.section_refinement.specs.Inversion.{StoreAt}
@@ -40,9 +40,9 @@ use Rattle.meaning.specs.declared.read.Stated.{Stated}
 use Rattle.meaning.specs.Reading.{stated, setSize, setStated, takeStated}
 use Rattle.expression.specs.Addresses.{resolveAddress}
 use Rattle.expression.specs.Expressions.{skipExpr}
-use Rattle.semantics.specs.declared.walk.Walk.{Walk}
-use Rattle.semantics.specs.Walks.{Stepped, stepped, stepPushed, stop, pushedThen}
-use Rattle.semantics.specs.Stores.{storeStated, store, registerStated, storeRegister, storeAt, storeIn, storePointer, storeStatement}
+use Rattle.walking.specs.declared.walk.Walk.{Walk}
+use Rattle.walking.specs.Walks.{Stepped, stepped, stepPushed, stop, pushedThen}
+use Rattle.assignments.specs.Stores.{storeStated, store, registerStated, storeRegister, storeAt, storeIn, storePointer, storeStatement}
 use Rattle.expression_refinement.specs.Encodings.{encX, Small, SoundX, sound-more, tmps, count, Stood, stood-more}
 use Rattle.expression_refinement.specs.Answers.{acts, temps, word, seenExpr, Refines, refines-done, bind, bind-expr, bind-operand}
 use Rattle.expression_refinement.specs.Below.{Spare, seenStated, set-size}

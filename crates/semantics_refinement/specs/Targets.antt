@@ -21,10 +21,10 @@ use Rattle.definition.specs.Scope.{Meaning, means, wrong, innerMeaning, meaning
 use Rattle.definition.specs.Expressions as expressions
 use Rattle.definition.specs.Statements as d
 use Rattle.definition.specs.ActionList.{orNone}
-use Rattle.pcode.specs.declared.push.State.{State as WordState}
-use Rattle.pcode.specs.declared.push.Env.{Env as WordEnv}
+use Rattle.pushing.specs.declared.push.State.{State as WordState}
+use Rattle.pushing.specs.declared.push.Env.{Env as WordEnv}
 use Rattle.pcode.specs.Base.{if_then_else_, Listed, listed, thenL}
-use Rattle.pcode.specs.Pushes.{onTmp}
+use Rattle.pushing.specs.Pushes.{onTmp}
 use Rattle.section_refinement.specs.Holds.{absentAt}
 use Rattle.section_refinement.specs.Inversion.{LocalAssignmentAt, CopyAt}
 use Rattle.section_refinement.specs.Inversion as at
@@ -34,9 +34,9 @@ use Rattle.expression.specs.declared.expr.Expr.{Expr}
 use Rattle.expression.specs.Answers.{resolved, onExpr}
 use Rattle.meaning.specs.Scopes.{namedTmp}
 use Rattle.expression.specs.Expressions.{resolveExpr}
-use Rattle.semantics.specs.Walks.{Stepped, stepped, besideP, stop}
+use Rattle.walking.specs.Walks.{Stepped, stepped, besideP, stop}
 use Rattle.semantics.specs.Simple.{assign, localAssignment}
-use Rattle.semantics.specs.Copies.{copyInto, targetName, targetSize, afterTarget, newTarget, isWrong, isNew, resolveDst, copyTarget, copyStatement}
+use Rattle.assignments.specs.Copies.{copyInto, targetName, targetSize, afterTarget, newTarget, isWrong, isNew, resolveDst, copyTarget, copyStatement}
 use Rattle.expression_refinement.specs.Encodings.{encX, SoundX, Small, sound-more, x-more, tmps, count}
 use Rattle.expression_refinement.specs.Answers.{acts, temps, word}
 use Rattle.expression_refinement.specs.Below.{Spare}

@@ -24,12 +24,12 @@ use Rattle.definition.specs.Expressions as expressions
 use Rattle.definition.specs.Statements as d
 use Rattle.definition.specs.ActionList.{inputWords, valueWords, actionKindNumber, operationWord, filled, actionWords, listWords, placesLabel, labelsPlaced}
 use Rattle.pcode.specs.declared.value.Value.{Value as WordValue}
-use Rattle.pcode.specs.declared.push.State.{State as WordState}
-use Rattle.pcode.specs.declared.push.Env.{Env as WordEnv}
-use Rattle.pcode.specs.declared.push.Pushed.{Pushed}
+use Rattle.pushing.specs.declared.push.State.{State as WordState}
+use Rattle.pushing.specs.declared.push.Env.{Env as WordEnv}
+use Rattle.pushing.specs.declared.push.Pushed.{Pushed}
 use Rattle.pcode.specs.Base.{if_then_else_, run, Listed, listed, thenL}
 use Rattle.pcode.specs.Values.{absent, noOutput, word, valueOf, valueAt, putValue}
-use Rattle.pcode.specs.Pushes.{onPush, withEnd, writeOperands, writeZeros, writeHead, write, push}
+use Rattle.pushing.specs.Pushes.{onPush, withEnd, writeOperands, writeZeros, writeHead, write, push}
 use Rattle.refinement.specs.Pushes.{push-test}
 use Rattle.refinement.specs.Encoding.{encV, packed, actionsIn, Sound, Each}
 use Rattle.refinement.specs.Operands.{word-is, value-back, outNumber, outWord, words-of}
@@ -37,8 +37,8 @@ use Rattle.refinement.specs.Lists.{list-focus, focus-at, fill, fill-is}
 use Rattle.refinement.specs.Seen.{Seen, no, yes, seenPush}
 use Rattle.meaning.specs.Slots.{slotAt, paramPlace, argAt, putArg}
 use Rattle.expression.specs.Expressions.{resolveArgs, resolveExpr}
-use Rattle.semantics.specs.declared.walk.Walk.{Walk}
-use Rattle.semantics.specs.Walks.{Stepped, besideP, pushedThen}
+use Rattle.walking.specs.declared.walk.Walk.{Walk}
+use Rattle.walking.specs.Walks.{Stepped, besideP, pushedThen}
 use Rattle.semantics.specs.Calls.{writeInput, writeInputs, ArgsRead, argsRead, readArgs, pushUserOp, userOpRead, userOpArgs, stepArgs, userOpStatement}
 use Rattle.expression_refinement.specs.Encodings.{encX, SoundX, opAction, sound-more, x-more, each-more, each-last, placed-last, count, Stood}
 use Rattle.expression_refinement.specs.Answers.{acts, temps, word as stateWord, seenArgs, Reached, Refines, refines-at, refines-done, refines-stopped, refines-map, weaken, bind, bind-read, bind-args}

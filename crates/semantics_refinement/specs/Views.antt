@@ -11,16 +11,16 @@ use Rattle.definition.specs.Value.{ExportKind, Export}
 use Rattle.definition.specs.Ast.{Section}
 use Rattle.definition.specs.Walk as walks
 use Rattle.definition.specs.Walk.{State, Env, Outcome, done, stopped, on}
-use Rattle.pcode.specs.declared.push.Read.{Read}
-use Rattle.pcode.specs.declared.push.Pushed.{Pushed}
+use Rattle.pushing.specs.declared.push.Read.{Read}
+use Rattle.pushing.specs.declared.push.Pushed.{Pushed}
 use Rattle.pcode.specs.Base.{if_then_else_, Listed, listed, thenL}
-use Rattle.pcode.specs.Pushes.{ReadOut, read, PushedOut, pushed}
+use Rattle.pushing.specs.Pushes.{ReadOut, read, PushedOut, pushed}
 use Rattle.refinement.specs.Encoding.{encV}
 use Rattle.refinement.specs.Seen.{Seen, no, yes, seenRead, seenPushed, seenPush, outcome}
-use Rattle.semantics.specs.declared.walk.Walk.{Walk}
-use Rattle.semantics.specs.declared.walk.Step.{Step}
-use Rattle.semantics.specs.declared.walk.Export.{Export as WordExport}
-use Rattle.semantics.specs.Walks.{Stepped, stepped, stepPushed, stepRead, stop, pushedThen, readThen}
+use Rattle.walking.specs.declared.walk.Walk.{Walk}
+use Rattle.walking.specs.declared.walk.Step.{Step}
+use Rattle.walking.specs.declared.walk.Export.{Export as WordExport}
+use Rattle.walking.specs.Walks.{Stepped, stepped, stepPushed, stepRead, stop, pushedThen, readThen}
 use Rattle.expression_refinement.specs.Answers.{Refines, refines-map, refines-stopped}
 
 -- what a walk has beside the state of expressions

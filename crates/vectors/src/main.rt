@@ -3,7 +3,7 @@
 use libc::STDERR_FILENO;
 use libc::STDIN_FILENO;
 use libc::STDOUT_FILENO;
-use resolution::answer::Answer;
+use outcome::answer::Answer;
 ghost use Prim.Native.Nat.{_+_, _≤_, _<_};
 
 // Where a file, its answer and the next case stand in the data: the body, the twelve numbers, the counts before both lists.

@@ -4,7 +4,7 @@ use Rattle.counts.proofs.blocks_counts.Tie as tie
 use Rattle.counts.proofs.blocks_counts.Reads as reads
 use Rattle.counts.proofs.blocks_counts.Lts as lts
 use Rattle.counts.proofs.front_counts.Reads as front-counts-reads
-use Rattle.section.proofs.blocks.join.Reads as join-reads
+use Rattle.framing.proofs.blocks.join.Reads as join-reads
 use Rattle.counts.proofs.Laws.{laws}
 
 -- src/lib.rt:60:33

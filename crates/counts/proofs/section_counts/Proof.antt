@@ -5,7 +5,7 @@ use Rattle.counts.proofs.section_counts.Reads as reads
 use Rattle.counts.proofs.section_counts.Lts as lts
 use Rattle.counts.proofs.blocks_counts.Reads as blocks-counts-reads
 use Rattle.counts.proofs.front_counts.Reads as front-counts-reads
-use Rattle.section.proofs.blocks.check_blocks.Reads as check-blocks-reads
+use Rattle.framing.proofs.blocks.check_blocks.Reads as check-blocks-reads
 use Rattle.counts.proofs.Laws.{laws}
 
 -- src/lib.rt:68:9

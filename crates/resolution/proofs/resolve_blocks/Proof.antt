@@ -4,7 +4,7 @@ use Rattle.resolution.proofs.resolve_blocks.Tie as tie
 use Rattle.resolution.proofs.resolve_blocks.Reads as reads
 use Rattle.resolution.proofs.resolve_blocks.Lts as lts
 use Rattle.resolution.proofs.resolve_front.Reads as resolve-front-reads
-use Rattle.section.proofs.blocks.join.Reads as join-reads
+use Rattle.framing.proofs.blocks.join.Reads as join-reads
 use Rattle.resolution.proofs.FileLaws.{file-laws}
 
 -- src/lib.rt:125:33

@@ -4,8 +4,8 @@ use Rattle.resolution.proofs.resolve_section.Tie as tie
 use Rattle.resolution.proofs.resolve_section.Reads as reads
 use Rattle.resolution.proofs.resolve_section.Lts as lts
 use Rattle.cells.proofs.u16_at.Reads as u16-at-reads
-use Rattle.resolution.proofs.answer.refused.Reads as refused-reads
-use Rattle.resolution.proofs.finish.finish.Reads as finish-reads
+use Rattle.outcome.proofs.answer.refused.Reads as refused-reads
+use Rattle.outcome.proofs.finish.finish.Reads as finish-reads
 use Rattle.resolution.proofs.pointer_size.Reads as pointer-size-reads
 use Rattle.resolution.proofs.walk_section.Reads as walk-section-reads
 use Rattle.resolution.proofs.FileLaws.{file-laws, section-next}

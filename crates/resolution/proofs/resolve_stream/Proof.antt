@@ -3,7 +3,7 @@ use Rattle.resolution.proofs.resolve_stream.Statement.{statement}
 use Rattle.resolution.proofs.resolve_stream.Tie as tie
 use Rattle.resolution.proofs.resolve_stream.Reads as reads
 use Rattle.resolution.proofs.resolve_stream.Lts as lts
-use Rattle.resolution.proofs.answer.refused.Reads as refused-reads
+use Rattle.outcome.proofs.answer.refused.Reads as refused-reads
 use Rattle.resolution.proofs.resolve_table.Reads as resolve-table-reads
 use Rattle.section.proofs.read_stream.Reads as read-stream-reads
 use Rattle.resolution.proofs.FileLaws.{file-laws}

@@ -3,10 +3,10 @@ use Rattle.resolution.proofs.resolve_words.Statement.{statement}
 use Rattle.resolution.proofs.resolve_words.Tie as tie
 use Rattle.resolution.proofs.resolve_words.Reads as reads
 use Rattle.resolution.proofs.resolve_words.Lts as lts
-use Rattle.resolution.proofs.answer.refused.Reads as refused-reads
+use Rattle.outcome.proofs.answer.refused.Reads as refused-reads
 use Rattle.resolution.proofs.resolve_blocks.Reads as resolve-blocks-reads
 use Rattle.resolution.proofs.resolve_front.Reads as resolve-front-reads
-use Rattle.section.proofs.blocks.check_blocks.Reads as check-blocks-reads
+use Rattle.framing.proofs.blocks.check_blocks.Reads as check-blocks-reads
 use Rattle.resolution.proofs.FileLaws.{file-laws}
 
 -- src/lib.rt:133:9

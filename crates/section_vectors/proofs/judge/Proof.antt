@@ -3,8 +3,8 @@ use Rattle.section_vectors.proofs.judge.Statement.{statement}
 use Rattle.section_vectors.proofs.judge.Tie as tie
 use Rattle.section_vectors.proofs.judge.Reads as reads
 use Rattle.section_vectors.proofs.judge.Lts as lts
-use Rattle.section.proofs.blocks.check_blocks.Reads as check-blocks-reads
-use Rattle.section.proofs.blocks.join.Reads as join-reads
+use Rattle.framing.proofs.blocks.check_blocks.Reads as check-blocks-reads
+use Rattle.framing.proofs.blocks.join.Reads as join-reads
 use Rattle.section.proofs.read_stream.Reads as read-stream-reads
 use native.Mathlib.Omega.{arith}
 use mathlib.Core.Path.{sym}

@@ -32,7 +32,7 @@ use Rattle.semantics.proofs.calls.called_of.Reads as called-of-reads
 use Rattle.semantics.proofs.calls.macro_args.Reads as macro-args-reads
 use Rattle.semantics.proofs.calls.macro_at.Reads as macro-at-reads
 use Rattle.semantics.proofs.calls.other_call.Reads as other-call-reads
-use Rattle.semantics.proofs.walk.stop.Reads as stop-reads
+use Rattle.walking.proofs.walk.stop.Reads as stop-reads
 use Rattle.std.proofs.num.wrapping_add_u64.Reads as wrapping-add-u64-reads
 use Rattle.bodies.proofs.statements.+body+call_statement+enter+macro_statement+statement.{statement}
 use Rattle.bodies.proofs.statements.+body+call_statement+enter+macro_statement+statement.Tie.{close}

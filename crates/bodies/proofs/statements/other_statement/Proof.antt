@@ -3,9 +3,9 @@ use Rattle.bodies.proofs.statements.other_statement.Statement.{statemen
 use Rattle.bodies.proofs.statements.other_statement.Tie as tie
 use Rattle.bodies.proofs.statements.other_statement.Reads as reads
 use Rattle.bodies.proofs.statements.other_statement.Lts as lts
-use Rattle.semantics.proofs.branches.branch.Reads as branch-reads
-use Rattle.semantics.proofs.branches.cond_branch.Reads as cond-branch-reads
-use Rattle.semantics.proofs.branches.label_statement.Reads as label-statement-reads
+use Rattle.jumps.proofs.branches.branch.Reads as branch-reads
+use Rattle.jumps.proofs.branches.cond_branch.Reads as cond-branch-reads
+use Rattle.jumps.proofs.branches.label_statement.Reads as label-statement-reads
 use Rattle.bodies.proofs.statements.simple.Reads as simple-reads
 use Rattle.bodies.proofs.StatementLaws.{code-laws}
 use Rattle.bodies.proofs.StatementLaws.{begin-laws}

@@ -3,13 +3,13 @@ use Rattle.bodies.proofs.statements.simple.Statement.{statement}
 use Rattle.bodies.proofs.statements.simple.Tie as tie
 use Rattle.bodies.proofs.statements.simple.Reads as reads
 use Rattle.bodies.proofs.statements.simple.Lts as lts
-use Rattle.semantics.proofs.copies.copy_statement.Reads as copy-statement-reads
+use Rattle.assignments.proofs.copies.copy_statement.Reads as copy-statement-reads
 use Rattle.semantics.proofs.simple.build.Reads as build-reads
 use Rattle.semantics.proofs.simple.export_statement.Reads as export-statement-reads
 use Rattle.semantics.proofs.simple.local_assignment.Reads as local-assignment-reads
 use Rattle.semantics.proofs.simple.local_statement.Reads as local-statement-reads
 use Rattle.semantics.proofs.simple.unimplemented.Reads as unimplemented-reads
-use Rattle.semantics.proofs.stores.store_statement.Reads as store-statement-reads
+use Rattle.assignments.proofs.stores.store_statement.Reads as store-statement-reads
 use Rattle.bodies.proofs.StatementLaws.{code-laws}
 use Rattle.bodies.proofs.StatementLaws.{begin-laws}
 

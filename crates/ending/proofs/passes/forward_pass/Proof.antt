@@ -2,7 +2,7 @@ use Rattle.ending.proofs.passes.forward_pass.Statement.{statement}
 use Rattle.ending.proofs.passes.forward_pass.Tie as tie
 use Rattle.ending.proofs.passes.forward_pass.Reads as reads
 use Rattle.ending.proofs.passes.forward_pass.Lts as lts
-use Rattle.pcode.proofs.rules.update_operand_sizes.Reads as update-operand-sizes-reads
+use Rattle.pushing.proofs.rules.update_operand_sizes.Reads as update-operand-sizes-reads
 use Rattle.pcode.proofs.value.place.Reads as place-reads
 use borrow.Author.Needs.{needs}
 use Prim.Native.Nat.{_-_, _≤_}

@@ -5,7 +5,7 @@ use Rattle.expression.proofs.calls.callee_of.Reads as reads
 use Rattle.expression.proofs.calls.callee_of.Lts as lts
 use Rattle.cells.proofs.get_u16.Reads as get-u16-reads
 use Rattle.expression.proofs.calls.inbuilt_or.Reads as inbuilt-or-reads
-use Rattle.section.proofs.inbuilt.translate_inbuilt_func.Reads as translate-inbuilt-func-reads
+use Rattle.inbuilts.proofs.inbuilt.translate_inbuilt_func.Reads as translate-inbuilt-func-reads
 use Rattle.expression.proofs.CallLaws.{call-laws}
 
 -- src/calls.rt:74:14

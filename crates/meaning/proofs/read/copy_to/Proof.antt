@@ -3,7 +3,7 @@ use Rattle.meaning.proofs.read.copy_to.Statement.{statement}
 use Rattle.meaning.proofs.read.copy_to.Tie as tie
 use Rattle.meaning.proofs.read.copy_to.Reads as reads
 use Rattle.meaning.proofs.read.copy_to.Lts as lts
-use Rattle.pcode.proofs.push.op_to.Reads as op-to-reads
+use Rattle.pushing.proofs.push.op_to.Reads as op-to-reads
 use Rattle.pcode.proofs.value.absent.Reads as absent-reads
 use Rattle.meaning.proofs.ReadLaws.{read-laws}
 

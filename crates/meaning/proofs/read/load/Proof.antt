@@ -4,8 +4,8 @@ use Rattle.meaning.proofs.read.load.Tie as tie
 use Rattle.meaning.proofs.read.load.Reads as reads
 use Rattle.meaning.proofs.read.load.Lts as lts
 use Rattle.meaning.proofs.read.take_stated.Reads as take-stated-reads
-use Rattle.pcode.proofs.push.op_to.Reads as op-to-reads
-use Rattle.pcode.proofs.push.output_or.Reads as output-or-reads
+use Rattle.pushing.proofs.push.op_to.Reads as op-to-reads
+use Rattle.pushing.proofs.push.output_or.Reads as output-or-reads
 use Rattle.pcode.proofs.value.absent.Reads as absent-reads
 use Rattle.meaning.proofs.ReadLaws.{read-laws}
 

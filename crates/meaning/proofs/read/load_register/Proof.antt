@@ -5,8 +5,8 @@ use Rattle.meaning.proofs.read.load_register.Reads as reads
 use Rattle.meaning.proofs.read.load_register.Lts as lts
 use Rattle.meaning.proofs.read.pushed_to.Reads as pushed-to-reads
 use Rattle.meaning.proofs.read.set_stated.Reads as set-stated-reads
-use Rattle.pcode.proofs.push.output_or.Reads as output-or-reads
-use Rattle.pcode.proofs.push.push.Reads as push-reads
+use Rattle.pushing.proofs.push.output_or.Reads as output-or-reads
+use Rattle.pushing.proofs.push.push.Reads as push-reads
 use Rattle.pcode.proofs.value.absent.Reads as absent-reads
 use Rattle.meaning.proofs.ReadLaws.{read-laws}
 

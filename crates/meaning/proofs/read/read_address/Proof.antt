@@ -4,8 +4,8 @@ use Rattle.meaning.proofs.read.read_address.Tie as tie
 use Rattle.meaning.proofs.read.read_address.Reads as reads
 use Rattle.meaning.proofs.read.read_address.Lts as lts
 use Rattle.meaning.proofs.read.pushed_to.Reads as pushed-to-reads
-use Rattle.pcode.proofs.push.output_or.Reads as output-or-reads
-use Rattle.pcode.proofs.push.push.Reads as push-reads
+use Rattle.pushing.proofs.push.output_or.Reads as output-or-reads
+use Rattle.pushing.proofs.push.push.Reads as push-reads
 use Rattle.pcode.proofs.value.absent.Reads as absent-reads
 use Rattle.pcode.proofs.value.local.Reads as local-reads
 use Rattle.meaning.proofs.ReadLaws.{read-laws}

@@ -9,7 +9,7 @@ use Rattle.meaning.proofs.read.load.Reads as load-reads
 use Rattle.meaning.proofs.read.load_register.Reads as load-register-reads
 use Rattle.meaning.proofs.read.read_address.Reads as read-address-reads
 use Rattle.meaning.proofs.read.read_slice.Reads as read-slice-reads
-use Rattle.pcode.proofs.push.op.Reads as op-reads
+use Rattle.pushing.proofs.push.op.Reads as op-reads
 use Rattle.pcode.proofs.value.with_size.Reads as with-size-reads
 use Rattle.meaning.proofs.ReadLaws.{read-laws}
 

@@ -5,7 +5,7 @@ use Rattle.meaning.proofs.read.shift_and_mask.Reads as reads
 use Rattle.meaning.proofs.read.shift_and_mask.Lts as lts
 use Rattle.meaning.proofs.read.needed_bytes.Reads as needed-bytes-reads
 use Rattle.meaning.proofs.read.shift_to.Reads as shift-to-reads
-use Rattle.pcode.proofs.push.add_tmp.Reads as add-tmp-reads
+use Rattle.pushing.proofs.push.add_tmp.Reads as add-tmp-reads
 use Rattle.pcode.proofs.sizes.size_of.Reads as size-of-reads
 use Rattle.pcode.proofs.value.with_size.Reads as with-size-reads
 use Rattle.meaning.proofs.ReadLaws.{read-laws}

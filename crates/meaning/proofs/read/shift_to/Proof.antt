@@ -5,7 +5,7 @@ use Rattle.meaning.proofs.read.shift_to.Reads as reads
 use Rattle.meaning.proofs.read.shift_to.Lts as lts
 use Rattle.cells.proofs.mask.Reads as mask-reads
 use Rattle.meaning.proofs.read.constant.Reads as constant-reads
-use Rattle.pcode.proofs.push.op_to.Reads as op-to-reads
+use Rattle.pushing.proofs.push.op_to.Reads as op-to-reads
 use Rattle.meaning.proofs.ReadLaws.{read-laws}
 
 -- src/read.rt:127:49

@@ -5,7 +5,7 @@ use Rattle.meaning.proofs.scope.named_tmp.Reads as reads
 use Rattle.meaning.proofs.scope.named_tmp.Lts as lts
 use Rattle.meaning.proofs.scope.attach.Reads as attach-reads
 use Rattle.meaning.proofs.scope.lookup_local.Reads as lookup-local-reads
-use Rattle.pcode.proofs.push.add_tmp.Reads as add-tmp-reads
+use Rattle.pushing.proofs.push.add_tmp.Reads as add-tmp-reads
 use Rattle.meaning.proofs.ScopeLaws.{scope-laws}
 
 -- src/scope.rt:400:11

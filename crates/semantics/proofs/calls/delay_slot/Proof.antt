@@ -5,10 +5,10 @@ use Rattle.semantics.proofs.calls.delay_slot.Reads as reads
 use Rattle.semantics.proofs.calls.delay_slot.Lts as lts
 use Rattle.expression.proofs.calls.only_integer.Reads as only-integer-reads
 use Rattle.expression.proofs.expr.after.Reads as after-reads
-use Rattle.pcode.proofs.push.push.Reads as push-reads
+use Rattle.pushing.proofs.push.push.Reads as push-reads
 use Rattle.pcode.proofs.value.absent.Reads as absent-reads
-use Rattle.semantics.proofs.walk.pushed_then.Reads as pushed-then-reads
-use Rattle.semantics.proofs.walk.stop.Reads as stop-reads
+use Rattle.walking.proofs.walk.pushed_then.Reads as pushed-then-reads
+use Rattle.walking.proofs.walk.stop.Reads as stop-reads
 use Rattle.semantics.proofs.CallLaws.{call-laws}
 
 -- src/calls.rt:79:8

@@ -5,7 +5,7 @@ use Rattle.semantics.proofs.calls.other_call.Reads as reads
 use Rattle.semantics.proofs.calls.other_call.Lts as lts
 use Rattle.semantics.proofs.calls.delay_slot.Reads as delay-slot-reads
 use Rattle.semantics.proofs.calls.user_op_statement.Reads as user-op-statement-reads
-use Rattle.semantics.proofs.walk.stop.Reads as stop-reads
+use Rattle.walking.proofs.walk.stop.Reads as stop-reads
 use Rattle.semantics.proofs.CallLaws.{call-laws}
 
 -- src/calls.rt:149:14

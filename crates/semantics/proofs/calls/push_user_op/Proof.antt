@@ -3,7 +3,7 @@ use Rattle.semantics.proofs.calls.push_user_op.Statement.{statement}
 use Rattle.semantics.proofs.calls.push_user_op.Tie as tie
 use Rattle.semantics.proofs.calls.push_user_op.Reads as reads
 use Rattle.semantics.proofs.calls.push_user_op.Lts as lts
-use Rattle.pcode.proofs.push.push.Reads as push-reads
+use Rattle.pushing.proofs.push.push.Reads as push-reads
 use Rattle.pcode.proofs.value.absent.Reads as absent-reads
 use Rattle.pcode.proofs.value.no_output.Reads as no-output-reads
 use Rattle.semantics.proofs.calls.write_inputs.Reads as write-inputs-reads

@@ -6,8 +6,8 @@ use Rattle.semantics.proofs.calls.user_op_statement.Lts as lts
 use Rattle.expression.proofs.expr.after.Reads as after-reads
 use Rattle.expression.proofs.expr.resolve_args.Reads as resolve-args-reads
 use Rattle.semantics.proofs.calls.user_op_args.Reads as user-op-args-reads
-use Rattle.semantics.proofs.walk.pushed_then.Reads as pushed-then-reads
-use Rattle.semantics.proofs.walk.stop.Reads as stop-reads
+use Rattle.walking.proofs.walk.pushed_then.Reads as pushed-then-reads
+use Rattle.walking.proofs.walk.stop.Reads as stop-reads
 use Rattle.semantics.proofs.CallLaws.{call-laws}
 
 -- src/calls.rt:137:37

@@ -5,11 +5,11 @@ use Rattle.semantics.proofs.simple.build_table.Reads as reads
 use Rattle.semantics.proofs.simple.build_table.Lts as lts
 use Rattle.cells.proofs.u16_at.Reads as u16-at-reads
 use Rattle.expression.proofs.expr.after.Reads as after-reads
-use Rattle.pcode.proofs.push.push.Reads as push-reads
+use Rattle.pushing.proofs.push.push.Reads as push-reads
 use Rattle.pcode.proofs.value.absent.Reads as absent-reads
 use Rattle.semantics.proofs.simple.find_subtable.Reads as find-subtable-reads
-use Rattle.semantics.proofs.walk.pushed_then.Reads as pushed-then-reads
-use Rattle.semantics.proofs.walk.stop.Reads as stop-reads
+use Rattle.walking.proofs.walk.pushed_then.Reads as pushed-then-reads
+use Rattle.walking.proofs.walk.stop.Reads as stop-reads
 use Rattle.semantics.proofs.SimpleLaws.{simple-laws}
 use Rattle.semantics.proofs.SimpleLaws.{table-built}
 

@@ -6,7 +6,7 @@ use Rattle.semantics.proofs.simple.export_statement.Lts as lts
 use Rattle.expression.proofs.expr.after.Reads as after-reads
 use Rattle.expression.proofs.expr.resolve_expr.Reads as resolve-expr-reads
 use Rattle.semantics.proofs.simple.export_of.Reads as export-of-reads
-use Rattle.semantics.proofs.walk.stop.Reads as stop-reads
+use Rattle.walking.proofs.walk.stop.Reads as stop-reads
 use Rattle.semantics.proofs.SimpleLaws.{simple-laws}
 
 -- src/simple.rt:76:37

@@ -4,7 +4,7 @@ use Rattle.semantics.proofs.simple.export_value.Tie as tie
 use Rattle.semantics.proofs.simple.export_value.Reads as reads
 use Rattle.semantics.proofs.simple.export_value.Lts as lts
 use Rattle.semantics.proofs.simple.exported.Reads as exported-reads
-use Rattle.semantics.proofs.walk.stop.Reads as stop-reads
+use Rattle.walking.proofs.walk.stop.Reads as stop-reads
 use Rattle.semantics.proofs.SimpleLaws.{simple-laws}
 
 -- src/simple.rt:57:18

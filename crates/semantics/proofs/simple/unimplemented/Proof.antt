@@ -4,10 +4,10 @@ use Rattle.semantics.proofs.simple.unimplemented.Tie as tie
 use Rattle.semantics.proofs.simple.unimplemented.Reads as reads
 use Rattle.semantics.proofs.simple.unimplemented.Lts as lts
 use Rattle.expression.proofs.expr.after.Reads as after-reads
-use Rattle.pcode.proofs.push.push_op.Reads as push-op-reads
+use Rattle.pushing.proofs.push.push_op.Reads as push-op-reads
 use Rattle.pcode.proofs.value.absent.Reads as absent-reads
 use Rattle.pcode.proofs.value.no_output.Reads as no-output-reads
-use Rattle.semantics.proofs.walk.pushed_then.Reads as pushed-then-reads
+use Rattle.walking.proofs.walk.pushed_then.Reads as pushed-then-reads
 use Rattle.semantics.proofs.SimpleLaws.{simple-laws}
 
 -- src/simple.rt:34:50

@@ -1,0 +1,2 @@
+mod StoreLaws
+mod CopyLaws

@@ -1,0 +1,460 @@
+// Copies: the target is a local, a place in RAM or a range of bits, which keeps the bits around it.
+use crate::stores::store;
+use expression::expr::Expr;
+use expression::expr::after;
+use expression::expr::resolve_expr;
+use meaning::read::byte_aligned;
+use meaning::read::constant;
+use meaning::read::read_operand;
+use meaning::read::read_value;
+use meaning::read::sliced;
+use meaning::scope::ExprValue;
+use meaning::scope::Meaning;
+use meaning::scope::named_tmp;
+use meaning::scope::resolve_ident;
+use meaning::scope::u16_in;
+use pcode::sizes::size_of;
+use pcode::value::Value;
+use pcode::value::absent;
+use pushing::push::Env;
+use pushing::push::Read;
+use pushing::push::State;
+use pushing::push::add_tmp;
+use pushing::push::op_to;
+use walking::walk::Step;
+use walking::walk::Walk;
+use walking::walk::read_then;
+use walking::walk::stop;
+ghost use mathlib.Core.Path.{_≡_};
+ghost use Prim.Native.Nat.{_<_};
+ghost use Rattle.pcode.specs.Base.{listed};
+ghost use Rattle.pushing.specs.Pushes.{read};
+ghost use Rattle.expression.specs.Answers.{resolved};
+ghost use Rattle.walking.specs.Walks.{stepped};
+ghost use Rattle.assignments.specs.Copies.{maskBut, mergeBits, extendBits, insertIn, insertBits, keepBits, writeBits, copyBits, copyBytes, copyRange, copyRam, copyInto, targetName, targetSize, afterTarget, newTarget, isWrong, isNew, resolveDst, copyTarget, copyStatement};
+
+// All 64 bits but those of a bit write.
+fn mask_but(from: u64, bits: u64) -> u64
+    requires { ⌜ from < 64 ⌝ }
+    ensures { λ r. ⌜ r ≡ maskBut from bits ⌝ }
+{
+    18446744073709551615 - (cells::mask(bits) << from)
+}
+
+// The bits of the value shifted to their place, and merged with the rest.
+fn merge_bits(
+    s: &[u8],
+    t: &[u16],
+    a: &mut [u64],
+    m: &mut [u64],
+    e: Env,
+    to: Value,
+    prev: Value,
+    tmp: Value,
+    from: u64,
+    st: State,
+) -> Read
+    ensures { λ r. ⌜ read r (now (a .exit)) (now (m .exit)) ≡ mergeBits (now (s .entry)) (now (t .entry)) (now (a .entry)) (now (m .entry)) e to prev tmp from st ⌝ }
+{
+    match op_to(s, t, a, m, e, 7, 0, 2, tmp, tmp, constant(from), st) {
+        Read::No(n) => Read::No(n),
+        Read::Value { v: _, st: st1 } => op_to(s, t, a, m, e, 26, 0, 2, to, prev, tmp, st1),
+    }
+}
+
+fn extend_bits(
+    s: &[u8],
+    t: &[u16],
+    a: &mut [u64],
+    m: &mut [u64],
+    e: Env,
+    v: Value,
+    tmp: Value,
+    bits: u64,
+    st: State,
+) -> Read
+    ensures { λ r. ⌜ read r (now (a .exit)) (now (m .exit)) ≡ extendBits (now (s .entry)) (now (t .entry)) (now (a .entry)) (now (m .entry)) e v tmp bits st ⌝ }
+{
+    match op_to(s, t, a, m, e, 43, 0, 1, tmp, v, absent(), st) {
+        Read::No(n) => Read::No(n),
+        Read::Value { v: _, st: st1 } => op_to(
+            s,
+            t,
+            a,
+            m,
+            e,
+            24,
+            0,
+            2,
+            tmp,
+            tmp,
+            constant(cells::mask(bits)),
+            st1,
+        ),
+    }
+}
+
+fn insert_in(
+    s: &[u8],
+    t: &[u16],
+    a: &mut [u64],
+    m: &mut [u64],
+    e: Env,
+    v: Value,
+    to: Value,
+    prev: Value,
+    tmp: Value,
+    from: u64,
+    bits: u64,
+    st: State,
+) -> Read
+    ensures { λ r. ⌜ read r (now (a .exit)) (now (m .exit)) ≡ insertIn (now (s .entry)) (now (t .entry)) (now (a .entry)) (now (m .entry)) e v to prev tmp from bits st ⌝ }
+{
+    match extend_bits(s, t, a, m, e, v, tmp, bits, st) {
+        Read::No(n) => Read::No(n),
+        Read::Value { v: _, st: st1 } => merge_bits(s, t, a, m, e, to, prev, tmp, from, st1),
+    }
+}
+
+fn insert_bits(
+    s: &[u8],
+    t: &[u16],
+    a: &mut [u64],
+    m: &mut [u64],
+    e: Env,
+    v: Value,
+    to: Value,
+    prev: Value,
+    from: u64,
+    bits: u64,
+    st: State,
+) -> Read
+    ensures { λ r. ⌜ read r (now (a .exit)) (now (m .exit)) ≡ insertBits (now (s .entry)) (now (t .entry)) (now (a .entry)) (now (m .entry)) e v to prev from bits st ⌝ }
+{
+    let size = size_of(s, t, m, to);
+    match add_tmp(m, 65535, size, 0, st) {
+        Read::No(n) => Read::No(n),
+        Read::Value { v: tmp, st: st1 } => insert_in(
+            s,
+            t,
+            a,
+            m,
+            e,
+            v,
+            to,
+            prev,
+            tmp,
+            from,
+            bits,
+            st1,
+        ),
+    }
+}
+
+// The bits of the target that stay, in a temporary; then those of the value.
+fn keep_bits(
+    s: &[u8],
+    t: &[u16],
+    a: &mut [u64],
+    m: &mut [u64],
+    e: Env,
+    v: Value,
+    to: Value,
+    prev: Value,
+    from: u64,
+    bits: u64,
+    st: State,
+) -> Read
+    requires { ⌜ from < 64 ⌝ }
+    ensures { λ r. ⌜ read r (now (a .exit)) (now (m .exit)) ≡ keepBits (now (s .entry)) (now (t .entry)) (now (a .entry)) (now (m .entry)) e v to prev from bits st ⌝ }
+{
+    match op_to(
+        s,
+        t,
+        a,
+        m,
+        e,
+        24,
+        0,
+        2,
+        prev,
+        to,
+        constant(mask_but(from, bits)),
+        st,
+    ) {
+        Read::No(n) => Read::No(n),
+        Read::Value { v: _, st: st1 } => insert_bits(s, t, a, m, e, v, to, prev, from, bits, st1),
+    }
+}
+
+fn write_bits(
+    s: &[u8],
+    t: &[u16],
+    a: &mut [u64],
+    m: &mut [u64],
+    e: Env,
+    v: Value,
+    to: Value,
+    from: u64,
+    bits: u64,
+    st: State,
+) -> Read
+    ensures { λ r. ⌜ read r (now (a .exit)) (now (m .exit)) ≡ writeBits (now (s .entry)) (now (t .entry)) (now (a .entry)) (now (m .entry)) e v to from bits st ⌝ }
+{
+    if 64 <= from {
+        return Read::No(41);
+    }
+    let size = size_of(s, t, m, to);
+    match add_tmp(m, 65535, size, 0, st) {
+        Read::No(n) => Read::No(n),
+        Read::Value { v: prev, st: st1 } => keep_bits(s, t, a, m, e, v, to, prev, from, bits, st1),
+    }
+}
+
+fn copy_bits(
+    s: &[u8],
+    t: &[u16],
+    a: &mut [u64],
+    m: &mut [u64],
+    e: Env,
+    x: ExprValue,
+    to: Value,
+    from: u64,
+    bits: u64,
+    st: State,
+) -> Read
+    ensures { λ r. ⌜ read r (now (a .exit)) (now (m .exit)) ≡ copyBits (now (s .entry)) (now (t .entry)) (now (a .entry)) (now (m .entry)) e x to from bits st ⌝ }
+{
+    match read_operand(s, t, a, m, e, x, st) {
+        Read::No(n) => Read::No(n),
+        Read::Value { v, st: st1 } => write_bits(s, t, a, m, e, v, to, from, bits, st1),
+    }
+}
+
+fn copy_bytes(
+    s: &[u8],
+    t: &[u16],
+    a: &mut [u64],
+    m: &mut [u64],
+    e: Env,
+    x: ExprValue,
+    to: Value,
+    from: u64,
+    bits: u64,
+    st: State,
+) -> Read
+    ensures { λ r. ⌜ read r (now (a .exit)) (now (m .exit)) ≡ copyBytes (now (s .entry)) (now (t .entry)) (now (a .entry)) (now (m .entry)) e x to from bits st ⌝ }
+{
+    match sliced(to, from / 8, bits / 8, st) {
+        Read::No(n) => Read::No(n),
+        Read::Value { v, st: st1 } => read_value(s, t, a, m, e, x, true, v, st1),
+    }
+}
+
+fn copy_range(
+    s: &[u8],
+    t: &[u16],
+    a: &mut [u64],
+    m: &mut [u64],
+    e: Env,
+    x: ExprValue,
+    to: Value,
+    from: u64,
+    bits: u64,
+    st: State,
+) -> Read
+    ensures { λ r. ⌜ read r (now (a .exit)) (now (m .exit)) ≡ copyRange (now (s .entry)) (now (t .entry)) (now (a .entry)) (now (m .entry)) e x to from bits st ⌝ }
+{
+    if byte_aligned(from, bits) {
+        return copy_bytes(s, t, a, m, e, x, to, from, bits, st);
+    }
+    copy_bits(s, t, a, m, e, x, to, from, bits, st)
+}
+
+fn copy_ram(
+    s: &[u8],
+    t: &[u16],
+    a: &mut [u64],
+    m: &mut [u64],
+    e: Env,
+    x: ExprValue,
+    pointer: Value,
+    size: u64,
+    next: usize,
+    st: State,
+    w: Walk,
+) -> Step
+    ensures { λ r. ⌜ stepped r (now (a .exit)) (now (m .exit)) ≡ copyRam (now (s .entry)) (now (t .entry)) (now (a .entry)) (now (m .entry)) e x pointer size next st w ⌝ }
+{
+    match read_operand(s, t, a, m, e, x, st) {
+        Read::No(n) => stop(w, n),
+        Read::Value { v, st: st1 } => store(s, t, a, m, e, pointer, size, v, next, st1, w),
+    }
+}
+
+fn copy_into(
+    s: &[u8],
+    t: &[u16],
+    a: &mut [u64],
+    m: &mut [u64],
+    e: Env,
+    x: ExprValue,
+    d: ExprValue,
+    next: usize,
+    st: State,
+    w: Walk,
+) -> Step
+    ensures { λ r. ⌜ stepped r (now (a .exit)) (now (m .exit)) ≡ copyInto (now (s .entry)) (now (t .entry)) (now (a .entry)) (now (m .entry)) e x d next st w ⌝ }
+{
+    match d {
+        ExprValue::Local(v) => read_then(read_value(s, t, a, m, e, x, true, v, st), next, w),
+        ExprValue::RamRef { pointer, size } => copy_ram(
+            s,
+            t,
+            a,
+            m,
+            e,
+            x,
+            pointer,
+            size,
+            next,
+            st,
+            w,
+        ),
+        ExprValue::BitRange { v, from, bits } => read_then(
+            copy_range(s, t, a, m, e, x, v, from, bits, st),
+            next,
+            w,
+        ),
+        _ => stop(w, 37),
+    }
+}
+
+// The name of a target, bare or truncated, or 65,535.
+fn target_name(s: &[u8], pos: usize) -> u64
+    ensures { λ r. ⌜ r ≡ targetName (now (s .entry)) pos ⌝ }
+{
+    let code = cells::byte(s, pos, 0);
+    if code == 0 {
+        return u16_in(s, pos, 1);
+    }
+    if code == 3 {
+        if cells::byte(s, pos, 1) == 0 {
+            return u16_in(s, pos, 2);
+        }
+    }
+    65535
+}
+
+fn target_size(s: &[u8], pos: usize) -> u64
+    ensures { λ r. ⌜ r ≡ targetSize (now (s .entry)) pos ⌝ }
+{
+    if cells::byte(s, pos, 0) == 0 {
+        return 65535;
+    }
+    u16_in(s, pos, 4)
+}
+
+fn after_target(s: &[u8], pos: usize) -> usize
+    ensures { λ r. ⌜ r ≡ afterTarget (now (s .entry)) pos ⌝ }
+{
+    if cells::byte(s, pos, 0) == 0 {
+        return after(pos, 3);
+    }
+    after(pos, 6)
+}
+
+fn new_target(s: &[u8], t: &[u16], m: &mut [u64], e: Env, pos: usize, name: u64, st: State) -> Expr
+    ensures { λ r. ⌜ listed r (now (m .exit)) ≡ newTarget (now (s .entry)) (now (t .entry)) (now (m .entry)) e pos name st ⌝ }
+{
+    let size = target_size(s, pos);
+    let next = after_target(s, pos);
+    match named_tmp(t, m, e, name, size, st) {
+        Read::No(n) => Expr::No(n),
+        Read::Value { v, st: st1 } => Expr::Value {
+            x: ExprValue::Local(v),
+            next,
+            st: st1,
+        },
+    }
+}
+
+fn is_wrong(r: Meaning) -> bool
+    ensures { λ b. ⌜ b ≡ isWrong r ⌝ }
+{
+    match r {
+        Meaning::Wrong(_) => true,
+        Meaning::Means(_) => false,
+    }
+}
+
+fn is_new(s: &[u8], t: &[u16], p: &[u64], m: &[u64], e: Env, st: State, name: u64) -> bool
+    ensures { λ r. ⌜ r ≡ isNew (now (s .entry)) (now (t .entry)) (now (p .entry)) (now (m .entry)) e st name ⌝ }
+{
+    if name == 65535 {
+        return false;
+    }
+    is_wrong(resolve_ident(s, t, p, m, e, st, name))
+}
+
+// An unknown or disallowed name as target becomes a temporary.
+fn resolve_dst(
+    s: &[u8],
+    t: &[u16],
+    p: &[u64],
+    a: &mut [u64],
+    m: &mut [u64],
+    e: Env,
+    pos: usize,
+    st: State,
+) -> Expr
+    ensures { λ r. ⌜ resolved r (now (a .exit)) (now (m .exit)) ≡ resolveDst (now (s .entry)) (now (t .entry)) (now (p .entry)) (now (a .entry)) (now (m .entry)) e pos st ⌝ }
+{
+    let name = target_name(s, pos);
+    if is_new(s, t, p, m, e, st, name) {
+        return new_target(s, t, m, e, pos, name, st);
+    }
+    resolve_expr(32, s, t, p, pos, e, a, m, st)
+}
+
+fn copy_target(
+    s: &[u8],
+    t: &[u16],
+    p: &[u64],
+    a: &mut [u64],
+    m: &mut [u64],
+    e: Env,
+    x: ExprValue,
+    pos: usize,
+    st: State,
+    w: Walk,
+) -> Step
+    ensures { λ r. ⌜ stepped r (now (a .exit)) (now (m .exit)) ≡ copyTarget (now (s .entry)) (now (t .entry)) (now (p .entry)) (now (a .entry)) (now (m .entry)) e x pos st w ⌝ }
+{
+    match resolve_dst(s, t, p, a, m, e, pos, st) {
+        Expr::No(n) => stop(w, n),
+        Expr::Value {
+            x: d,
+            next,
+            st: st1,
+        } => copy_into(s, t, a, m, e, x, d, next, st1, w),
+    }
+}
+
+pub fn copy_statement(
+    s: &[u8],
+    t: &[u16],
+    p: &[u64],
+    a: &mut [u64],
+    m: &mut [u64],
+    e: Env,
+    pos: usize,
+    w: Walk,
+) -> Step
+    ensures { λ r. ⌜ stepped r (now (a .exit)) (now (m .exit)) ≡ copyStatement (now (s .entry)) (now (t .entry)) (now (p .entry)) (now (a .entry)) (now (m .entry)) e pos w ⌝ }
+{
+    match resolve_expr(32, s, t, p, after(pos, 1), e, a, m, w.st) {
+        Expr::No(n) => stop(w, n),
+        Expr::Value { x, next, st } => copy_target(s, t, p, a, m, e, x, next, st, w),
+    }
+}

@@ -1,0 +1,175 @@
+// Stores: the value is read before the pointer.
+use expression::address::resolve_address;
+use expression::expr::Expr;
+use expression::expr::Operand;
+use expression::expr::after;
+use expression::expr::expr_value;
+use expression::expr::resolve_expr;
+use expression::expr::skip_expr;
+use meaning::read::set_stated;
+use meaning::read::take_stated;
+use meaning::scope::ExprValue;
+use meaning::scope::u16_in;
+use pcode::value::Value;
+use pcode::value::absent;
+use pcode::value::no_output;
+use pushing::push::Env;
+use pushing::push::State;
+use pushing::push::push;
+use pushing::push::push_op;
+use walking::walk::Step;
+use walking::walk::Walk;
+use walking::walk::pushed_then;
+use walking::walk::stop;
+ghost use mathlib.Core.Path.{_≡_};
+ghost use Rattle.walking.specs.Walks.{stepped};
+ghost use Rattle.assignments.specs.Stores.{store, storeRegister, storeAt, storeIn, storePointer, storeStatement};
+
+pub fn store(
+    s: &[u8],
+    t: &[u16],
+    a: &mut [u64],
+    m: &mut [u64],
+    e: Env,
+    pointer: Value,
+    size: u64,
+    v: Value,
+    next: usize,
+    st: State,
+    w: Walk,
+) -> Step
+    ensures { λ r. ⌜ stepped r (now (a .exit)) (now (m .exit)) ≡ store (now (s .entry)) (now (t .entry)) (now (a .entry)) (now (m .entry)) e pointer size v next st w ⌝ }
+{
+    let x = take_stated(s, t, m, v, size, st);
+    pushed_then(
+        push_op(s, t, a, m, e, 59, 0, 2, no_output(), pointer, x.v, x.st),
+        next,
+        w,
+    )
+}
+
+fn store_register(
+    s: &[u8],
+    t: &[u16],
+    a: &mut [u64],
+    m: &mut [u64],
+    pointer: Value,
+    size: u64,
+    v: Value,
+    next: usize,
+    st: State,
+    w: Walk,
+) -> Step
+    ensures { λ r. ⌜ stepped r (now (a .exit)) (now (m .exit)) ≡ storeRegister (now (s .entry)) (now (t .entry)) (now (a .entry)) (now (m .entry)) pointer size v next st w ⌝ }
+{
+    let x = set_stated(s, t, m, v, size, st);
+    pushed_then(
+        push(a, 3, 0, size, 2, absent(), pointer, x.v, x.st),
+        next,
+        w,
+    )
+}
+
+fn store_at(
+    s: &[u8],
+    t: &[u16],
+    a: &mut [u64],
+    m: &mut [u64],
+    e: Env,
+    x: ExprValue,
+    v: Value,
+    next: usize,
+    st: State,
+    w: Walk,
+) -> Step
+    ensures { λ r. ⌜ stepped r (now (a .exit)) (now (m .exit)) ≡ storeAt (now (s .entry)) (now (t .entry)) (now (a .entry)) (now (m .entry)) e x v next st w ⌝ }
+{
+    match x {
+        ExprValue::RamRef { pointer, size } => store(s, t, a, m, e, pointer, size, v, next, st, w),
+        ExprValue::RegisterRef { pointer, size } => store_register(
+            s,
+            t,
+            a,
+            m,
+            pointer,
+            size,
+            v,
+            next,
+            st,
+            w,
+        ),
+        _ => stop(w, 28),
+    }
+}
+
+fn store_in(
+    s: &[u8],
+    t: &[u16],
+    a: &mut [u64],
+    m: &mut [u64],
+    e: Env,
+    pos: usize,
+    x: ExprValue,
+    v: Value,
+    end: usize,
+    st: State,
+    w: Walk,
+) -> Step
+    ensures { λ r. ⌜ stepped r (now (a .exit)) (now (m .exit)) ≡ storeIn (now (s .entry)) (now (t .entry)) (now (a .entry)) (now (m .entry)) e pos x v end st w ⌝ }
+{
+    let space = u16_in(s, pos, 1);
+    let size = u16_in(s, pos, 3);
+    match resolve_address(s, t, a, m, e, space, size, x, end, st) {
+        Expr::No(n) => stop(w, n),
+        Expr::Value {
+            x: to,
+            next,
+            st: st1,
+        } => store_at(s, t, a, m, e, to, v, next, st1, w),
+    }
+}
+
+fn store_pointer(
+    s: &[u8],
+    t: &[u16],
+    p: &[u64],
+    a: &mut [u64],
+    m: &mut [u64],
+    e: Env,
+    pos: usize,
+    v: Value,
+    end: usize,
+    st: State,
+    w: Walk,
+) -> Step
+    ensures { λ r. ⌜ stepped r (now (a .exit)) (now (m .exit)) ≡ storePointer (now (s .entry)) (now (t .entry)) (now (p .entry)) (now (a .entry)) (now (m .entry)) e pos v end st w ⌝ }
+{
+    match resolve_expr(32, s, t, p, after(pos, 5), e, a, m, st) {
+        Expr::No(n) => stop(w, n),
+        Expr::Value {
+            x,
+            next: _,
+            st: st1,
+        } => store_in(s, t, a, m, e, pos, x, v, end, st1, w),
+    }
+}
+
+pub fn store_statement(
+    s: &[u8],
+    t: &[u16],
+    p: &[u64],
+    a: &mut [u64],
+    m: &mut [u64],
+    e: Env,
+    pos: usize,
+    w: Walk,
+) -> Step
+    ensures { λ r. ⌜ stepped r (now (a .exit)) (now (m .exit)) ≡ storeStatement (now (s .entry)) (now (t .entry)) (now (p .entry)) (now (a .entry)) (now (m .entry)) e pos w ⌝ }
+{
+    let pointer = after(pos, 5);
+    let value = skip_expr(s, pointer);
+    match expr_value(32, s, t, p, value, e, a, m, w.st) {
+        Operand::No(n) => stop(w, n),
+        Operand::Value { v, next, st } => store_pointer(s, t, p, a, m, e, pos, v, next, st, w),
+    }
+}

@@ -1,0 +1,2 @@
+// The blocks of a file, which frame the stream.
+pub mod blocks;

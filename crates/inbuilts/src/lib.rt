@@ -1,0 +1,2 @@
+// The built-in functions, by their spelling.
+pub mod inbuilt;

@@ -1,0 +1,96 @@
+// Labels. The words of the scopes keep one for each label from 1,088 on: its name, its scope, whether it is placed.
+use pcode::value::get;
+use pcode::value::put;
+use pushing::push::State;
+use walking::walk::Walk;
+ghost use mathlib.Core.Path.{_≡_};
+ghost use Prim.Native.Nat.{_<_};
+ghost use Rattle.pcode.specs.Base.{listed};
+ghost use Rattle.jumps.specs.Labels.{findLabel, labelKey, getOrInsertLabel, placeLabel, resolveLabel, labelsAfter, labelled};
+
+pub enum Label {
+    Is(u64),
+    No(u64),
+}
+
+// The first of n labels with this name and scope, or n.
+fn find_label(p: &[u64], n: u64, key: u64) -> u64
+    ensures { λ r. ⌜ r ≡ findLabel n 0 (now (p .entry)) key ⌝ }
+{
+    let mut i = 0;
+    while i < n {
+        if get(p, 1088, i as usize) % 4294967296 == key {
+            return i;
+        }
+        i += 1;
+    }
+    i
+}
+
+fn key(name: u64, scope: u64) -> u64
+    ensures { λ r. ⌜ (r ≡ labelKey name scope) × (r < 4294967296) ⌝ }
+{
+    name % 65536 + scope % 65536 * 65536
+}
+
+// The label of a name in a scope, else the next one, up to 256.
+pub fn get_or_insert_label(p: &mut [u64], name: u64, scope: u64, n: u64) -> Label
+    ensures { λ r. ⌜ listed r (now (p .exit)) ≡ getOrInsertLabel (now (p .entry)) name scope n ⌝ }
+{
+    let k = key(name, scope);
+    let i = find_label(p, n, k);
+    if i < n {
+        return Label::Is(i);
+    }
+    if 256 <= n {
+        return Label::No(14);
+    }
+    put(p, 1088, n as usize, k);
+    Label::Is(n)
+}
+
+fn place_label(p: &mut [u64], id: u64, name: u64, scope: u64) -> Label
+    ensures { λ r. ⌜ listed r (now (p .exit)) ≡ placeLabel (now (p .entry)) id name scope ⌝ }
+{
+    if 4294967296 <= get(p, 1088, id as usize) {
+        return Label::No(27);
+    }
+    put(p, 1088, id as usize, 4294967296 + key(name, scope));
+    Label::Is(id)
+}
+
+// A label is placed once.
+pub fn resolve_label(p: &mut [u64], name: u64, scope: u64, n: u64) -> Label
+    ensures { λ r. ⌜ listed r (now (p .exit)) ≡ resolveLabel (now (p .entry)) name scope n ⌝ }
+{
+    match get_or_insert_label(p, name, scope, n) {
+        Label::No(k) => Label::No(k),
+        Label::Is(id) => place_label(p, id, name, scope),
+    }
+}
+
+fn labels_after(id: u64, labels: u64) -> u64
+    ensures { λ r. ⌜ r ≡ labelsAfter id labels ⌝ }
+{
+    if id < labels {
+        return labels;
+    }
+    std::num::wrapping_add_u64(id, 1)
+}
+
+// The walk with a label, and so many more placed.
+pub fn labelled(w: Walk, st: State, id: u64, more: u64) -> Walk
+    ensures { λ r. ⌜ r ≡ labelled id more st w ⌝ }
+{
+    let export = w.export;
+    let labels = labels_after(id, w.labels);
+    let placed = std::num::wrapping_add_u64(w.placed, more);
+    Walk {
+        st,
+        labels,
+        placed,
+        statements: w.statements,
+        scopes: w.scopes,
+        export,
+    }
+}

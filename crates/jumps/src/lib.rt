@@ -1,0 +1,3 @@
+// Labels, and the branches that go to them or elsewhere.
+pub mod branches;
+pub mod labels;

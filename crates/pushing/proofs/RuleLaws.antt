@@ -1,0 +1,163 @@
+-- One law for each way out of the size rules.
+use mathlib.Core.Path.{_≡_}
+use mathlib.Core.Bool.{Bool}
+use mathlib.Core.List.{List}
+use Prim.Native.Nat.{ℕ, _+_, _≤_, _<_}
+use native.Mathlib.Omega.{arith}
+use lib.ListN.{getD}
+use lib.Dec.{eqb, ltb}
+use borrow.Author.Tests.{eq-eqb, ne-eqb, lt-ltb, le-ltb}
+use Rattle.pcode.specs.declared.sizes.Sizing.{Sizing}
+use Rattle.pcode.specs.Base.{if_then_else_}
+use Rattle.pcode.specs.Sizes.{sized, thenS, setOperand, setThree, setSizeOfPair, setSizeOfTriple, setUnsized}
+use Rattle.pushing.specs.Rules.{ruleOfOperator, ruleOfOneInput, ruleOfOther, ruleOf, shift, comparison, boolNot, branch, fewOperands, applyRule, updateOperandSizes}
+
+-- the steps of a chain of tests
+pub if-below : {A : Type 0} (x n : ℕ) (r a b : A) → x < n → r ≡ a → r ≡ (if ltb x n then a else b)
+unfolding if_then_else_
+if-below x n r a b h e = rw (lt-ltb x n h) e
+
+pub if-above : {A : Type 0} (x n : ℕ) (r a b : A) → n ≤ x → r ≡ b → r ≡ (if ltb x n then a else b)
+unfolding if_then_else_
+if-above x n r a b h e = rw (le-ltb x n h) e
+
+pub if-same : {A : Type 0} (x n : ℕ) (r a b : A) → x ≡ n → r ≡ a → r ≡ (if eqb x n then a else b)
+unfolding if_then_else_
+if-same x n r a b h e = rw (eq-eqb x n h) e
+
+pub if-other : {A : Type 0} (x n : ℕ) (r a b : A) → (x ≡ n → ⊥) → r ≡ b → r ≡ (if eqb x n then a else b)
+unfolding if_then_else_
+if-other x n r a b h e = rw (ne-eqb x n h) e
+
+pub ruleset chain-laws = (if-below, if-above, if-same, if-other)
+
+-- the ends of the two long chains
+module _ (op : ℕ) where
+  pub operator-logic : 24 ≤ op → op < 27 → 3 ≡ ruleOfOperator op
+  unfolding ruleOfOperator if_then_else_
+  operator-logic h k =
+      rw (le-ltb op 7 (omega arith), le-ltb op 10 (omega arith), le-ltb op 16 (omega arith), le-ltb op 20 (omega arith), le-ltb op 24 h, lt-ltb op 27 k)
+
+  pub operator-boolean : 27 ≤ op → op < 30 → 5 ≡ ruleOfOperator op
+  unfolding ruleOfOperator if_then_else_
+  operator-boolean h k =
+      rw (le-ltb op 7 (omega arith), le-ltb op 10 (omega arith), le-ltb op 16 (omega arith), le-ltb op 20 (omega arith), le-ltb op 24 (omega arith), le-ltb op 27 h, lt-ltb op 30 k)
+
+  pub operator-carry : 30 ≤ op → 4 ≡ ruleOfOperator op
+  unfolding ruleOfOperator if_then_else_
+  operator-carry h =
+      rw (le-ltb op 7 (omega arith), le-ltb op 10 (omega arith), le-ltb op 16 (omega arith), le-ltb op 20 (omega arith), le-ltb op 24 (omega arith), le-ltb op 27 (omega arith), le-ltb op 30 h)
+
+  pub one-float : 45 ≤ op → op < 51 → 1 ≡ ruleOfOneInput op
+  unfolding ruleOfOneInput if_then_else_
+  one-float h k =
+      rw (le-ltb op 39 (omega arith), le-ltb op 40 (omega arith), le-ltb op 42 (omega arith), le-ltb op 43 (omega arith), le-ltb op 45 h, lt-ltb op 51 k)
+
+  pub one-conversion : 51 ≤ op → 0 ≡ ruleOfOneInput op
+  unfolding ruleOfOneInput if_then_else_
+  one-conversion h =
+      rw (le-ltb op 39 (omega arith), le-ltb op 40 (omega arith), le-ltb op 42 (omega arith), le-ltb op 43 (omega arith), le-ltb op 45 (omega arith), le-ltb op 51 h)
+
+  pub other-copy : op ≡ 57 → 1 ≡ ruleOfOther op
+  unfolding ruleOfOther if_then_else_
+  other-copy h = rw h
+
+  pub other-load : op ≡ 58 → 8 ≡ ruleOfOther op
+  unfolding ruleOfOther if_then_else_
+  other-load h = rw h
+
+  pub other-store : op ≡ 59 → 8 ≡ ruleOfOther op
+  unfolding ruleOfOther if_then_else_
+  other-store h = rw h
+
+  pub other-branch : op ≡ 60 → 9 ≡ ruleOfOther op
+  unfolding ruleOfOther if_then_else_
+  other-branch h = rw h
+
+  pub other-condition : op ≡ 61 → 10 ≡ ruleOfOther op
+  unfolding ruleOfOther if_then_else_
+  other-condition h = rw h
+
+  pub other-none : (op ≡ 57 → ⊥) → (op ≡ 58 → ⊥) → (op ≡ 59 → ⊥) → (op ≡ 60 → ⊥) → (op ≡ 61 → ⊥) → 0 ≡ ruleOfOther op
+  unfolding ruleOfOther if_then_else_
+  other-none n7 n8 n9 n60 n61 = rw (ne-eqb op 57 n7, ne-eqb op 58 n8, ne-eqb op 59 n9, ne-eqb op 60 n60, ne-eqb op 61 n61)
+
+pub ruleset other-laws = (other-copy, other-load, other-store, other-branch, other-condition, other-none)
+
+module _ (s t : List ℕ) (fallback : Bool) (a m : List ℕ) (at ptr : ℕ) (z y x : Sizing) (a1 m1 a2 m2 : List ℕ) where
+  pub shift-law : sized y a1 m1 ≡ setSizeOfPair s t fallback a m at 6 4 ptr z → sized x a2 m2 ≡ setUnsized s t a1 m1 at 8 ptr y → sized x a2 m2 ≡ shift s t fallback a m at ptr z
+  unfolding shift thenS
+  shift-law p e = rw (← p) e
+
+  pub comparison-law : sized y a1 m1 ≡ setSizeOfPair s t fallback a m at 6 8 ptr z → sized x a2 m2 ≡ setOperand s t a1 m1 at 4 1 y → sized x a2 m2 ≡ comparison s t fallback a m at ptr z
+  unfolding comparison thenS
+  comparison-law p e = rw (← p) e
+
+pub bool-not-law : (s t a m a1 m1 a2 m2 : List ℕ) (at : ℕ) (z y x : Sizing) → sized y a1 m1 ≡ setOperand s t a m at 6 1 z → sized x a2 m2 ≡ setOperand s t a1 m1 at 4 1 y → sized x a2 m2 ≡ boolNot s t a m at z
+unfolding boolNot thenS
+bool-not-law s t a m a1 m1 a2 m2 at z y x p e = rw (← p) e
+
+pub branch-law : (s t a m a1 m1 a2 m2 : List ℕ) (at ptr : ℕ) (z y x : Sizing) → sized y a1 m1 ≡ setOperand s t a m at 6 1 z → sized x a2 m2 ≡ setUnsized s t a1 m1 at 8 ptr y → sized x a2 m2 ≡ branch s t a m at ptr z
+unfolding branch thenS
+branch-law s t a m a1 m1 a2 m2 at ptr z y x p e = rw (← p) e
+
+module _ (s t : List ℕ) (rule : ℕ) (a m : List ℕ) (at ptr : ℕ) (z y : Sizing) (a1 m1 : List ℕ) where
+  pub few-not : rule ≡ 6 → sized y a1 m1 ≡ boolNot s t a m at z → sized y a1 m1 ≡ fewOperands s t rule a m at ptr z
+  unfolding fewOperands if_then_else_
+  few-not h e = rw h e
+
+  pub few-nan : rule ≡ 7 → sized y a1 m1 ≡ setOperand s t a m at 4 1 z → sized y a1 m1 ≡ fewOperands s t rule a m at ptr z
+  unfolding fewOperands if_then_else_
+  few-nan h e = rw h e
+
+  pub few-pointer : rule ≡ 8 → sized y a1 m1 ≡ setOperand s t a m at 6 ptr z → sized y a1 m1 ≡ fewOperands s t rule a m at ptr z
+  unfolding fewOperands if_then_else_
+  few-pointer h e = rw h e
+
+  pub few-branch : rule ≡ 9 → sized y a1 m1 ≡ branch s t a m at ptr z → sized y a1 m1 ≡ fewOperands s t rule a m at ptr z
+  unfolding fewOperands if_then_else_
+  few-branch h e = rw h e
+
+  pub few-condition : rule ≡ 10 → sized y a1 m1 ≡ setOperand s t a m at 6 1 z → sized y a1 m1 ≡ fewOperands s t rule a m at ptr z
+  unfolding fewOperands if_then_else_
+  few-condition h e = rw h e
+
+pub few-none : (s t : List ℕ) (rule : ℕ) (a m : List ℕ) (at ptr : ℕ) (z : Sizing) → (rule ≡ 6 → ⊥) → (rule ≡ 7 → ⊥) → (rule ≡ 8 → ⊥) → (rule ≡ 9 → ⊥) → (rule ≡ 10 → ⊥) → sized z a m ≡ fewOperands s t rule a m at ptr z
+unfolding fewOperands if_then_else_
+few-none s t rule a m at ptr z n6 n7 n8 n9 n10 = rw (ne-eqb rule 6 n6, ne-eqb rule 7 n7, ne-eqb rule 8 n8, ne-eqb rule 9 n9, ne-eqb rule 10 n10)
+
+module _ (s t : List ℕ) (rule : ℕ) (fallback : Bool) (a m : List ℕ) (at ptr : ℕ) (z y : Sizing) (a1 m1 : List ℕ) where
+  pub apply-pair : rule ≡ 1 → sized y a1 m1 ≡ setSizeOfPair s t fallback a m at 6 4 ptr z → sized y a1 m1 ≡ applyRule s t rule fallback a m at ptr z
+  unfolding applyRule if_then_else_
+  apply-pair h e = rw h e
+
+  pub apply-shift : rule ≡ 2 → sized y a1 m1 ≡ shift s t fallback a m at ptr z → sized y a1 m1 ≡ applyRule s t rule fallback a m at ptr z
+  unfolding applyRule if_then_else_
+  apply-shift h e = rw h e
+
+  pub apply-triple : rule ≡ 3 → sized y a1 m1 ≡ setSizeOfTriple s t fallback a m at ptr z → sized y a1 m1 ≡ applyRule s t rule fallback a m at ptr z
+  unfolding applyRule if_then_else_
+  apply-triple h e = rw h e
+
+  pub apply-comparison : rule ≡ 4 → sized y a1 m1 ≡ comparison s t fallback a m at ptr z → sized y a1 m1 ≡ applyRule s t rule fallback a m at ptr z
+  unfolding applyRule if_then_else_
+  apply-comparison h e = rw h e
+
+  pub apply-boolean : rule ≡ 5 → sized y a1 m1 ≡ setThree s t a m at 1 z → sized y a1 m1 ≡ applyRule s t rule fallback a m at ptr z
+  unfolding applyRule if_then_else_
+  apply-boolean h e = rw h e
+
+  pub apply-few : (rule ≡ 1 → ⊥) → (rule ≡ 2 → ⊥) → (rule ≡ 3 → ⊥) → (rule ≡ 4 → ⊥) → (rule ≡ 5 → ⊥) → sized y a1 m1 ≡ fewOperands s t rule a m at ptr z → sized y a1 m1 ≡ applyRule s t rule fallback a m at ptr z
+  unfolding applyRule if_then_else_
+  apply-few n1 n2 n3 n4 n5 e = rw (ne-eqb rule 1 n1, ne-eqb rule 2 n2, ne-eqb rule 3 n3, ne-eqb rule 4 n4, ne-eqb rule 5 n5) e
+
+module _ (s t : List ℕ) (fallback : Bool) (a m : List ℕ) (at ptr : ℕ) (z : Sizing) (k : ℕ) (p : k ≡ getD a (at + 0) 0) where
+  pub update-other : (k ≡ 0 → ⊥) → sized z a m ≡ updateOperandSizes s t fallback a m at ptr z
+  unfolding updateOperandSizes if_then_else_
+  update-other h = rw (← p, ne-eqb k 0 h)
+
+  pub update-op : (op rule : ℕ) (y : Sizing) (a1 m1 : List ℕ) → k ≡ 0 → op ≡ getD a (at + 1) 0 → rule ≡ ruleOf op → sized y a1 m1 ≡ applyRule s t rule fallback a m at ptr z → sized y a1 m1 ≡ updateOperandSizes s t fallback a m at ptr z
+  unfolding updateOperandSizes if_then_else_
+  update-op op rule y a1 m1 h q o e = rw (← p, eq-eqb k 0 h, ← q, ← o) e
+
+pub ruleset rule-laws = (shift-law, comparison-law, bool-not-law, branch-law, few-not, few-nan, few-pointer, few-branch, few-condition, few-none, apply-pair, apply-shift, apply-triple, apply-comparison, apply-boolean, apply-few, update-other, update-op)

@@ -1,0 +1,242 @@
+// Temporaries and pushes. Actions are pushed behind room for the Builds of all subtables, up to the end of the lent list.
+use crate::rules::update_operand_sizes;
+use pcode::sizes::Sizing;
+use pcode::value::Value;
+use pcode::value::local;
+use pcode::value::put;
+use pcode::value::put_value;
+use pcode::value::value_at;
+ghost use mathlib.Core.Path.{_≡_};
+ghost use Prim.Native.Nat.{_+_};
+ghost use lib.Dec.{leb};
+ghost use Rattle.pcode.specs.Base.{listed};
+ghost use Rattle.pushing.specs.Pushes.{read, pushed, state, addTmp, outputOr, writeOperands, writeZeros, writeHead, write, push, updateLast, pushOp, opTo, op};
+
+// Where the list of actions ends, the temporaries made, and the sizing.
+pub struct State {
+    pub end: usize,
+    pub temporaries: usize,
+    pub sizing: Sizing,
+}
+
+// What a walk is given: the pointer size, the scope's number and where its parameters stand.
+pub struct Env {
+    pub pointer: u64,
+    pub scope: u64,
+    pub params: usize,
+    pub count: usize,
+}
+
+pub enum Read {
+    Value { v: Value, st: State },
+    No(u64),
+}
+
+pub enum Pushed {
+    Done(State),
+    No(u64),
+}
+
+// A temporary with its name, size and the number of its scope.
+pub fn add_tmp(m: &mut [u64], name: u64, size: u64, scope: u64, st: State) -> Read
+    ensures { λ r. ⌜ listed r (now (m .exit)) ≡ addTmp (now (m .entry)) name size scope st ⌝ }
+{
+    let n = st.temporaries;
+    if n < m.len() {
+        if n < 512 {
+            let z = st.sizing;
+            m[n] = name % 65536 + size % 65536 * 65536 + scope % 8192 * 1125899906842624;
+            return Read::Value {
+                v: local(6, n as u64),
+                st: State {
+                    end: st.end,
+                    temporaries: n + 1,
+                    sizing: z,
+                },
+            };
+        }
+    }
+    Read::No(13)
+}
+
+// The output given, else a fresh temporary of that size.
+pub fn output_or(m: &mut [u64], given: bool, to: Value, size: u64, st: State) -> Read
+    ensures { λ r. ⌜ listed r (now (m .exit)) ≡ outputOr (now (m .entry)) given to size st ⌝ }
+{
+    if given {
+        return Read::Value { v: to, st };
+    }
+    add_tmp(m, 65535, size, 0, st)
+}
+
+fn write_operands(a: &mut [u64], at: usize, out: Value, x: Value, y: Value)
+    ensures { λ _. ⌜ now (a .exit) ≡ writeOperands (now (a .entry)) at out x y ⌝ }
+{
+    put_value(a, at, 4, out);
+    put_value(a, at, 6, x);
+    put_value(a, at, 8, y);
+}
+
+fn write_zeros(a: &mut [u64], at: usize)
+    ensures { λ _. ⌜ now (a .exit) ≡ writeZeros (now (a .entry)) at ⌝ }
+{
+    for i in 10..24 {
+        put(a, at, i, 0);
+    }
+}
+
+fn write_head(a: &mut [u64], at: usize, kind: u64, op: u64, number: u64, count: u64)
+    ensures { λ _. ⌜ now (a .exit) ≡ writeHead (now (a .entry)) at kind op number count ⌝ }
+{
+    put(a, at, 0, kind);
+    put(a, at, 1, op);
+    put(a, at, 2, number);
+    put(a, at, 3, count);
+}
+
+// All 24 words of an action with at most two inputs.
+fn write(
+    a: &mut [u64],
+    at: usize,
+    kind: u64,
+    op: u64,
+    number: u64,
+    count: u64,
+    out: Value,
+    x: Value,
+    y: Value,
+)
+    ensures { λ _. ⌜ now (a .exit) ≡ write (now (a .entry)) at kind op number count out x y ⌝ }
+{
+    write_head(a, at, kind, op, number, count);
+    write_operands(a, at, out, x, y);
+    write_zeros(a, at);
+}
+
+fn has_room(len: usize, end: usize) -> bool
+    ensures { λ r. ⌜ r ≡ leb (end + 24) len ⌝ }
+{
+    if end <= len { 24 <= len - end } else { false }
+}
+
+// An action of any kind with at most two inputs, pushed as it is.
+pub fn push(
+    a: &mut [u64],
+    kind: u64,
+    op: u64,
+    number: u64,
+    count: u64,
+    out: Value,
+    x: Value,
+    y: Value,
+    st: State,
+) -> Pushed
+    ensures { λ r. ⌜ listed r (now (a .exit)) ≡ push (now (a .entry)) kind op number count out x y st ⌝ }
+{
+    let at = st.end;
+    if has_room(a.len(), at) {
+        let end = at + 24;
+        let z = st.sizing;
+        write(a, at, kind, op, number, count, out, x, y);
+        return Pushed::Done(State {
+            end,
+            temporaries: st.temporaries,
+            sizing: z,
+        });
+    }
+    Pushed::No(12)
+}
+
+// The rule of the action pushed last.
+fn update_last(
+    s: &[u8],
+    t: &[u16],
+    a: &mut [u64],
+    m: &mut [u64],
+    at: usize,
+    ptr: u64,
+    st: State,
+) -> State
+    ensures { λ r. ⌜ state r (now (a .exit)) (now (m .exit)) ≡ updateLast (now (s .entry)) (now (t .entry)) (now (a .entry)) (now (m .entry)) at ptr st ⌝ }
+{
+    let z = update_operand_sizes(s, t, false, a, m, at, ptr, st.sizing);
+    State {
+        end: st.end,
+        temporaries: st.temporaries,
+        sizing: z,
+    }
+}
+
+pub fn push_op(
+    s: &[u8],
+    t: &[u16],
+    a: &mut [u64],
+    m: &mut [u64],
+    e: Env,
+    op: u64,
+    number: u64,
+    count: u64,
+    out: Value,
+    x: Value,
+    y: Value,
+    st: State,
+) -> Pushed
+    ensures { λ r. ⌜ pushed r (now (a .exit)) (now (m .exit)) ≡ pushOp (now (s .entry)) (now (t .entry)) (now (a .entry)) (now (m .entry)) e op number count out x y st ⌝ }
+{
+    let at = st.end;
+    match push(a, 0, op, number, count, out, x, y, st) {
+        Pushed::No(n) => Pushed::No(n),
+        Pushed::Done(next) => Pushed::Done(update_last(s, t, a, m, at, e.pointer, next)),
+    }
+}
+
+// An operation with an output, and the output as its rule left it.
+pub fn op_to(
+    s: &[u8],
+    t: &[u16],
+    a: &mut [u64],
+    m: &mut [u64],
+    e: Env,
+    op: u64,
+    number: u64,
+    count: u64,
+    to: Value,
+    x: Value,
+    y: Value,
+    st: State,
+) -> Read
+    ensures { λ r. ⌜ read r (now (a .exit)) (now (m .exit)) ≡ opTo (now (s .entry)) (now (t .entry)) (now (a .entry)) (now (m .entry)) e op number count to x y st ⌝ }
+{
+    let at = st.end;
+    match push_op(s, t, a, m, e, op, number, count, to, x, y, st) {
+        Pushed::No(n) => Read::No(n),
+        Pushed::Done(next) => Read::Value {
+            v: value_at(a, at, 4),
+            st: next,
+        },
+    }
+}
+
+// The same, with a fresh temporary where no output is given.
+pub fn op(
+    s: &[u8],
+    t: &[u16],
+    a: &mut [u64],
+    m: &mut [u64],
+    e: Env,
+    code: u64,
+    number: u64,
+    count: u64,
+    given: bool,
+    to: Value,
+    x: Value,
+    y: Value,
+    st: State,
+) -> Read
+    ensures { λ r. ⌜ read r (now (a .exit)) (now (m .exit)) ≡ op (now (s .entry)) (now (t .entry)) (now (a .entry)) (now (m .entry)) e code number count given to x y st ⌝ }
+{
+    match output_or(m, given, to, 65535, st) {
+        Read::No(n) => Read::No(n),
+        Read::Value { v, st: next } => op_to(s, t, a, m, e, code, number, count, v, x, y, next),
+    }
+}

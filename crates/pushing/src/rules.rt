@@ -1,0 +1,207 @@
+// The size rule of each operation, applied in place to an action of the list.
+use pcode::sizes::Sizing;
+use pcode::sizes::set_operand;
+use pcode::sizes::set_size_of_pair;
+use pcode::sizes::set_size_of_triple;
+use pcode::sizes::set_three;
+use pcode::sizes::set_unsized;
+use pcode::value::get;
+ghost use mathlib.Core.Path.{_≡_};
+ghost use Rattle.pcode.specs.Sizes.{sized};
+ghost use Rattle.pushing.specs.Rules.{ruleOfOperator, ruleOfOneInput, ruleOfOther, ruleOf, shift, comparison, boolNot, branch, fewOperands, applyRule, updateOperandSizes};
+
+// Which rule an operation has: 0 none, 1 pair, 2 shift, 3 triple, 4 comparison, 5 boolean, 6 not, 7 nan, 8 pointer,
+// 9 branch, 10 condition. Operators first, in the order of their numbers.
+fn rule_of_operator(op: u64) -> u64
+    ensures { λ r. ⌜ r ≡ ruleOfOperator op ⌝ }
+{
+    if op < 7 {
+        return 3;
+    }
+    if op < 10 {
+        return 2;
+    }
+    if op < 16 {
+        return 4;
+    }
+    if op < 20 {
+        return 3;
+    }
+    if op < 24 {
+        return 4;
+    }
+    if op < 27 {
+        return 3;
+    }
+    if op < 30 {
+        return 5;
+    }
+    4
+}
+
+fn rule_of_one_input(op: u64) -> u64
+    ensures { λ r. ⌜ r ≡ ruleOfOneInput op ⌝ }
+{
+    if op < 39 {
+        return 0;
+    }
+    if op < 40 {
+        return 6;
+    }
+    if op < 42 {
+        return 1;
+    }
+    if op < 43 {
+        return 7;
+    }
+    if op < 45 {
+        return 0;
+    }
+    if op < 51 {
+        return 1;
+    }
+    0
+}
+
+fn rule_of_other(op: u64) -> u64
+    ensures { λ r. ⌜ r ≡ ruleOfOther op ⌝ }
+{
+    match op {
+        57 => 1,
+        58 => 8,
+        59 => 8,
+        60 => 9,
+        61 => 10,
+        _ => 0,
+    }
+}
+
+fn rule_of(op: u64) -> u64
+    ensures { λ r. ⌜ r ≡ ruleOf op ⌝ }
+{
+    if op < 33 {
+        return rule_of_operator(op);
+    }
+    if op < 57 {
+        return rule_of_one_input(op);
+    }
+    rule_of_other(op)
+}
+
+fn shift(
+    s: &[u8],
+    t: &[u16],
+    fallback: bool,
+    a: &mut [u64],
+    m: &mut [u64],
+    at: usize,
+    ptr: u64,
+    z: Sizing,
+) -> Sizing
+    ensures { λ r. ⌜ sized r (now (a .exit)) (now (m .exit)) ≡ shift (now (s .entry)) (now (t .entry)) fallback (now (a .entry)) (now (m .entry)) at ptr z ⌝ }
+{
+    let y = set_size_of_pair(s, t, fallback, a, m, at, 6, 4, ptr, z);
+    set_unsized(s, t, a, m, at, 8, ptr, y)
+}
+
+fn comparison(
+    s: &[u8],
+    t: &[u16],
+    fallback: bool,
+    a: &mut [u64],
+    m: &mut [u64],
+    at: usize,
+    ptr: u64,
+    z: Sizing,
+) -> Sizing
+    ensures { λ r. ⌜ sized r (now (a .exit)) (now (m .exit)) ≡ comparison (now (s .entry)) (now (t .entry)) fallback (now (a .entry)) (now (m .entry)) at ptr z ⌝ }
+{
+    let paired = set_size_of_pair(s, t, fallback, a, m, at, 6, 8, ptr, z);
+    set_operand(s, t, a, m, at, 4, 1, paired)
+}
+
+fn bool_not(s: &[u8], t: &[u16], a: &mut [u64], m: &mut [u64], at: usize, z: Sizing) -> Sizing
+    ensures { λ r. ⌜ sized r (now (a .exit)) (now (m .exit)) ≡ boolNot (now (s .entry)) (now (t .entry)) (now (a .entry)) (now (m .entry)) at z ⌝ }
+{
+    let y = set_operand(s, t, a, m, at, 6, 1, z);
+    set_operand(s, t, a, m, at, 4, 1, y)
+}
+
+fn branch(
+    s: &[u8],
+    t: &[u16],
+    a: &mut [u64],
+    m: &mut [u64],
+    at: usize,
+    ptr: u64,
+    z: Sizing,
+) -> Sizing
+    ensures { λ r. ⌜ sized r (now (a .exit)) (now (m .exit)) ≡ branch (now (s .entry)) (now (t .entry)) (now (a .entry)) (now (m .entry)) at ptr z ⌝ }
+{
+    let y = set_operand(s, t, a, m, at, 6, 1, z);
+    set_unsized(s, t, a, m, at, 8, ptr, y)
+}
+
+fn few_operands(
+    s: &[u8],
+    t: &[u16],
+    rule: u64,
+    a: &mut [u64],
+    m: &mut [u64],
+    at: usize,
+    ptr: u64,
+    z: Sizing,
+) -> Sizing
+    ensures { λ r. ⌜ sized r (now (a .exit)) (now (m .exit)) ≡ fewOperands (now (s .entry)) (now (t .entry)) rule (now (a .entry)) (now (m .entry)) at ptr z ⌝ }
+{
+    match rule {
+        6 => bool_not(s, t, a, m, at, z),
+        7 => set_operand(s, t, a, m, at, 4, 1, z),
+        8 => set_operand(s, t, a, m, at, 6, ptr, z),
+        9 => branch(s, t, a, m, at, ptr, z),
+        10 => set_operand(s, t, a, m, at, 6, 1, z),
+        _ => z,
+    }
+}
+
+fn apply_rule(
+    s: &[u8],
+    t: &[u16],
+    rule: u64,
+    fallback: bool,
+    a: &mut [u64],
+    m: &mut [u64],
+    at: usize,
+    ptr: u64,
+    z: Sizing,
+) -> Sizing
+    ensures { λ r. ⌜ sized r (now (a .exit)) (now (m .exit)) ≡ applyRule (now (s .entry)) (now (t .entry)) rule fallback (now (a .entry)) (now (m .entry)) at ptr z ⌝ }
+{
+    match rule {
+        1 => set_size_of_pair(s, t, fallback, a, m, at, 6, 4, ptr, z),
+        2 => shift(s, t, fallback, a, m, at, ptr, z),
+        3 => set_size_of_triple(s, t, fallback, a, m, at, ptr, z),
+        4 => comparison(s, t, fallback, a, m, at, ptr, z),
+        5 => set_three(s, t, a, m, at, 1, z),
+        _ => few_operands(s, t, rule, a, m, at, ptr, z),
+    }
+}
+
+// The rule of the Op at a position; other actions are not sized here.
+pub fn update_operand_sizes(
+    s: &[u8],
+    t: &[u16],
+    fallback: bool,
+    a: &mut [u64],
+    m: &mut [u64],
+    at: usize,
+    ptr: u64,
+    z: Sizing,
+) -> Sizing
+    ensures { λ r. ⌜ sized r (now (a .exit)) (now (m .exit)) ≡ updateOperandSizes (now (s .entry)) (now (t .entry)) fallback (now (a .entry)) (now (m .entry)) at ptr z ⌝ }
+{
+    if get(a, at, 0) != 0 {
+        return z;
+    }
+    apply_rule(s, t, rule_of(get(a, at, 1)), fallback, a, m, at, ptr, z)
+}
