@@ -7,13 +7,17 @@ use native.Mathlib.Numerals.{add-one, one-add}
 use native.Mathlib.Omega.{arith}
 use lib.Dec.{lit<}
 use lib.Pow.{shl-exact}
-use lib.ListN.{length, getD, take, replicate, set, length-set}
+use lib.ListN.{length, getD, take, replicate, set, length-set, List·getD-eq-default}
 use lib.Seq.{take-all, take-suc-set}
 use Rattle.cells.specs.Le.{le16, le32, le64}
 
-pub pair-law : (s : List ℕ) (p i a b : ℕ) → (a ≡ getD s (p + i) 0) × (a < 256) → (b ≡ getD s (p + (i + 1)) 0) × (b < 256) → (a + 256 * b ≡ le16 s (p + i)) × (a + 256 * b < 65536)
+-- two bytes of which the second is past the end, or both
+pub last-law : (s : List ℕ) (p i a : ℕ) → (a ≡ getD s (p + i) 0) × (a < 256) → length s ≤ p + i + 1 → (a ≡ le16 s (p + i)) × (a < 65536)
 unfolding le16
-pair-law s p i a b h k = (rw (add-assoc p i 1, ← h .0, ← k .0), omega arith)
+last-law s p i a h l = let z = List·getD-eq-default s 0 {n = p + i + 1} l in (omega arith, omega arith)
+
+pub none-law : (s : List ℕ) (p i : ℕ) → length s ≤ p → (0 ≡ le16 s (p + i)) × (0 < 65536)
+none-law s p i l = last-law s p i 0 (sym (List·getD-eq-default s 0 {n = p + i} (omega arith)), lit< tt) (omega arith)
 
 pub quad-law : (s : List ℕ) (p i a b : ℕ) → (a ≡ le16 s (p + i)) × (a < 65536) → (b ≡ le16 s (p + (i + 2))) × (b < 65536) → (a + 65536 * b ≡ le32 s (p + i)) × (a + 65536 * b < 4294967296)
 unfolding le32

@@ -2,7 +2,7 @@
 // bounds to show. Numbers are little-endian, and `mask` has the low bits set.
 ghost use mathlib.Core.Path.{_≡_};
 ghost use mathlib.Core.List.{_++_};
-ghost use Prim.Native.Nat.{_+_, _-_, _<_, _^_};
+ghost use Prim.Native.Nat.{_+_, _-_, _≤_, _<_};
 ghost use lib.ListN.{length, getD, set, take, replicate};
 ghost use Rattle.cells.specs.Le.{le16, le32, le64};
 ghost use Rattle.cells.specs.Mask.{maskOf};
@@ -19,12 +19,26 @@ pub fn byte(s: &[u8], at: usize, i: usize) -> u64
     0
 }
 
-// The number of two bytes, i after a position.
-fn pair(s: &[u8], at: usize, i: usize) -> u64
+// The number of two bytes that are there.
+fn two(s: &[u8], i: usize) -> u64
+    requires { ⌜ i + 2 ≤ length (now s) ⌝ }
+    ensures { λ r. ⌜ (r ≡ le16 (now (s .entry)) i) × (r < 65536) ⌝ }
+{
+    s[i] as u64 + 256 * (s[i + 1] as u64)
+}
+
+// The number of two bytes, i after a position. Where the second is past the end, it is the first alone.
+pub fn u16_in(s: &[u8], at: usize, i: usize) -> u64
     requires { ⌜ i < 16 ⌝ }
     ensures { λ r. ⌜ (r ≡ le16 (now (s .entry)) (at + i)) × (r < 65536) ⌝ }
 {
-    byte(s, at, i) + 256 * byte(s, at, i + 1)
+    if at < s.len() {
+        if i + 1 < s.len() - at {
+            return two(s, at + i);
+        }
+        return byte(s, at, i);
+    }
+    0
 }
 
 // The number of four bytes, i after a position.
@@ -32,13 +46,13 @@ fn quad(s: &[u8], at: usize, i: usize) -> u64
     requires { ⌜ i < 8 ⌝ }
     ensures { λ r. ⌜ (r ≡ le32 (now (s .entry)) (at + i)) × (r < 4294967296) ⌝ }
 {
-    pair(s, at, i) + 65536 * pair(s, at, i + 2)
+    u16_in(s, at, i) + 65536 * u16_in(s, at, i + 2)
 }
 
 pub fn u16_at(s: &[u8], at: usize) -> u64
     ensures { λ r. ⌜ (r ≡ le16 (now (s .entry)) at) × (r < 65536) ⌝ }
 {
-    pair(s, at, 0)
+    u16_in(s, at, 0)
 }
 
 pub fn u32_at(s: &[u8], at: usize) -> u64
