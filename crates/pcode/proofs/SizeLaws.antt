@@ -10,8 +10,8 @@ use Rattle.cells.specs.Le.{le16}
 use Rattle.pcode.specs.declared.value.Value.{Value}
 use Rattle.pcode.specs.declared.sizes.Sizing.{Sizing}
 use Rattle.pcode.specs.Base.{if_then_else_, listed, thenL}
-use Rattle.pcode.specs.Values.{valueAt, putSize}
-use Rattle.pcode.specs.Sizes.{sized, thenS, entry, listSize, exportSizeOf, tmpSize, sizeOfLocal, sizeOf, sizeAt, error, sizeTemporary, settled, setOperand, setTwo, setThree, fallsBack, pairFallback, sharePair, setSizeOfPair, tripleFallsBack, tripleFallback, shareSize, allEqual, shareTriple, setSizeOfTriple, setUnsized}
+use Rattle.pcode.specs.Values.{valueOf, valueAt, putSize}
+use Rattle.pcode.specs.Sizes.{sized, thenS, entry, listSize, exportSizeOf, tmpSize, listedSize, sizeOfLocal, sizeOf, sizeAt, error, sizeTemporary, settled, setOperand, setTwo, setThree, fallsBack, pairFallback, sharePair, setSizeOfPair, tripleFallsBack, tripleFallback, shareSize, allEqual, shareTriple, setSizeOfTriple, setUnsized}
 
 pub list-size-law : (s t : List ℕ) (k i e r : ℕ) → e ≡ entry t k (i % 65536 * 4 + 2) → (r ≡ le16 s e) × (r < 65536) → r ≡ listSize s t k i
 unfolding listSize
@@ -21,41 +21,51 @@ pub export-size-law : (s t : List ℕ) (i x r : ℕ) → x ≡ listSize s t 8 i 
 unfolding exportSizeOf
 export-size-law s t i x r p h = rw (← p) h
 
-pub local-register : (s t m : List ℕ) (k n r : ℕ) → k ≡ 2 → r ≡ listSize s t 1 n → r ≡ sizeOfLocal s t m k n
-unfolding sizeOfLocal if_then_else_
-local-register s t m k n r z h = rw z h
+pub listed-register : (s t : List ℕ) (k n r : ℕ) → k ≡ 2 → r ≡ listSize s t 1 n → r ≡ listedSize s t k n
+unfolding listedSize if_then_else_
+listed-register s t k n r z h = rw z h
 
-pub local-field : (s t m : List ℕ) (k n r : ℕ) → k ≡ 3 → r ≡ listSize s t 7 n → r ≡ sizeOfLocal s t m k n
-unfolding sizeOfLocal if_then_else_
-local-field s t m k n r z h = rw z h
+pub listed-field : (s t : List ℕ) (k n r : ℕ) → k ≡ 3 → r ≡ listSize s t 7 n → r ≡ listedSize s t k n
+unfolding listedSize if_then_else_
+listed-field s t k n r z h = rw z h
 
-pub local-subtable : (s t m : List ℕ) (k n r : ℕ) → k ≡ 4 → r ≡ exportSizeOf s t n → r ≡ sizeOfLocal s t m k n
-unfolding sizeOfLocal if_then_else_
-local-subtable s t m k n r z h = rw z h
+pub listed-subtable : (s t : List ℕ) (k n r : ℕ) → k ≡ 4 → r ≡ exportSizeOf s t n → r ≡ listedSize s t k n
+unfolding listedSize if_then_else_
+listed-subtable s t k n r z h = rw z h
 
-pub local-reference : (s t m : List ℕ) (k n r : ℕ) → k ≡ 5 → r ≡ exportSizeOf s t n → r ≡ sizeOfLocal s t m k n
-unfolding sizeOfLocal if_then_else_
-local-reference s t m k n r z h = rw z h
+pub listed-reference : (s t : List ℕ) (k n r : ℕ) → k ≡ 5 → r ≡ exportSizeOf s t n → r ≡ listedSize s t k n
+unfolding listedSize if_then_else_
+listed-reference s t k n r z h = rw z h
 
-pub local-temporary : (s t m : List ℕ) (k n r : ℕ) → k ≡ 6 → r ≡ tmpSize m n → r ≡ sizeOfLocal s t m k n
-unfolding sizeOfLocal if_then_else_
-local-temporary s t m k n r z h = rw z h
-
-pub local-other : (s t m : List ℕ) (k n : ℕ) → (k ≡ 2 → ⊥) → (k ≡ 3 → ⊥) → (k ≡ 4 → ⊥) → (k ≡ 5 → ⊥) → (k ≡ 6 → ⊥) → 65535 ≡ sizeOfLocal s t m k n
-unfolding sizeOfLocal if_then_else_
-local-other s t m k n n2 n3 n4 n5 n6 = rw (ne-eqb k 2 n2, ne-eqb k 3 n3, ne-eqb k 4 n4, ne-eqb k 5 n5, ne-eqb k 6 n6)
+pub listed-other : (s t : List ℕ) (k n : ℕ) → (k ≡ 2 → ⊥) → (k ≡ 3 → ⊥) → (k ≡ 4 → ⊥) → (k ≡ 5 → ⊥) → 65535 ≡ listedSize s t k n
+unfolding listedSize if_then_else_
+listed-other s t k n n2 n3 n4 n5 = rw (ne-eqb k 2 n2, ne-eqb k 3 n3, ne-eqb k 4 n4, ne-eqb k 5 n5)
 
 pub size-of-own : (s t m : List ℕ) (v : Value) → (v .size ≡ 65535 → ⊥) → v .size ≡ sizeOf s t m v
 unfolding sizeOf if_then_else_
 size-of-own s t m v h = rw (ne-eqb (v .size) 65535 h)
 
-pub size-of-local : (s t m : List ℕ) (v : Value) (r : ℕ) → v .size ≡ 65535 → r ≡ sizeOfLocal s t m (v .kind) (v .number) → r ≡ sizeOf s t m v
-unfolding sizeOf if_then_else_
-size-of-local s t m v r h e = rw (eq-eqb (v .size) 65535 h) e
+pub size-of-temporary : (s t m : List ℕ) (v : Value) (r : ℕ) → v .size ≡ 65535 → v .kind ≡ 6 → r ≡ tmpSize m (v .number) → r ≡ sizeOf s t m v
+unfolding sizeOf sizeOfLocal if_then_else_
+size-of-temporary s t m v r h k e = rw (eq-eqb (v .size) 65535 h, eq-eqb (v .kind) 6 k) e
 
-pub size-at-law : (s t a m : List ℕ) (at i r : ℕ) (v : Value) → v ≡ valueAt a at i → r ≡ sizeOf s t m v → r ≡ sizeAt s t a m at i
-unfolding sizeAt
-size-at-law s t a m at i r v p h = rw (← p) h
+pub size-of-listed : (s t m : List ℕ) (v : Value) (r : ℕ) → v .size ≡ 65535 → (v .kind ≡ 6 → ⊥) → r ≡ listedSize s t (v .kind) (v .number) → r ≡ sizeOf s t m v
+unfolding sizeOf sizeOfLocal if_then_else_
+size-of-listed s t m v r h k e = rw (eq-eqb (v .size) 65535 h, ne-eqb (v .kind) 6 k) e
+
+-- the same of the value whose second word is w
+module _ (s t a m : List ℕ) (at i w : ℕ) (second : w ≡ getD a (at + (i + 1)) 0) where
+  pub size-at-own : (w / 16777216 % 65536 ≡ 65535 → ⊥) → w / 16777216 % 65536 ≡ sizeAt s t a m at i
+  unfolding sizeAt valueAt valueOf
+  size-at-own h = rw (← second) (size-of-own s t m (valueOf (getD a (at + i) 0) w) h)
+
+  pub size-at-temporary : (n r : ℕ) → w / 16777216 % 65536 ≡ 65535 → n ≡ getD a (at + i) 0 → w % 256 ≡ 6 → r ≡ tmpSize m n → r ≡ sizeAt s t a m at i
+  unfolding sizeAt valueAt valueOf
+  size-at-temporary n r h f k e = rw (← second, ← f) (size-of-temporary s t m (valueOf n w) r h k e)
+
+  pub size-at-listed : (n r : ℕ) → w / 16777216 % 65536 ≡ 65535 → n ≡ getD a (at + i) 0 → (w % 256 ≡ 6 → ⊥) → r ≡ listedSize s t (w % 256) n → r ≡ sizeAt s t a m at i
+  unfolding sizeAt valueAt valueOf
+  size-at-listed n r h f k e = rw (← second, ← f) (size-of-listed s t m (valueOf n w) r h k e)
 
 pub error-first : (z : Sizing) → z .errors ≡ 0 → record { begun = z .begun; errors = 1; first = z .begun } ≡ error z
 unfolding error if_then_else_
@@ -227,6 +237,6 @@ module _ (s t a m : List ℕ) (at i ptr : ℕ) (z : Sizing) (x : ℕ) (p : x ≡
   unfolding setUnsized if_then_else_
   unsized-kept h = rw (← p, ne-eqb x 65535 h)
 
-pub ruleset size-laws = (list-size-law, export-size-law, local-register, local-field, local-subtable, local-reference, local-temporary, local-other, size-of-own, size-of-local, size-at-law, error-first, error-more, temporary-other, temporary-sized, settle-unknown, settle-same, settle-subtable, settle-error, set-operand-law, set-two-law, set-three-law, falls-start, falls-next, falls-field, falls-constant, falls-not, all-equal-rest, all-equal-not)
+pub ruleset size-laws = (list-size-law, export-size-law, listed-register, listed-field, listed-subtable, listed-reference, listed-other, size-of-own, size-of-temporary, size-of-listed, size-at-own, size-at-temporary, size-at-listed, error-first, error-more, temporary-other, temporary-sized, settle-unknown, settle-same, settle-subtable, settle-error, set-operand-law, set-two-law, set-three-law, falls-start, falls-next, falls-field, falls-constant, falls-not, all-equal-rest, all-equal-not)
 
 pub ruleset share-laws = (pair-no-fallback, pair-falls-first, pair-falls-second, pair-falls-not, pair-unknown, pair-second, pair-same, pair-first, triple-falls-first, triple-falls-second, triple-falls-output, triple-no-fallback, triple-falls, triple-falls-not, triple-unknown, triple-same, triple-shared, share-first, share-second, share-output, unsized-set, unsized-kept)

@@ -32,15 +32,18 @@ exportSizeOf s t i = listSize s t 3 (listSize s t 8 i)
 unfoldable pub tmpSize : List ℕ → ℕ → ℕ
 tmpSize m i = getD m i 0 / 65536 % 65536
 
--- of a register, a field, a table export or a temporary
-unfoldable pub sizeOfLocal : List ℕ → List ℕ → List ℕ → ℕ → ℕ → ℕ
-sizeOfLocal s t m kind number =
+-- of a register, a field or a table export
+unfoldable pub listedSize : List ℕ → List ℕ → ℕ → ℕ → ℕ
+listedSize s t kind number =
     if eqb kind 2 then listSize s t 1 number
     else if eqb kind 3 then listSize s t 7 number
     else if eqb kind 4 then exportSizeOf s t number
     else if eqb kind 5 then exportSizeOf s t number
-    else if eqb kind 6 then tmpSize m number
     else 65535
+
+-- the same, or of a temporary
+unfoldable pub sizeOfLocal : List ℕ → List ℕ → List ℕ → ℕ → ℕ → ℕ
+sizeOfLocal s t m kind number = if eqb kind 6 then tmpSize m number else listedSize s t kind number
 
 -- the known size: its own, else that of its register, table export, field or temporary; 65,535 for none
 unfoldable pub sizeOf : List ℕ → List ℕ → List ℕ → Value → ℕ

@@ -1,12 +1,13 @@
 // Known sizes, and setting one: in the operand, in its temporary, or as a recorded error. In all of these s is the stream, t
 // the section's table, a the actions and m the temporaries.
 use crate::value::Value;
+use crate::value::get;
 use crate::value::put_size;
 use crate::value::value_at;
 ghost use mathlib.Core.Path.{_≡_};
 ghost use Prim.Native.Nat.{_<_};
 ghost use Rattle.pcode.specs.Base.{listed};
-ghost use Rattle.pcode.specs.Sizes.{sized, entry, listSize, exportSizeOf, tmpSize, sizeOfLocal, sizeOf, sizeAt, error, sizeTemporary, settled, setOperand, setTwo, setThree, fallsBack, pairFallback, setSizeOfPair, tripleFallsBack, tripleFallback, shareSize, allEqual, setSizeOfTriple, setUnsized};
+ghost use Rattle.pcode.specs.Sizes.{sized, entry, listSize, exportSizeOf, tmpSize, listedSize, sizeOf, sizeAt, error, sizeTemporary, settled, setOperand, setTwo, setThree, fallsBack, pairFallback, setSizeOfPair, tripleFallsBack, tripleFallback, shareSize, allEqual, setSizeOfTriple, setUnsized};
 
 // The ordinal of the statement begun last, the errors recorded and the first one's ordinal.
 pub struct Sizing {
@@ -42,16 +43,16 @@ fn tmp_size(m: &[u64], i: u64) -> u64
     cells::get(m, i as usize) / 65536 % 65536
 }
 
-// The size of a register, table export, field or temporary.
-fn size_of_local(s: &[u8], t: &[u16], m: &[u64], kind: u64, number: u64) -> u64
-    ensures { λ r. ⌜ r ≡ sizeOfLocal (now (s .entry)) (now (t .entry)) (now (m .entry)) kind number ⌝ }
+// The size of a register, table export or field. It is called from two places below, so that what is tested before it stays
+// small enough to be compiled into every place that asks for a size.
+fn listed_size(s: &[u8], t: &[u16], kind: u64, number: u64) -> u64
+    ensures { λ r. ⌜ r ≡ listedSize (now (s .entry)) (now (t .entry)) kind number ⌝ }
 {
     match kind {
         2 => list_size(s, t, 1, number),
         3 => list_size(s, t, 7, number),
         4 => export_size(s, t, number),
         5 => export_size(s, t, number),
-        6 => tmp_size(m, number),
         _ => 65535,
     }
 }
@@ -63,14 +64,26 @@ pub fn size_of(s: &[u8], t: &[u16], m: &[u64], v: Value) -> u64
     if v.size != 65535 {
         return v.size;
     }
-    size_of_local(s, t, m, v.kind, v.number)
+    if v.kind == 6 {
+        return tmp_size(m, v.number);
+    }
+    listed_size(s, t, v.kind, v.number)
 }
 
 fn size_at(s: &[u8], t: &[u16], a: &[u64], m: &[u64], at: usize, i: usize) -> u64
     requires { ⌜ i < 32 ⌝ }
     ensures { λ r. ⌜ r ≡ sizeAt (now (s .entry)) (now (t .entry)) (now (a .entry)) (now (m .entry)) at i ⌝ }
 {
-    size_of(s, t, m, value_at(a, at, i))
+    let w = get(a, at, i + 1);
+    let own = w / 16777216 % 65536;
+    if own != 65535 {
+        return own;
+    }
+    let number = get(a, at, i);
+    if w % 256 == 6 {
+        return tmp_size(m, number);
+    }
+    listed_size(s, t, w % 256, number)
 }
 
 pub fn error(z: Sizing) -> Sizing

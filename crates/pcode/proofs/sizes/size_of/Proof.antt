@@ -3,20 +3,30 @@ use Rattle.pcode.proofs.sizes.size_of.Statement.{statement}
 use Rattle.pcode.proofs.sizes.size_of.Tie as tie
 use Rattle.pcode.proofs.sizes.size_of.Reads as reads
 use Rattle.pcode.proofs.sizes.size_of.Lts as lts
-use Rattle.pcode.proofs.sizes.size_of_local.Reads as size-of-local-reads
+use Rattle.pcode.proofs.sizes.listed_size.Reads as listed-size-reads
+use Rattle.pcode.proofs.sizes.tmp_size.Reads as tmp-size-reads
 use Rattle.pcode.proofs.SizeLaws.{size-laws}
 
--- src/sizes.rt:64:9
+-- src/sizes.rt:65:9
 returns : tie.Need-returns
 returns c = search (size-laws, needs)
 
--- src/sizes.rt:66:5
-size-of-local-requires : tie.Need-size-of-local-requires
-size-of-local-requires c κs = search (size-laws, needs)
+-- src/sizes.rt:68:9
+tmp-size-requires : tie.Need-tmp-size-requires
+tmp-size-requires c κs = search (size-laws, needs)
 
--- src/sizes.rt:60:1
+-- src/sizes.rt:68:9
 returns-2 : tie.Need-returns-2
 returns-2 c = search (size-laws, needs)
 
+-- src/sizes.rt:70:5
+listed-size-requires : tie.Need-listed-size-requires
+listed-size-requires c κs = search (size-laws, needs)
+
+-- src/sizes.rt:61:1
+returns-3 : tie.Need-returns-3
+returns-3 c = search (size-laws, needs)
+
 pub size-of-spec : {M : Type 1} → statement M
-size-of-spec = tie.close (tie.spec returns size-of-local-requires returns-2)
+size-of-spec =
+    tie.close (tie.spec returns tmp-size-requires returns-2 listed-size-requires returns-3)

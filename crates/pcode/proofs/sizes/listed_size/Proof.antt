@@ -1,69 +1,58 @@
 use borrow.Author.Needs.{needs}
-use Rattle.pcode.proofs.sizes.size_of_local.Statement.{statement}
-use Rattle.pcode.proofs.sizes.size_of_local.Tie as tie
-use Rattle.pcode.proofs.sizes.size_of_local.Reads as reads
-use Rattle.pcode.proofs.sizes.size_of_local.Lts as lts
+use Rattle.pcode.proofs.sizes.listed_size.Statement.{statement}
+use Rattle.pcode.proofs.sizes.listed_size.Tie as tie
+use Rattle.pcode.proofs.sizes.listed_size.Reads as reads
+use Rattle.pcode.proofs.sizes.listed_size.Lts as lts
 use Rattle.pcode.proofs.sizes.export_size.Reads as export-size-reads
 use Rattle.pcode.proofs.sizes.list_size.Reads as list-size-reads
-use Rattle.pcode.proofs.sizes.tmp_size.Reads as tmp-size-reads
 use Rattle.pcode.proofs.SizeLaws.{size-laws}
 
--- src/sizes.rt:50:14
+-- src/sizes.rt:52:14
 list-size-requires : tie.Need-list-size-requires
 list-size-requires c κs = search (size-laws, needs)
 
--- src/sizes.rt:51:14
+-- src/sizes.rt:53:14
 list-size-requires-2 : tie.Need-list-size-requires-2
 list-size-requires-2 c κs = search (size-laws, needs)
 
--- src/sizes.rt:52:14
+-- src/sizes.rt:54:14
 export-size-requires : tie.Need-export-size-requires
 export-size-requires c κs = search (size-laws, needs)
 
--- src/sizes.rt:53:14
+-- src/sizes.rt:55:14
 export-size-requires-2 : tie.Need-export-size-requires-2
 export-size-requires-2 c κs = search (size-laws, needs)
 
--- src/sizes.rt:54:14
-tmp-size-requires : tie.Need-tmp-size-requires
-tmp-size-requires c κs = search (size-laws, needs)
-
--- src/sizes.rt:46:1
+-- src/sizes.rt:48:1
 returns : tie.Need-returns
 returns c = search (size-laws, needs)
 
--- src/sizes.rt:46:1
+-- src/sizes.rt:48:1
 returns-2 : tie.Need-returns-2
 returns-2 c = search (size-laws, needs)
 
--- src/sizes.rt:46:1
+-- src/sizes.rt:48:1
 returns-3 : tie.Need-returns-3
 returns-3 c = search (size-laws, needs)
 
--- src/sizes.rt:46:1
+-- src/sizes.rt:48:1
 returns-4 : tie.Need-returns-4
 returns-4 c = search (size-laws, needs)
 
--- src/sizes.rt:46:1
+-- src/sizes.rt:48:1
 returns-5 : tie.Need-returns-5
 returns-5 c = search (size-laws, needs)
 
--- src/sizes.rt:46:1
-returns-6 : tie.Need-returns-6
-returns-6 c = search (size-laws, needs)
-
-pub size-of-local-spec : {M : Type 1} → statement M
-size-of-local-spec =
+pub listed-size-spec : {M : Type 1} → statement M
+listed-size-spec =
     tie.close
     (tie.spec
     list-size-requires
     list-size-requires-2
     export-size-requires
     export-size-requires-2
-    tmp-size-requires
     returns
     returns-2
     returns-3
     returns-4
-    returns-5
-    returns-6)
+    returns-5)
