@@ -31,32 +31,67 @@ if-other x n r a b h e = rw (ne-eqb x n h) e
 
 pub ruleset chain-laws = (if-below, if-above, if-same, if-other)
 
--- the ends of the two long chains
+-- the ranges of the two long chains
 module _ (op : ℕ) where
+  pub operator-integer : op < 7 → 3 ≡ ruleOfOperator op
+  unfolding ruleOfOperator if_then_else_
+  operator-integer k = rw (lt-ltb op 7 k)
+
+  pub operator-shift : 7 ≤ op → op < 10 → 2 ≡ ruleOfOperator op
+  unfolding ruleOfOperator if_then_else_
+  operator-shift h k = rw (le-ltb op 7 h, lt-ltb op 10 k)
+
+  pub operator-compared : 10 ≤ op → op < 16 → 4 ≡ ruleOfOperator op
+  unfolding ruleOfOperator if_then_else_
+  operator-compared h k = rw (le-ltb op 7 (omega arith), le-ltb op 10 h, lt-ltb op 16 k)
+
+  pub operator-float : 16 ≤ op → op < 20 → 3 ≡ ruleOfOperator op
+  unfolding ruleOfOperator if_then_else_
+  operator-float h k = rw (le-ltb op 7 (omega arith), le-ltb op 10 (omega arith), le-ltb op 16 h, lt-ltb op 20 k)
+
+  pub operator-float-compared : 20 ≤ op → op < 24 → 4 ≡ ruleOfOperator op
+  unfolding ruleOfOperator if_then_else_
+  operator-float-compared h k = rw (le-ltb op 7 (omega arith), le-ltb op 10 (omega arith), le-ltb op 16 (omega arith), le-ltb op 20 h, lt-ltb op 24 k)
+
   pub operator-logic : 24 ≤ op → op < 27 → 3 ≡ ruleOfOperator op
   unfolding ruleOfOperator if_then_else_
-  operator-logic h k =
-      rw (le-ltb op 7 (omega arith), le-ltb op 10 (omega arith), le-ltb op 16 (omega arith), le-ltb op 20 (omega arith), le-ltb op 24 h, lt-ltb op 27 k)
+  operator-logic h k = rw (le-ltb op 7 (omega arith), le-ltb op 10 (omega arith), le-ltb op 16 (omega arith), le-ltb op 20 (omega arith), le-ltb op 24 h, lt-ltb op 27 k)
 
   pub operator-boolean : 27 ≤ op → op < 30 → 5 ≡ ruleOfOperator op
   unfolding ruleOfOperator if_then_else_
-  operator-boolean h k =
-      rw (le-ltb op 7 (omega arith), le-ltb op 10 (omega arith), le-ltb op 16 (omega arith), le-ltb op 20 (omega arith), le-ltb op 24 (omega arith), le-ltb op 27 h, lt-ltb op 30 k)
+  operator-boolean h k = rw (le-ltb op 7 (omega arith), le-ltb op 10 (omega arith), le-ltb op 16 (omega arith), le-ltb op 20 (omega arith), le-ltb op 24 (omega arith), le-ltb op 27 h, lt-ltb op 30 k)
 
   pub operator-carry : 30 ≤ op → 4 ≡ ruleOfOperator op
   unfolding ruleOfOperator if_then_else_
-  operator-carry h =
-      rw (le-ltb op 7 (omega arith), le-ltb op 10 (omega arith), le-ltb op 16 (omega arith), le-ltb op 20 (omega arith), le-ltb op 24 (omega arith), le-ltb op 27 (omega arith), le-ltb op 30 h)
+  operator-carry h = rw (le-ltb op 7 (omega arith), le-ltb op 10 (omega arith), le-ltb op 16 (omega arith), le-ltb op 20 (omega arith), le-ltb op 24 (omega arith), le-ltb op 27 (omega arith), le-ltb op 30 h)
+
+  pub one-below : op < 39 → 0 ≡ ruleOfOneInput op
+  unfolding ruleOfOneInput if_then_else_
+  one-below k = rw (lt-ltb op 39 k)
+
+  pub one-not : 39 ≤ op → op < 40 → 6 ≡ ruleOfOneInput op
+  unfolding ruleOfOneInput if_then_else_
+  one-not h k = rw (le-ltb op 39 h, lt-ltb op 40 k)
+
+  pub one-integer : 40 ≤ op → op < 42 → 1 ≡ ruleOfOneInput op
+  unfolding ruleOfOneInput if_then_else_
+  one-integer h k = rw (le-ltb op 39 (omega arith), le-ltb op 40 h, lt-ltb op 42 k)
+
+  pub one-nan : 42 ≤ op → op < 43 → 7 ≡ ruleOfOneInput op
+  unfolding ruleOfOneInput if_then_else_
+  one-nan h k = rw (le-ltb op 39 (omega arith), le-ltb op 40 (omega arith), le-ltb op 42 h, lt-ltb op 43 k)
+
+  pub one-extension : 43 ≤ op → op < 45 → 0 ≡ ruleOfOneInput op
+  unfolding ruleOfOneInput if_then_else_
+  one-extension h k = rw (le-ltb op 39 (omega arith), le-ltb op 40 (omega arith), le-ltb op 42 (omega arith), le-ltb op 43 h, lt-ltb op 45 k)
 
   pub one-float : 45 ≤ op → op < 51 → 1 ≡ ruleOfOneInput op
   unfolding ruleOfOneInput if_then_else_
-  one-float h k =
-      rw (le-ltb op 39 (omega arith), le-ltb op 40 (omega arith), le-ltb op 42 (omega arith), le-ltb op 43 (omega arith), le-ltb op 45 h, lt-ltb op 51 k)
+  one-float h k = rw (le-ltb op 39 (omega arith), le-ltb op 40 (omega arith), le-ltb op 42 (omega arith), le-ltb op 43 (omega arith), le-ltb op 45 h, lt-ltb op 51 k)
 
   pub one-conversion : 51 ≤ op → 0 ≡ ruleOfOneInput op
   unfolding ruleOfOneInput if_then_else_
-  one-conversion h =
-      rw (le-ltb op 39 (omega arith), le-ltb op 40 (omega arith), le-ltb op 42 (omega arith), le-ltb op 43 (omega arith), le-ltb op 45 (omega arith), le-ltb op 51 h)
+  one-conversion h = rw (le-ltb op 39 (omega arith), le-ltb op 40 (omega arith), le-ltb op 42 (omega arith), le-ltb op 43 (omega arith), le-ltb op 45 (omega arith), le-ltb op 51 h)
 
   pub other-copy : op ≡ 57 → 1 ≡ ruleOfOther op
   unfolding ruleOfOther if_then_else_

@@ -15,52 +15,28 @@ ghost use Rattle.pushing.specs.Rules.{ruleOfOperator, ruleOfOneInput, ru
 fn rule_of_operator(op: u64) -> u64
     ensures { λ r. ⌜ r ≡ ruleOfOperator op ⌝ }
 {
-    if op < 7 {
-        return 3;
+    match op {
+        0..=6 => 3,
+        7..=9 => 2,
+        10..=15 => 4,
+        16..=19 => 3,
+        20..=23 => 4,
+        24..=26 => 3,
+        27..=29 => 5,
+        _ => 4,
     }
-    if op < 10 {
-        return 2;
-    }
-    if op < 16 {
-        return 4;
-    }
-    if op < 20 {
-        return 3;
-    }
-    if op < 24 {
-        return 4;
-    }
-    if op < 27 {
-        return 3;
-    }
-    if op < 30 {
-        return 5;
-    }
-    4
 }
 
 fn rule_of_one_input(op: u64) -> u64
     ensures { λ r. ⌜ r ≡ ruleOfOneInput op ⌝ }
 {
-    if op < 39 {
-        return 0;
+    match op {
+        39 => 6,
+        40..=41 => 1,
+        42 => 7,
+        45..=50 => 1,
+        _ => 0,
     }
-    if op < 40 {
-        return 6;
-    }
-    if op < 42 {
-        return 1;
-    }
-    if op < 43 {
-        return 7;
-    }
-    if op < 45 {
-        return 0;
-    }
-    if op < 51 {
-        return 1;
-    }
-    0
 }
 
 fn rule_of_other(op: u64) -> u64

@@ -2,41 +2,34 @@ use Rattle.pushing.proofs.rules.rule_of_one_input.Statement.{statement}
 use Rattle.pushing.proofs.rules.rule_of_one_input.Tie as tie
 use Rattle.pushing.proofs.rules.rule_of_one_input.Reads as reads
 use Rattle.pushing.proofs.rules.rule_of_one_input.Lts as lts
-use Rattle.pushing.proofs.RuleLaws.{chain-laws, one-float, one-conversion}
-use borrow.Author.Needs.{needs}
-use Rattle.pushing.specs.Rules.{ruleOfOneInput}
 use native.Mathlib.Omega.{arith}
+use Rattle.pushing.proofs.RuleLaws.{one-below, one-not, one-integer, one-nan, one-extension, one-float, one-conversion}
 
--- src/rules.rt:46:9
+-- src/rules.rt:30:1
 returns : tie.Need-returns
-unfolding ruleOfOneInput
-returns c = search (chain-laws, needs)
+returns c = one-not _ (omega arith) (omega arith)
 
--- src/rules.rt:49:9
+-- src/rules.rt:30:1
 returns-2 : tie.Need-returns-2
-unfolding ruleOfOneInput
-returns-2 c = search (chain-laws, needs)
+returns-2 c = one-nan _ (omega arith) (omega arith)
 
--- src/rules.rt:52:9
+-- src/rules.rt:30:1
 returns-3 : tie.Need-returns-3
-unfolding ruleOfOneInput
-returns-3 c = search (chain-laws, needs)
+returns-3 c = one-integer _ (omega arith) (omega arith)
 
--- src/rules.rt:55:9
+-- src/rules.rt:30:1
 returns-4 : tie.Need-returns-4
-unfolding ruleOfOneInput
-returns-4 c = search (chain-laws, needs)
+returns-4 c = one-float _ (omega arith) (omega arith)
 
--- src/rules.rt:58:9
+-- src/rules.rt:30:1
 returns-5 : tie.Need-returns-5
-unfolding ruleOfOneInput
-returns-5 c = search (chain-laws, needs)
+returns-5 c = one-below _ (omega arith)
 
--- src/rules.rt:61:9
+-- src/rules.rt:30:1
 returns-6 : tie.Need-returns-6
-returns-6 c = one-float _ (omega arith) (omega arith)
+returns-6 c = one-extension _ (omega arith) (omega arith)
 
--- src/rules.rt:42:1
+-- src/rules.rt:30:1
 returns-7 : tie.Need-returns-7
 returns-7 c = one-conversion _ (omega arith)
 
