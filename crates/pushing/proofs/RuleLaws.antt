@@ -1,16 +1,16 @@
 -- One law for each way out of the size rules.
-use mathlib.Core.Path.{_≡_}
-use mathlib.Core.Bool.{Bool}
+use mathlib.Core.Path.{_≡_, refl, sym, _∙_}
+use mathlib.Core.Bool.{Bool, true, false}
 use mathlib.Core.List.{List}
 use Prim.Native.Nat.{ℕ, _+_, _≤_, _<_}
 use native.Mathlib.Omega.{arith}
 use lib.ListN.{getD}
 use lib.Dec.{eqb, ltb}
-use borrow.Author.Tests.{eq-eqb, ne-eqb, lt-ltb, le-ltb}
+use borrow.Author.Tests.{eq-eqb, ne-eqb, eqb-true, lt-ltb, le-ltb}
 use Rattle.pcode.specs.declared.sizes.Sizing.{Sizing}
 use Rattle.pcode.specs.Base.{if_then_else_}
 use Rattle.pcode.specs.Sizes.{sized, thenS, setOperand, setThree, setSizeOfPair, setSizeOfTriple, setUnsized}
-use Rattle.pushing.specs.Rules.{ruleOfOperator, ruleOfOneInput, ruleOfOther, ruleOf, shift, comparison, boolNot, branch, fewOperands, applyRule, updateOperandSizes}
+use Rattle.pushing.specs.Rules.{ruleOfOperator, ruleOfOneInput, ruleOfOther, ruleOf, shift, comparison, pairs, partner, pairRule, boolNot, branch, fewOperands, applyRule, updateOperandSizes}
 
 -- the steps of a chain of tests
 pub if-below : {A : Type 0} (x n : ℕ) (r a b : A) → x < n → r ≡ a → r ≡ (if ltb x n then a else b)
@@ -119,14 +119,56 @@ module _ (op : ℕ) where
 
 pub ruleset other-laws = (other-copy, other-load, other-store, other-branch, other-condition, other-none)
 
-module _ (s t : List ℕ) (fallback : Bool) (a m : List ℕ) (at ptr : ℕ) (z y x : Sizing) (a1 m1 a2 m2 : List ℕ) where
-  pub shift-law : sized y a1 m1 ≡ setSizeOfPair s t fallback a m at 6 4 ptr z → sized x a2 m2 ≡ setUnsized s t a1 m1 at 8 ptr y → sized x a2 m2 ≡ shift s t fallback a m at ptr z
-  unfolding shift thenS
-  shift-law p e = rw (← p) e
+module _ (rule : ℕ) where
+  pub pairs-equal : rule ≡ 1 → true ≡ pairs rule
+  unfolding pairs if_then_else_
+  pairs-equal h = rw h
 
-  pub comparison-law : sized y a1 m1 ≡ setSizeOfPair s t fallback a m at 6 8 ptr z → sized x a2 m2 ≡ setOperand s t a1 m1 at 4 1 y → sized x a2 m2 ≡ comparison s t fallback a m at ptr z
-  unfolding comparison thenS
-  comparison-law p e = rw (← p) e
+  pub pairs-shift : rule ≡ 2 → true ≡ pairs rule
+  unfolding pairs if_then_else_
+  pairs-shift h = rw h
+
+  pub pairs-compared : rule ≡ 4 → true ≡ pairs rule
+  unfolding pairs if_then_else_
+  pairs-compared h = rw h
+
+  pub pairs-not : (rule ≡ 1 → ⊥) → (rule ≡ 2 → ⊥) → (rule ≡ 4 → ⊥) → false ≡ pairs rule
+  unfolding pairs if_then_else_
+  pairs-not n1 n2 n4 = rw (ne-eqb rule 1 n1, ne-eqb rule 2 n2, ne-eqb rule 4 n4)
+
+  -- one that is not among them
+  pub no-pair : (b : Bool) → b ≡ pairs rule → b ≡ false → (rule ≡ 1 → ⊥) × ((rule ≡ 2 → ⊥) × (rule ≡ 4 → ⊥))
+  no-pair b e h = (λ k. clash (pairs-equal k), (λ k. clash (pairs-shift k), λ k. clash (pairs-compared k)))
+    where
+      clash : true ≡ pairs rule → ⊥
+      clash p = absurd (let z : true ≡ false = p ∙ sym e ∙ h in let y : _≡_ {A = ℕ} 0 1 = cc in omega arith)
+
+pub partner-second : (rule : ℕ) → rule ≡ 4 → 8 ≡ partner rule
+unfolding partner if_then_else_
+partner-second rule h = rw h
+
+pub partner-output : (rule : ℕ) → (rule ≡ 4 → ⊥) → 4 ≡ partner rule
+unfolding partner if_then_else_
+partner-output rule h = rw (ne-eqb rule 4 h)
+
+module _ (s t : List ℕ) (rule : ℕ) (fallback : Bool) (a m : List ℕ) (at ptr j : ℕ) (z y : Sizing) (a1 m1 : List ℕ) (is : (j ≡ partner rule) × (j < 32)) (paired : sized y a1 m1 ≡ setSizeOfPair s t fallback a m at 6 j ptr z) where
+  pub pair-shift : (x : Sizing) (a2 m2 : List ℕ) → rule ≡ 2 → sized x a2 m2 ≡ setUnsized s t a1 m1 at 8 ptr y → sized x a2 m2 ≡ pairRule s t rule fallback a m at ptr z
+  unfolding pairRule shift thenS if_then_else_
+  pair-shift x a2 m2 h e =
+      let four : j ≡ 4 = is .0 ∙ sym (partner-output rule (λ k. omega arith)) in
+      rw (h, ← (rw four at paired)) e
+
+  pub pair-comparison : (x : Sizing) (a2 m2 : List ℕ) → rule ≡ 4 → sized x a2 m2 ≡ setOperand s t a1 m1 at 4 1 y → sized x a2 m2 ≡ pairRule s t rule fallback a m at ptr z
+  unfolding pairRule comparison thenS if_then_else_
+  pair-comparison x a2 m2 h e =
+      let eight : j ≡ 8 = is .0 ∙ sym (partner-second rule h) in
+      rw (h, ← (rw eight at paired)) e
+
+  pub pair-alone : (rule ≡ 2 → ⊥) → (rule ≡ 4 → ⊥) → sized y a1 m1 ≡ pairRule s t rule fallback a m at ptr z
+  unfolding pairRule if_then_else_
+  pair-alone n2 n4 =
+      let four : j ≡ 4 = is .0 ∙ sym (partner-output rule n4) in
+      rw (ne-eqb rule 2 n2, ne-eqb rule 4 n4) (rw four at paired)
 
 pub bool-not-law : (s t a m a1 m1 a2 m2 : List ℕ) (at : ℕ) (z y x : Sizing) → sized y a1 m1 ≡ setOperand s t a m at 6 1 z → sized x a2 m2 ≡ setOperand s t a1 m1 at 4 1 y → sized x a2 m2 ≡ boolNot s t a m at z
 unfolding boolNot thenS
@@ -162,29 +204,30 @@ unfolding fewOperands if_then_else_
 few-none s t rule a m at ptr z n6 n7 n8 n9 n10 = rw (ne-eqb rule 6 n6, ne-eqb rule 7 n7, ne-eqb rule 8 n8, ne-eqb rule 9 n9, ne-eqb rule 10 n10)
 
 module _ (s t : List ℕ) (rule : ℕ) (fallback : Bool) (a m : List ℕ) (at ptr : ℕ) (z y : Sizing) (a1 m1 : List ℕ) where
-  pub apply-pair : rule ≡ 1 → sized y a1 m1 ≡ setSizeOfPair s t fallback a m at 6 4 ptr z → sized y a1 m1 ≡ applyRule s t rule fallback a m at ptr z
-  unfolding applyRule if_then_else_
-  apply-pair h e = rw h e
+  pub apply-pair : (b : Bool) → b ≡ pairs rule → b ≡ true → sized y a1 m1 ≡ pairRule s t rule fallback a m at ptr z → sized y a1 m1 ≡ applyRule s t rule fallback a m at ptr z
+  unfolding applyRule pairRule pairs if_then_else_
+  apply-pair b f h e = go (eqb rule 1) (eqb rule 2) (eqb rule 4) refl refl refl
+    where
+      is : pairs rule ≡ true
+      is = sym f ∙ h
 
-  pub apply-shift : rule ≡ 2 → sized y a1 m1 ≡ shift s t fallback a m at ptr z → sized y a1 m1 ≡ applyRule s t rule fallback a m at ptr z
-  unfolding applyRule if_then_else_
-  apply-shift h e = rw h e
+      go : (x w v : Bool) → eqb rule 1 ≡ x → eqb rule 2 ≡ w → eqb rule 4 ≡ v → sized y a1 m1 ≡ applyRule s t rule fallback a m at ptr z
+      go true w v p q r = let k = eqb-true rule 1 p in rw k (rw k at e)
+      go false true v p q r = let k = eqb-true rule 2 q in rw k (rw k at e)
+      go false false true p q r = let k = eqb-true rule 4 r in rw k (rw k at e)
+      go false false false p q r = absurd (let z : false ≡ true = rw (p, q, r) at is in let u : _≡_ {A = ℕ} 0 1 = cc in omega arith)
 
   pub apply-triple : rule ≡ 3 → sized y a1 m1 ≡ setSizeOfTriple s t fallback a m at ptr z → sized y a1 m1 ≡ applyRule s t rule fallback a m at ptr z
   unfolding applyRule if_then_else_
   apply-triple h e = rw h e
 
-  pub apply-comparison : rule ≡ 4 → sized y a1 m1 ≡ comparison s t fallback a m at ptr z → sized y a1 m1 ≡ applyRule s t rule fallback a m at ptr z
-  unfolding applyRule if_then_else_
-  apply-comparison h e = rw h e
-
   pub apply-boolean : rule ≡ 5 → sized y a1 m1 ≡ setThree s t a m at 1 z → sized y a1 m1 ≡ applyRule s t rule fallback a m at ptr z
   unfolding applyRule if_then_else_
   apply-boolean h e = rw h e
 
-  pub apply-few : (rule ≡ 1 → ⊥) → (rule ≡ 2 → ⊥) → (rule ≡ 3 → ⊥) → (rule ≡ 4 → ⊥) → (rule ≡ 5 → ⊥) → sized y a1 m1 ≡ fewOperands s t rule a m at ptr z → sized y a1 m1 ≡ applyRule s t rule fallback a m at ptr z
+  pub apply-few : (b : Bool) → b ≡ pairs rule → b ≡ false → (rule ≡ 3 → ⊥) → (rule ≡ 5 → ⊥) → sized y a1 m1 ≡ fewOperands s t rule a m at ptr z → sized y a1 m1 ≡ applyRule s t rule fallback a m at ptr z
   unfolding applyRule if_then_else_
-  apply-few n1 n2 n3 n4 n5 e = rw (ne-eqb rule 1 n1, ne-eqb rule 2 n2, ne-eqb rule 3 n3, ne-eqb rule 4 n4, ne-eqb rule 5 n5) e
+  apply-few b f h n3 n5 e = let n = no-pair rule b f h in rw (ne-eqb rule 1 (n .0), ne-eqb rule 2 (n .1 .0), ne-eqb rule 3 n3, ne-eqb rule 4 (n .1 .1), ne-eqb rule 5 n5) e
 
 module _ (s t : List ℕ) (fallback : Bool) (a m : List ℕ) (at ptr : ℕ) (z : Sizing) (k : ℕ) (p : k ≡ getD a (at + 0) 0) where
   pub update-other : (k ≡ 0 → ⊥) → sized z a m ≡ updateOperandSizes s t fallback a m at ptr z
@@ -195,4 +238,4 @@ module _ (s t : List ℕ) (fallback : Bool) (a m : List ℕ) (at ptr : ℕ) (z :
   unfolding updateOperandSizes if_then_else_
   update-op op rule y a1 m1 h q o e = rw (← p, eq-eqb k 0 h, ← q, ← o) e
 
-pub ruleset rule-laws = (shift-law, comparison-law, bool-not-law, branch-law, few-not, few-nan, few-pointer, few-branch, few-condition, few-none, apply-pair, apply-shift, apply-triple, apply-comparison, apply-boolean, apply-few, update-other, update-op)
+pub ruleset rule-laws = (pairs-equal, pairs-shift, pairs-compared, pairs-not, partner-second, partner-output, pair-shift, pair-comparison, pair-alone, bool-not-law, branch-law, few-not, few-nan, few-pointer, few-branch, few-condition, few-none, apply-pair, apply-triple, apply-boolean, apply-few, update-other, update-op)

@@ -1,6 +1,6 @@
 -- The size rule of each operation, applied to the action at a position.
 use Prim.Native.Nat.{ℕ, _+_}
-use mathlib.Core.Bool.{Bool}
+use mathlib.Core.Bool.{Bool, true, false}
 use mathlib.Core.List.{List}
 use lib.ListN.{getD}
 use lib.Dec.{eqb, ltb}
@@ -50,6 +50,21 @@ shift s t fallback a m at ptr z = thenS (setSizeOfPair s t fallback a m at 6 4 p
 
 unfoldable pub comparison : List ℕ → List ℕ → Bool → List ℕ → List ℕ → ℕ → ℕ → Sizing → Sized
 comparison s t fallback a m at ptr z = thenS (setSizeOfPair s t fallback a m at 6 8 ptr z) λ y b w. setOperand s t b w at 4 1 y
+
+-- the rules of a pair, of shifts and of comparisons
+unfoldable pub pairs : ℕ → Bool
+pairs rule = if eqb rule 1 then true else if eqb rule 2 then true else if eqb rule 4 then true else false
+
+-- the operand that has the size of the first input
+unfoldable pub partner : ℕ → ℕ
+partner rule = if eqb rule 4 then 8 else 4
+
+-- any of them
+unfoldable pub pairRule : List ℕ → List ℕ → ℕ → Bool → List ℕ → List ℕ → ℕ → ℕ → Sizing → Sized
+pairRule s t rule fallback a m at ptr z =
+    if eqb rule 2 then shift s t fallback a m at ptr z
+    else if eqb rule 4 then comparison s t fallback a m at ptr z
+    else setSizeOfPair s t fallback a m at 6 4 ptr z
 
 unfoldable pub boolNot : List ℕ → List ℕ → List ℕ → List ℕ → ℕ → Sizing → Sized
 boolNot s t a m at z = thenS (setOperand s t a m at 6 1 z) λ y b w. setOperand s t b w at 4 1 y

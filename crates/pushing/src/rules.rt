@@ -7,8 +7,9 @@ use pcode::sizes::set_three;
 use pcode::sizes::set_unsized;
 use pcode::value::get;
 ghost use mathlib.Core.Path.{_≡_};
+ghost use Prim.Native.Nat.{_<_};
 ghost use Rattle.pcode.specs.Sizes.{sized};
-ghost use Rattle.pushing.specs.Rules.{ruleOfOperator, ruleOfOneInput, ruleOfOther, ruleOf, shift, comparison, boolNot, branch, fewOperands, applyRule, updateOperandSizes};
+ghost use Rattle.pushing.specs.Rules.{ruleOfOperator, ruleOfOneInput, ruleOfOther, ruleOf, pairs, partner, pairRule, boolNot, branch, fewOperands, applyRule, updateOperandSizes};
 
 // Which rule an operation has: 0 none, 1 pair, 2 shift, 3 triple, 4 comparison, 5 boolean, 6 not, 7 nan, 8 pointer,
 // 9 branch, 10 condition. Operators first, in the order of their numbers.
@@ -64,25 +65,30 @@ fn rule_of(op: u64) -> u64
     rule_of_other(op)
 }
 
-fn shift(
-    s: &[u8],
-    t: &[u16],
-    fallback: bool,
-    a: &mut [u64],
-    m: &mut [u64],
-    at: usize,
-    ptr: u64,
-    z: Sizing,
-) -> Sizing
-    ensures { λ r. ⌜ sized r (now (a .exit)) (now (m .exit)) ≡ shift (now (s .entry)) (now (t .entry)) fallback (now (a .entry)) (now (m .entry)) at ptr z ⌝ }
+// Whether a rule is that of a pair, of shifts or of comparisons.
+fn pairs(rule: u64) -> bool
+    ensures { λ r. ⌜ r ≡ pairs rule ⌝ }
 {
-    let y = set_size_of_pair(s, t, fallback, a, m, at, 6, 4, ptr, z);
-    set_unsized(s, t, a, m, at, 8, ptr, y)
+    match rule {
+        1 => true,
+        2 => true,
+        4 => true,
+        _ => false,
+    }
 }
 
-fn comparison(
+// The operand that has the size of the first input: the second input of a comparison, else the output.
+fn partner(rule: u64) -> usize
+    ensures { λ r. ⌜ (r ≡ partner rule) × (r < 32) ⌝ }
+{
+    if rule == 4 { 8 } else { 4 }
+}
+
+// These three call `set_size_of_pair` from one place, so that it is compiled into it.
+fn pair_rule(
     s: &[u8],
     t: &[u16],
+    rule: u64,
     fallback: bool,
     a: &mut [u64],
     m: &mut [u64],
@@ -90,10 +96,14 @@ fn comparison(
     ptr: u64,
     z: Sizing,
 ) -> Sizing
-    ensures { λ r. ⌜ sized r (now (a .exit)) (now (m .exit)) ≡ comparison (now (s .entry)) (now (t .entry)) fallback (now (a .entry)) (now (m .entry)) at ptr z ⌝ }
+    ensures { λ r. ⌜ sized r (now (a .exit)) (now (m .exit)) ≡ pairRule (now (s .entry)) (now (t .entry)) rule fallback (now (a .entry)) (now (m .entry)) at ptr z ⌝ }
 {
-    let paired = set_size_of_pair(s, t, fallback, a, m, at, 6, 8, ptr, z);
-    set_operand(s, t, a, m, at, 4, 1, paired)
+    let y = set_size_of_pair(s, t, fallback, a, m, at, 6, partner(rule), ptr, z);
+    match rule {
+        2 => set_unsized(s, t, a, m, at, 8, ptr, y),
+        4 => set_operand(s, t, a, m, at, 4, 1, y),
+        _ => y,
+    }
 }
 
 fn bool_not(s: &[u8], t: &[u16], a: &mut [u64], m: &mut [u64], at: usize, z: Sizing) -> Sizing
@@ -153,11 +163,11 @@ fn apply_rule(
 ) -> Sizing
     ensures { λ r. ⌜ sized r (now (a .exit)) (now (m .exit)) ≡ applyRule (now (s .entry)) (now (t .entry)) rule fallback (now (a .entry)) (now (m .entry)) at ptr z ⌝ }
 {
+    if pairs(rule) {
+        return pair_rule(s, t, rule, fallback, a, m, at, ptr, z);
+    }
     match rule {
-        1 => set_size_of_pair(s, t, fallback, a, m, at, 6, 4, ptr, z),
-        2 => shift(s, t, fallback, a, m, at, ptr, z),
         3 => set_size_of_triple(s, t, fallback, a, m, at, ptr, z),
-        4 => comparison(s, t, fallback, a, m, at, ptr, z),
         5 => set_three(s, t, a, m, at, 1, z),
         _ => few_operands(s, t, rule, a, m, at, ptr, z),
     }
