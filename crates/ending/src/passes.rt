@@ -1,7 +1,6 @@
 // The two passes over the n actions from a position on: backward, then forward with fallback.
 use pcode::sizes::Sizing;
-use pcode::value::place;
-use pushing::rules::update_operand_sizes;
+use pushing::passes::pass;
 ghost use mathlib.Core.Path.{_≡_};
 ghost use Rattle.pcode.specs.Sizes.{sized};
 ghost use Rattle.ending.specs.Passes.{backwardPass, forwardPass};
@@ -18,13 +17,7 @@ pub fn backward_pass(
 ) -> Sizing
     ensures { λ r. ⌜ sized r (now (a .exit)) (now (m .exit)) ≡ backwardPass (now (s .entry)) (now (t .entry)) (now (a .entry)) (now (m .entry)) base n ptr z ⌝ }
 {
-    let mut z = z;
-    let mut i = n;
-    while 0 < i {
-        i -= 1;
-        z = update_operand_sizes(s, t, false, a, m, place(base, i), ptr, z);
-    }
-    z
+    pass(s, t, false, a, m, base, n, ptr, z)
 }
 
 pub fn forward_pass(
@@ -39,9 +32,5 @@ pub fn forward_pass(
 ) -> Sizing
     ensures { λ r. ⌜ sized r (now (a .exit)) (now (m .exit)) ≡ forwardPass (now (s .entry)) (now (t .entry)) (now (a .entry)) (now (m .entry)) base n ptr z ⌝ }
 {
-    let mut z = z;
-    for i in 0..n {
-        z = update_operand_sizes(s, t, true, a, m, place(base, i), ptr, z);
-    }
-    z
+    pass(s, t, true, a, m, base, n, ptr, z)
 }

@@ -16,7 +16,8 @@ use Rattle.pushing.specs.declared.push.Pushed.{Pushed}
 use Rattle.pcode.specs.Base.{if_then_else_, run, listed}
 use Rattle.pcode.specs.Values.{local, valueAt, putValue, zeroWord}
 use Rattle.pcode.specs.Sizes.{sized, thenS}
-use Rattle.pushing.specs.Rules.{updateOperandSizes}
+use Rattle.pushing.specs.Passes.{pass}
+use Rattle.pushing.proofs.PassLaws.{pass-one}
 use Rattle.pushing.specs.Pushes.{read, pushed, state, onPushed, onTmp, onPush, onState, withEnd, withTemporaries, withSizing, tmpWord, addTmp, outputOr, writeOperands, writeZeros, writeHead, write, push, updateLast, pushOp, opTo, op}
 use Rattle.pcode.proofs.LoopLaws.{run-end}
 
@@ -79,9 +80,9 @@ module _ (a : List ℕ) (kind op number count : ℕ) (out x y : Value) (st : Sta
   unfolding push if_then_else_
   push-full h = rw (← p, h)
 
-pub update-last-law : (s t a m a1 m1 : List ℕ) (at ptr : ℕ) (st : State) (z : Sizing) → sized z a1 m1 ≡ updateOperandSizes s t false a m at ptr (st .sizing) → state (withSizing z st) a1 m1 ≡ updateLast s t a m at ptr st
+pub update-last-law : (s t a m a1 m1 : List ℕ) (at ptr : ℕ) (st : State) (z : Sizing) → sized z a1 m1 ≡ pass s t false a m at 1 ptr (st .sizing) → state (withSizing z st) a1 m1 ≡ updateLast s t a m at ptr st
 unfolding updateLast thenS
-update-last-law s t a m a1 m1 at ptr st z e = rw (← e)
+update-last-law s t a m a1 m1 at ptr st z e = rw (← pass-one s t a m a1 m1 at ptr (st .sizing) z e)
 
 module _ (s t a m : List ℕ) (e : Env) (code number count : ℕ) (out x y : Value) (st : State) (r : Pushed) (a1 : List ℕ) (p : listed r a1 ≡ push a 0 code number count out x y st) where
   pub push-op-full : (n : ℕ) → r ≡ Pushed.No n → pushed (Pushed.No n) a1 m ≡ pushOp s t a m e code number count out x y st

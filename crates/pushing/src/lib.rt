@@ -1,3 +1,4 @@
-// The size rules of the operations, and pushing: actions, and the temporaries that they need.
+// The size rules of the operations, a pass of them over actions, and pushing: actions, and the temporaries that they need.
+pub mod passes;
 pub mod push;
 pub mod rules;

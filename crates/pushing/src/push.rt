@@ -1,5 +1,5 @@
 // Temporaries and pushes. Actions are pushed behind room for the Builds of all subtables, up to the end of the lent list.
-use crate::rules::update_operand_sizes;
+use crate::passes::pass;
 use pcode::sizes::Sizing;
 use pcode::value::Value;
 use pcode::value::local;
@@ -159,7 +159,7 @@ fn update_last(
 ) -> State
     ensures { λ r. ⌜ state r (now (a .exit)) (now (m .exit)) ≡ updateLast (now (s .entry)) (now (t .entry)) (now (a .entry)) (now (m .entry)) at ptr st ⌝ }
 {
-    let z = update_operand_sizes(s, t, false, a, m, at, ptr, st.sizing);
+    let z = pass(s, t, false, a, m, at, 1, ptr, st.sizing);
     State {
         end: st.end,
         temporaries: st.temporaries,

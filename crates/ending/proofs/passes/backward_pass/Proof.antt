@@ -1,74 +1,26 @@
+use borrow.Author.Needs.{needs}
 use Rattle.ending.proofs.passes.backward_pass.Statement.{statement}
 use Rattle.ending.proofs.passes.backward_pass.Tie as tie
 use Rattle.ending.proofs.passes.backward_pass.Reads as reads
 use Rattle.ending.proofs.passes.backward_pass.Lts as lts
-use Rattle.pushing.proofs.rules.update_operand_sizes.Reads as update-operand-sizes-reads
-use Rattle.pcode.proofs.value.place.Reads as place-reads
-use borrow.Author.Needs.{needs}
-use native.Mathlib.Omega.{arith}
-use mathlib.Core.Path.{_≡_, refl}
-use lib.ListN.{length}
-use mathlib.Core.Bool.{false}
-use Rattle.pcode.specs.Base.{runDown}
-use Rattle.pcode.specs.Sizes.{sized}
-use Rattle.ending.specs.Passes.{updateAction}
-use Rattle.pcode.proofs.LoopLaws.{down-again}
-use Rattle.ending.proofs.PassLaws.{update-action-law, backward-law}
+use Rattle.pushing.proofs.passes.pass.Reads as pass-reads
+use Rattle.ending.proofs.PassLaws.{pass-laws}
 
-abbrev Inv-loop : tie.InvT-loop
-Inv-loop s t a₀ m₀ base n ptr z₀ i₀ a m z i = (length a ≡ length a₀) × (length m ≡ length m₀) × (runDown i (updateAction s t false base ptr) (sized z a m) ≡ runDown n (updateAction s t false base ptr) (sized z₀ a₀ m₀))
+-- src/passes.rt:20:5
+pass-requires : tie.Need-pass-requires
+pass-requires c κs = search (pass-laws, needs)
 
-abbrev μ-loop : tie.MeasureT-loop
-μ-loop s t a₀ m₀ base n ptr z₀ i₀ a m z i = i
+-- src/passes.rt:8:1
+same-length : tie.Need-same-length
+same-length c = search (pass-laws, needs)
 
--- src/passes.rt:23:5
-loop-holds : tie.Need-loop-holds Inv-loop μ-loop
-loop-holds c = (refl, refl, refl)
+-- src/passes.rt:8:1
+same-length-2 : tie.Need-same-length-2
+same-length-2 c = search (pass-laws, needs)
 
--- src/passes.rt:24:9
-sub-i : tie.Need-sub-i Inv-loop μ-loop
-sub-i c = search needs
-
--- src/passes.rt:25:53
-place-requires : tie.Need-place-requires Inv-loop μ-loop
-place-requires c κs = search needs
-
--- src/passes.rt:25:9
-update-operand-sizes-requires : tie.Need-update-operand-sizes-requires Inv-loop μ-loop
-update-operand-sizes-requires c κs = search needs
-
--- src/passes.rt:23:5
-loop-less : tie.Need-loop-less Inv-loop μ-loop
-loop-less c = search needs
-
--- src/passes.rt:23:5
-loop-again : tie.Need-loop-again Inv-loop μ-loop
-loop-again c = (search needs, search needs, down-again _ _ _ _ _ (omega arith) (c .before .before .before .before .before .before .before .before .before .loop .inv .2) (update-action-law _ _ _ _ _ _ _ _ _ _ _ _ _ (c .before .before .before .before .before .place .ensures) (c .before .before .before .before .update-operand-sizes .ensures)))
-
--- src/passes.rt:9:1
-same-length : tie.Need-same-length Inv-loop μ-loop
-same-length c = search needs
-
--- src/passes.rt:9:1
-same-length-2 : tie.Need-same-length-2 Inv-loop μ-loop
-same-length-2 c = search needs
-
--- src/passes.rt:9:1
-returns : tie.Need-returns Inv-loop μ-loop
-returns c = backward-law _ _ _ _ _ _ _ _ _ _ _ _ (omega arith) (c .before .loop .inv .2)
+-- src/passes.rt:8:1
+returns : tie.Need-returns
+returns c = search (pass-laws, needs)
 
 pub backward-pass-spec : {M : Type 1} → statement M
-backward-pass-spec =
-    tie.close
-    (tie.spec
-    Inv-loop
-    μ-loop
-    loop-holds
-    sub-i
-    place-requires
-    update-operand-sizes-requires
-    loop-less
-    loop-again
-    same-length
-    same-length-2
-    returns)
+backward-pass-spec = tie.close (tie.spec pass-requires same-length same-length-2 returns)

@@ -3,12 +3,12 @@ use Rattle.pushing.proofs.push.update_last.Statement.{statement}
 use Rattle.pushing.proofs.push.update_last.Tie as tie
 use Rattle.pushing.proofs.push.update_last.Reads as reads
 use Rattle.pushing.proofs.push.update_last.Lts as lts
-use Rattle.pushing.proofs.rules.update_operand_sizes.Reads as update-operand-sizes-reads
+use Rattle.pushing.proofs.passes.pass.Reads as pass-reads
 use Rattle.pushing.proofs.PushLaws.{push-laws}
 
 -- src/push.rt:162:9
-update-operand-sizes-requires : tie.Need-update-operand-sizes-requires
-update-operand-sizes-requires c κs = search (push-laws, needs)
+pass-requires : tie.Need-pass-requires
+pass-requires c κs = search (push-laws, needs)
 
 -- src/push.rt:151:1
 same-length : tie.Need-same-length
@@ -23,5 +23,4 @@ returns : tie.Need-returns
 returns c = search (push-laws, needs)
 
 pub update-last-spec : {M : Type 1} → statement M
-update-last-spec =
-    tie.close (tie.spec update-operand-sizes-requires same-length same-length-2 returns)
+update-last-spec = tie.close (tie.spec pass-requires same-length same-length-2 returns)
