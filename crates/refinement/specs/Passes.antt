@@ -6,7 +6,7 @@ use mathlib.Core.List.{List, [], _∷_, _++_, append-assoc}
 use native.Mathlib.Omega.{arith}
 use native.Mathlib.Nat.{add-zero, zero-add}
 use lib.ListN.{length, drop, length-append}
-use borrow.Author.Tests.{lt-ltb}
+use borrow.Author.Tests.{ne-eqb, lt-ltb}
 use Rattle.definition.specs.Value.{SemanticAction}
 use Rattle.definition.specs.Ast.{Section}
 use Rattle.definition.specs.Sizes as d
@@ -16,7 +16,8 @@ use Rattle.pcode.specs.Base.{if_then_else_, run, runDown}
 use Rattle.pcode.specs.Values.{place}
 use Rattle.pcode.specs.Sizes.{Sized, sized, thenS}
 use Rattle.pushing.specs.Rules.{updateOperandSizes}
-use Rattle.ending.specs.Passes.{updateAction, backwardPass, forwardPass}
+use Rattle.pushing.specs.Passes.{actionPlace, updateAction}
+use Rattle.ending.specs.Passes.{backwardPass, forwardPass}
 use Rattle.refinement.specs.Encoding.{actionsIn, temporariesIn, encZ, SoundTmp, Each, SoundAction, SizesHold}
 use Rattle.refinement.specs.Rules.{Ruled, ruled-after, updated-after, update-is}
 use Rattle.refinement.specs.Lists.{list-between, focus-at}
@@ -25,6 +26,11 @@ use Rattle.refinement.specs.Lists.{list-between, focus-at}
 pub place-is : (base i : ℕ) → base < 4096 → i < 700000000000000000 → place base i ≡ base + 24 * i
 unfolding place if_then_else_
 place-is base i h j = rw (lt-ltb base 4096 h, lt-ltb i 700000000000000000 j) (omega arith)
+
+action-place-is : (base i : ℕ) → base < 4096 → i < 700000000000000000 → actionPlace base i ≡ base + 24 * i
+unfolding actionPlace if_then_else_
+action-place-is base zero h j = omega arith
+action-place-is base (suc i) h j = rw (ne-eqb (suc i) 0 (λ e. omega arith)) (place-is base (suc i) h j)
 
 -- Actions that the passes can size.
 abbrev pub RuledAction : Section → ℕ → SemanticAction → Type 0
@@ -101,7 +107,7 @@ module _ (s t : List ℕ) (sec : Section) (holds : SizesHold s t sec) where
       unfolding updateAction thenS
       one-is late x ys z h f g r =
           rw (
-            place-is base (length ps) low h,
+            action-place-is base (length ps) low h,
             list-between front tail ps x ys,
             list-between front tail ps
                 ((d.updateOperandSizes sec late x z) .0) ys,

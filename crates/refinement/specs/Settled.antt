@@ -17,7 +17,7 @@ use Rattle.definition.specs.Sizes.{Operand, in0, in1, out, at, put, Sizing, siz
 use Rattle.definition.specs.ActionList.{orNone}
 use Rattle.pcode.specs.declared.sizes.Sizing.{Sizing as WordSizing}
 use Rattle.pcode.specs.Base.{if_then_else_, Listed, listed}
-use Rattle.pcode.specs.Sizes.{tmpSize, sizeOfLocal, sizeOf, error, sizeTemporary, settled}
+use Rattle.pcode.specs.Sizes.{tmpSize, listedSize, sizeOfLocal, sizeOf, error, sizeTemporary, settled}
 use Rattle.refinement.specs.Encoding.{encV, markedWord, temporaryWords, temporariesIn, firstError, encZ, Within, Sound, SoundTmp, Each, EachOption, SoundAction, SizesHold}
 use Rattle.refinement.specs.Operands.{size-word}
 
@@ -99,7 +99,7 @@ module _ (s t : List ℕ) (sec : Section) (holds : SizesHold s t sec) (marks tai
   module _ (ts : List Temporary) (fit : Each SoundTmp ts) where
     local-is : (k : Kind) (n : ℕ) → Within sec (length ts) k n → sizeOfLocal s t (temporariesIn marks tail ts) (kindNumber k) n
         ≡ orNone (d.sizeOfLocal sec ts k n)
-    unfolding sizeOfLocal if_then_else_ kindNumber d.sizeOfLocal orNone orElse
+    unfolding listedSize sizeOfLocal if_then_else_ kindNumber d.sizeOfLocal orNone orElse
     local-is Kind.InstStart n h = refl
     local-is Kind.InstNext n h = refl
     local-is Kind.Register n h = holds .registers n h
