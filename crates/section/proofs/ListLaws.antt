@@ -1,4 +1,4 @@
--- One law for each way out of the functions over the header and the lists.
+-- One law for each way out of the functions over the lists and of the whole stream.
 use mathlib.Core.Path.{_≡_, refl, sym, _∙_, ap}
 use mathlib.Core.Bool.{Bool, true, false}
 use mathlib.Core.List.{List}
@@ -10,57 +10,15 @@ use borrow.Author.Tests.{eq-eqb, ne-eqb, lt-ltb, le-ltb}
 use Rattle.definition.specs.Base.{if_then_else_}
 use Rattle.cells.specs.Le.{le16, le32, le64}
 use Rattle.section.specs.declared.cursor.Cursor.{Cursor}
-use Rattle.section.specs.Cursors.{cursor, refuse, u16, u16or, code, name, size, sizeOr, bits, smallCount, run}
+use Rattle.section.specs.Cursors.{refuse, u16, code, name, size, sizeOr, bits, smallCount, run}
 use Rattle.section.specs.Expressions.{counted}
 use Rattle.section.specs.Statements.{body}
 use Rattle.section.specs.Names.{Reading, reading, names}
-use Rattle.section.specs.Headers.{globalCounts, counts, roles, header}
+use Rattle.section.specs.Headers.{header}
 use Rattle.section.specs.Lists.{slot, stamp, mark, Which, whichOf, afterName, after, params, macroHead, noted, macro, named, restOf, entry, list, lists}
 use Rattle.section.specs.Stream.{Answer, answer, answerOf, zeros, tail, statements, readStream}
-use Rattle.section.proofs.CursorLaws.{u16-read, u16or-read, run-end}
+use Rattle.section.proofs.CursorLaws.{run-end}
 use Rattle.section.proofs.CodeLaws.{counted-law}
-
-pub global-counts-law : (s : List ℕ) (c c0 c1 c2 c3 c4 c5 c6 c7 r : Cursor) → c0 ≡ u16 s 1 4 c → c1 ≡ u16 s 1025 4 c0 → c2 ≡ u16 s 9 4 c1 → c3 ≡ u16 s 1025 4 c2 → c4 ≡ u16 s 1025 4 c3 → c5 ≡ u16 s 257 4 c4 → c6 ≡ u16 s 257 4 c5 → c7 ≡ u16 s 129 4 c6 → r ≡ u16 s 1025 4 c7 → r ≡ globalCounts s c
-unfolding globalCounts
-global-counts-law s c c0 c1 c2 c3 c4 c5 c6 c7 r p0 p1 p2 p3 p4 p5 p6 p7 p = rw (← p0, ← p1, ← p2, ← p3, ← p4, ← p5, ← p6, ← p7) p
-
-pub counts-law : (s : List ℕ) (c c0 c1 r : Cursor) → c0 ≡ u16 s 65 4 c → c1 ≡ u16 s 33 4 c0 → r ≡ u16 s 1025 4 c1 → r ≡ counts s c
-unfolding counts
-counts-law s c c0 c1 r p0 p1 p = rw (← p0, ← p1) p
-
-pub roles-law : (s : List ℕ) (m n : ℕ) (c c0 c1 c2 c3 r : Cursor) → (m ≡ le16 s 2) × (m < 65536) → (n ≡ le16 s 4) × (n < 65536) → c0 ≡ u16or s n 5 c → c1 ≡ name s m c0 → c2 ≡ name s m c1 → c3 ≡ name s m c2 → r ≡ name s m c3 → r ≡ roles s c
-unfolding roles
-roles-law s m n c c0 c1 c2 c3 r hm hn p0 p1 p2 p3 p = rw (← hm .0, ← hn .0, ← p0, ← p1, ← p2, ← p3) p
-
-pub header-law : (s : List ℕ) (c0 c1 r : Cursor) → c0 ≡ globalCounts s (record { at = 0; bad = 0; val = 0 }) → c1 ≡ counts s c0 → r ≡ roles s c1 → r ≡ header s
-unfolding header
-header-law s c0 c1 r p0 p1 p = rw (← p0, ← p1) p
-
--- a header that is not refused has at most 1,024 names
-good : (s : List ℕ) (lim k : ℕ) (c : Cursor) → u16 s lim (suc k) c .bad ≡ 0 → c .bad ≡ 0
-good s lim k c e = u16-read s lim (suc k) c (omega arith) e .good
-
-roles-good : (s : List ℕ) (c : Cursor) → roles s c .bad ≡ 0 → c .bad ≡ 0
-unfolding roles
-roles-good s c e = u16or-read s (le16 s 4) 5 c (omega arith) (good s (le16 s 2) 4 _ (good s (le16 s 2) 4 _ (good s (le16 s 2) 4 _ (good s (le16 s 2) 4 _ e))))
-
-counts-good : (s : List ℕ) (c : Cursor) → counts s c .bad ≡ 0 → c .bad ≡ 0
-unfolding counts
-counts-good s c e = good s 65 3 _ (good s 33 3 _ (good s 1025 3 _ e))
-
-names-few : (s : List ℕ) → globalCounts s (cursor 0 0 0) .bad ≡ 0 → le16 s 2 < 1025
-unfolding globalCounts
-names-few s e =
-    let g = good s 9 3 _ (good s 1025 3 _ (good s 1025 3 _ (good s 257 3 _ (good s 257 3 _ (good s 129 3 _ (good s 1025 3 _ e)))))) in
-    let r = u16-read s 1025 4 (u16 s 1 4 (cursor 0 0 0)) (omega arith) g in
-    let z : u16 s 1 4 (cursor 0 0 0) .at ≡ 2 = u16-read s 1 4 (cursor 0 0 0) (omega arith) (r .good) .next in
-    rw z at (r .below)
-
-pub header-few : (s : List ℕ) (h : Cursor) (m : ℕ) → h ≡ header s → h .bad ≡ 0 → (m ≡ le16 s 2) × (m < 65536) → m ≤ 1024
-unfolding header
-header-few s h m e z p =
-    let b : header s .bad ≡ 0 = rw e at z in
-    omega (arith, names-few s (counts-good s _ (roles-good s _ b)))
 
 pub slot-global : (k x : ℕ) → k < 7 → 1024 + x % 65536 ≡ slot k x
 unfolding slot if_then_else_
@@ -237,4 +195,4 @@ stream-read s t t1 t2 t3 h c1 c2 c3 m e z hm p q w =
     let f : names s (le16 s 2) (reading h t) ≡ reading c1 t1 = rw (← hm .0) (sym p) in
     rw (← e, eq-eqb (h .bad) 0 z, f, ← q, ← w)
 
-pub ruleset list-laws = (global-counts-law, counts-law, roles-law, header-law, slot-global, slot-local, stamp-global, stamp-local, mark-bad, mark-second, mark-new, after-spaces, after-registers, after-bitRanges, after-tables, after-userOps, after-macros, after-others, after-fields, after-subtables, macro-head-law, noted-law, macro-law, entry-macro, entry-other, tail-found, tail-end, statements-law, stream-bad, stream-read)
+pub ruleset list-laws = (slot-global, slot-local, stamp-global, stamp-local, mark-bad, mark-second, mark-new, after-spaces, after-registers, after-bitRanges, after-tables, after-userOps, after-macros, after-others, after-fields, after-subtables, macro-head-law, noted-law, macro-law, entry-macro, entry-other, tail-found, tail-end, statements-law, stream-bad, stream-read)

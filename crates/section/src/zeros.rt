@@ -1,32 +1,11 @@
 // The stream after its statements is zero, which is tested by eight bytes at a time.
 use crate::cursor::Cursor;
 use crate::cursor::refuse;
+use crate::inside::eight;
 ghost use mathlib.Core.Path.{_≡_};
-ghost use Prim.Native.Nat.{_+_, _-_, _≤_, _<_};
+ghost use Prim.Native.Nat.{_-_};
 ghost use lib.ListN.{length};
-ghost use Rattle.cells.specs.Le.{le16, le32, le64};
 ghost use Rattle.section.specs.Stream.{zeros, tail};
-
-fn two(s: &[u8], i: usize) -> u64
-    requires { ⌜ i + 2 ≤ length (now s) ⌝ }
-    ensures { λ r. ⌜ (r ≡ le16 (now (s .entry)) i) × (r < 65536) ⌝ }
-{
-    s[i] as u64 + 256 * (s[i + 1] as u64)
-}
-
-fn four(s: &[u8], i: usize) -> u64
-    requires { ⌜ i + 4 ≤ length (now s) ⌝ }
-    ensures { λ r. ⌜ (r ≡ le32 (now (s .entry)) i) × (r < 4294967296) ⌝ }
-{
-    two(s, i) + 65536 * two(s, i + 2)
-}
-
-fn eight(s: &[u8], i: usize) -> u64
-    requires { ⌜ i + 8 ≤ length (now s) ⌝ }
-    ensures { λ r. ⌜ r ≡ le64 (now (s .entry)) i ⌝ }
-{
-    four(s, i) + 4294967296 * four(s, i + 4)
-}
 
 // From a place on: the place of the first eight bytes that are not all zero, or of the last seven.
 fn past_zeros(s: &[u8], from: usize) -> usize

@@ -8,7 +8,8 @@ use Rattle.section.proofs.header.header.Reads as header-reads
 use Rattle.section.proofs.lists.lists.Reads as lists-reads
 use Rattle.section.proofs.names.names.Reads as names-reads
 use Rattle.section.proofs.own_statements.Reads as own-statements-reads
-use Rattle.section.proofs.ListLaws.{list-laws, header-few}
+use Rattle.section.proofs.HeaderLaws.{header-few}
+use Rattle.section.proofs.ListLaws.{list-laws}
 use native.Mathlib.Omega.{arith}
 
 -- src/lib.rt:60:9

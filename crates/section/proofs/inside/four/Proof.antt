@@ -1,32 +1,32 @@
 use borrow.Author.Needs.{needs}
-use Rattle.section.proofs.zeros.four.Statement.{statement}
-use Rattle.section.proofs.zeros.four.Tie as tie
-use Rattle.section.proofs.zeros.four.Reads as reads
-use Rattle.section.proofs.zeros.four.Lts as lts
-use Rattle.section.proofs.zeros.two.Reads as two-reads
+use Rattle.section.proofs.inside.four.Statement.{statement}
+use Rattle.section.proofs.inside.four.Tie as tie
+use Rattle.section.proofs.inside.four.Reads as reads
+use Rattle.section.proofs.inside.four.Lts as lts
+use Rattle.section.proofs.inside.two.Reads as two-reads
 use Rattle.cells.specs.Le.{le32}
 
--- src/zeros.rt:19:5
+-- src/inside.rt:19:5
 two-requires : tie.Need-two-requires
 two-requires c κs = search needs
 
--- src/zeros.rt:19:32
+-- src/inside.rt:19:32
 add-two : tie.Need-add-two
 add-two c = search needs
 
--- src/zeros.rt:19:25
+-- src/inside.rt:19:25
 two-requires-2 : tie.Need-two-requires-2
 two-requires-2 c κs = search needs
 
--- src/zeros.rt:19:17
+-- src/inside.rt:19:17
 mul-result : tie.Need-mul-result
 mul-result c = search needs
 
--- src/zeros.rt:19:5
+-- src/inside.rt:19:5
 add-result : tie.Need-add-result
 add-result c = search needs
 
--- src/zeros.rt:15:1
+-- src/inside.rt:15:1
 returns : tie.Need-returns
 unfolding le32
 returns c = search needs

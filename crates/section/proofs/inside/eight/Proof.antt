@@ -1,32 +1,32 @@
 use borrow.Author.Needs.{needs}
-use Rattle.section.proofs.zeros.eight.Statement.{statement}
-use Rattle.section.proofs.zeros.eight.Tie as tie
-use Rattle.section.proofs.zeros.eight.Reads as reads
-use Rattle.section.proofs.zeros.eight.Lts as lts
-use Rattle.section.proofs.zeros.four.Reads as four-reads
+use Rattle.section.proofs.inside.eight.Statement.{statement}
+use Rattle.section.proofs.inside.eight.Tie as tie
+use Rattle.section.proofs.inside.eight.Reads as reads
+use Rattle.section.proofs.inside.eight.Lts as lts
+use Rattle.section.proofs.inside.four.Reads as four-reads
 use Rattle.cells.specs.Le.{le64}
 
--- src/zeros.rt:26:5
+-- src/inside.rt:26:5
 four-requires : tie.Need-four-requires
 four-requires c κs = search needs
 
--- src/zeros.rt:26:39
+-- src/inside.rt:26:39
 add-four : tie.Need-add-four
 add-four c = search needs
 
--- src/zeros.rt:26:31
+-- src/inside.rt:26:31
 four-requires-2 : tie.Need-four-requires-2
 four-requires-2 c κs = search needs
 
--- src/zeros.rt:26:18
+-- src/inside.rt:26:18
 mul-result : tie.Need-mul-result
 mul-result c = search needs
 
--- src/zeros.rt:26:5
+-- src/inside.rt:26:5
 add-result : tie.Need-add-result
 add-result c = search needs
 
--- src/zeros.rt:22:1
+-- src/inside.rt:22:1
 returns : tie.Need-returns
 unfolding le64
 returns c = search needs
