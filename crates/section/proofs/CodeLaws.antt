@@ -1,15 +1,19 @@
--- One law for each way out of `expr`, `exprs`, and of the functions over statements.
+-- One law for each way out of the functions over expressions and statements.
 use mathlib.Core.Path.{_≡_, refl, sym, _∙_, ap}
+use mathlib.Core.Bool.{true, _&&_, not}
 use mathlib.Core.List.{List}
 use Prim.Native.Nat.{ℕ, zero, suc, _+_, _-_, _≤_, _<_}
 use native.Mathlib.Numerals.{sub-one}
 use native.Mathlib.Omega.{arith}
+use lib.ListN.{length, getD}
+use lib.Dec.{eqb}
+use borrow.Author.Tests.{eqb-true, eqb-false, not-true}
 use Rattle.section.specs.declared.cursor.Cursor.{Cursor}
-use Rattle.section.specs.Cursors.{refuse, code, name, nameOr, size, sizeOr, bits, skip, smallCount, run}
+use Rattle.section.specs.Cursors.{cursor, refuse, u8, code, name, nameOr, size, sizeOr, bits, skip, smallCount, run}
 use Rattle.section.specs.Expressions.{addressOf, space, call, counted, Kind, kindOf, afterCode, expr, exprs}
 use Rattle.section.specs.Expressions as e
 use Rattle.section.specs.Statements.{Jump, jumpOf, afterJump, jumpLabel, Target, targetOf, afterTarget, branchDst, Form, formOf, afterForm, statement, body}
-use Rattle.section.proofs.CursorLaws.{run-end}
+use Rattle.section.proofs.CursorLaws.{both-true, refuse-new, number-short, number-got, u16-cut, u16-got, u16-out, run-end}
 
 pub deepest : (d : ℕ) (s : List ℕ) (m : ℕ) (c k r : Cursor) → d ≡ 0 → k ≡ code s 9 c → r ≡ refuse 4 k → r ≡ expr d s m c
 unfolding expr
@@ -173,8 +177,37 @@ pub statement-placed : (s : List ℕ) (m : ℕ) (c k r : Cursor) → k ≡ code 
 unfolding afterForm formOf
 statement-placed s m c k r e n0 n1 n2 n3 n4 n5 n6 n7 n8 n9 p0 = statement-arm s m c k r Form.placed e (form-rest (k .val) n0 n1 n2 n3 n4 n5 n6 n7 n8 n9) p0
 
+-- A name and an integer that are read at once.
+
+pub integer-cut : (s : List ℕ) (p : ℕ) → p ≤ length s → length s - p < 8 → cursor p 3 0 ≡ skip s 8 (cursor p 0 1)
+unfolding skip
+integer-cut s p l h = number-short 0 8 (length s) 1 0 (cursor p 0 1) (cursor p 3 0) refl l h (refuse-new 3 (cursor p 0 1) refl)
+
+pub integer-got : (s : List ℕ) (p : ℕ) → p ≤ length s → 8 ≤ length s - p → cursor (p + 8) 0 0 ≡ skip s 8 (cursor p 0 1)
+unfolding skip
+integer-got s p l h = number-got 0 8 (length s) 1 0 (cursor p 0 1) refl l h (omega arith)
+
+code-got : (s : List ℕ) (n k : ℕ) (c : Cursor) → c .bad ≡ 0 → c .at < length s → getD s (c .at) 0 ≡ k → k < n → cursor (c .at + 1) 0 k ≡ code s n c
+unfolding u8
+code-got s n k c b l e h = rw e (number-got k 1 (length s) n 3 c b (omega arith) (omega arith) h)
+
+good-deep : (b d : ℕ) → (eqb b 0 && not (eqb d 0)) ≡ true → (b ≡ 0) × (d ≡ 0 → ⊥)
+good-deep b d e =
+    let f = both-true (eqb b 0) (not (eqb d 0)) e in
+    (eqb-true b 0 (f .0), eqb-false d 0 (not-true (eqb d 0) (f .1)))
+
+pub expr-name : (d : ℕ) (s : List ℕ) (m : ℕ) (c r : Cursor) → (eqb (c .bad) 0 && not (eqb d 0)) ≡ true → c .at < length s → getD s (c .at) 0 ≡ 0 → r ≡ name s m (cursor (c .at + 1) 0 0) → r ≡ expr d s m c
+expr-name d s m c r g l k e =
+    let f = good-deep (c .bad) d g in
+    expr-ident d s m c (cursor (c .at + 1) 0 0) r (f .1) (code-got s 9 0 c (f .0) l k (omega arith)) refl e
+
+pub expr-number : (d : ℕ) (s : List ℕ) (m : ℕ) (c r : Cursor) → (eqb (c .bad) 0 && not (eqb d 0)) ≡ true → c .at < length s → getD s (c .at) 0 ≡ 1 → r ≡ skip s 8 (cursor (c .at + 1) 0 1) → r ≡ expr d s m c
+expr-number d s m c r g l k e =
+    let f = good-deep (c .bad) d g in
+    expr-integer d s m c (cursor (c .at + 1) 0 1) r (f .1) (code-got s 9 1 c (f .0) l k (omega arith)) refl e
+
 pub counted-law : (f : Cursor → Cursor) (n i : ℕ) (c₀ c : Cursor) → n ≡ c₀ .val → n ≤ i → run (n - i) i (λ _. f) c ≡ run n 0 (λ _. f) c₀ → c ≡ counted f c₀
 unfolding counted
 counted-law f n i c₀ c z h e = run-end n i (λ _. f) c _ h (e ∙ rw z)
 
-pub ruleset code-laws = (deepest, expr-ident, expr-integer, expr-address, expr-truncate, expr-slice, expr-operator, expr-deref, expr-pool, expr-calling, jumpLabel-toName, jumpLabel-toInteger, branchDst-direct, branchDst-indirect, branchDst-label, statement-unimplemented, statement-export, statement-local, statement-assignment, statement-build, statement-copy, statement-store, statement-calling, statement-branch, statement-condBranch, statement-placed)
+pub ruleset code-laws = (u16-cut, u16-got, u16-out, integer-cut, integer-got, expr-name, expr-number, deepest, expr-ident, expr-integer, expr-address, expr-truncate, expr-slice, expr-operator, expr-deref, expr-pool, expr-calling, jumpLabel-toName, jumpLabel-toInteger, branchDst-direct, branchDst-indirect, branchDst-label, statement-unimplemented, statement-export, statement-local, statement-assignment, statement-build, statement-copy, statement-store, statement-calling, statement-branch, statement-condBranch, statement-placed)

@@ -1,6 +1,6 @@
 -- One law for each way out of the functions over a cursor.
 use mathlib.Core.Path.{_≡_, refl, sym, _∙_, ap}
-use mathlib.Core.Bool.{Bool, true, false}
+use mathlib.Core.Bool.{Bool, true, false, _&&_, false≢true}
 use mathlib.Core.List.{List}
 use Prim.Native.Nat.{ℕ, zero, suc, _+_, _-_, _≤_, _<_}
 use native.Mathlib.Nat.{add-zero}
@@ -12,6 +12,10 @@ use Rattle.definition.specs.Base.{if_then_else_}
 use Rattle.cells.specs.Le.{le16}
 use Rattle.section.specs.declared.cursor.Cursor.{Cursor}
 use Rattle.section.specs.Cursors.{cursor, refuse, number, u8, u16, u16or, skip, run}
+
+pub both-true : (a b : Bool) → (a && b) ≡ true → (a ≡ true) × (b ≡ true)
+both-true true b e = (refl, e)
+both-true false b e = absurd (false≢true e)
 
 pub refuse-kept : (k : ℕ) (c : Cursor) → (c .bad ≡ 0 → ⊥) → c ≡ refuse k c
 unfolding refuse if_then_else_
@@ -88,6 +92,20 @@ u16-some s lim k v c r h z e = rw (← h .0, ne-eqb v 65535 z) e
 pub skip-law : (s : List ℕ) (n : ℕ) (c r : Cursor) → r ≡ number 0 n (length s) 1 0 c → r ≡ skip s n c
 unfolding skip
 skip-law s n c r e = e
+
+-- the same of a cursor at p that is not refused
+
+pub u16-cut : (s : List ℕ) (lim k p w : ℕ) → p ≤ length s → length s - p < 2 → cursor p 3 0 ≡ u16 s lim k (cursor p 0 w)
+unfolding u16
+u16-cut s lim k p w l h = number-short (le16 s p) 2 (length s) lim k (cursor p 0 w) (cursor p 3 0) refl l h (refuse-new 3 (cursor p 0 w) refl)
+
+pub u16-got : (s : List ℕ) (lim k p w v : ℕ) → p ≤ length s → 2 ≤ length s - p → v ≡ le16 s p → v < lim → cursor (p + 2) 0 v ≡ u16 s lim k (cursor p 0 w)
+unfolding u16
+u16-got s lim k p w v l h e b = rw (← e) (number-got v 2 (length s) lim k (cursor p 0 w) refl l h b)
+
+pub u16-out : (s : List ℕ) (lim k p w v : ℕ) → p ≤ length s → 2 ≤ length s - p → v ≡ le16 s p → lim ≤ v → cursor p k 0 ≡ u16 s lim k (cursor p 0 w)
+unfolding u16
+u16-out s lim k p w v l h e b = rw (← e) (number-out v 2 (length s) lim k (cursor p 0 w) (cursor p k 0) refl l h b (refuse-new k (cursor p 0 w) refl))
 
 pub chain : {A : Type 0} (f g : A → A) (x y z : A) → y ≡ f x → z ≡ g y → z ≡ g (f x)
 chain f g x y z p q = rw (← p) q

@@ -1,5 +1,5 @@
 // Expressions, each ahead of its parts. The walk over a prefix-coded expression calls itself on each part, depth left
-// falling.
+// falling. Names and integers, which have no parts and are the most, are read without the cursor's tests.
 use crate::cursor::Cursor;
 use crate::cursor::bits;
 use crate::cursor::code;
@@ -10,7 +10,11 @@ use crate::cursor::size;
 use crate::cursor::size_or;
 use crate::cursor::skip;
 use crate::cursor::small_count;
+use crate::inside::two;
 ghost use mathlib.Core.Path.{_≡_};
+ghost use Prim.Native.Nat.{_≤_};
+ghost use lib.ListN.{length};
+ghost use Rattle.section.specs.Cursors.{cursor, skip, name};
 ghost use Rattle.section.specs.Expressions.{addressOf, space, call, expr, exprs};
 
 fn address_of(s: &[u8], m: u64, c: Cursor) -> Cursor
@@ -33,8 +37,73 @@ pub fn call(s: &[u8], m: u64, c: Cursor) -> Cursor
     small_count(s, name(s, m, c))
 }
 
+// The name at a place of the stream.
+fn name_here(s: &[u8], m: u64, at: usize) -> Cursor
+    requires { ⌜ at ≤ length (now s) ⌝ }
+    ensures { λ r. ⌜ r ≡ name (now (s .entry)) m (cursor at 0 0) ⌝ }
+{
+    if s.len() - at < 2 {
+        return Cursor {
+            at: at,
+            bad: 3,
+            val: 0,
+        };
+    }
+    let v = two(s, at);
+    if v < m {
+        return Cursor {
+            at: at + 2,
+            bad: 0,
+            val: v,
+        };
+    }
+    Cursor {
+        at: at,
+        bad: 5,
+        val: 0,
+    }
+}
+
+// The integer at a place of the stream, after its code, which is 1.
+fn integer_here(s: &[u8], at: usize) -> Cursor
+    requires { ⌜ at ≤ length (now s) ⌝ }
+    ensures { λ r. ⌜ r ≡ skip (now (s .entry)) 8 (cursor at 0 1) ⌝ }
+{
+    if s.len() - at < 8 {
+        return Cursor {
+            at: at,
+            bad: 3,
+            val: 0,
+        };
+    }
+    Cursor {
+        at: at + 8,
+        bad: 0,
+        val: 0,
+    }
+}
+
 // An expression that is nested at most `depth` deep.
 pub fn expr(depth: u64, s: &[u8], m: u64, c: Cursor) -> Cursor
+    ensures { λ r. ⌜ r ≡ expr depth (now (s .entry)) m c ⌝ }
+{
+    if (c.bad == 0) & (depth != 0) {
+        let at = c.at;
+        if at < s.len() {
+            let kind = s[at];
+            if kind == 0 {
+                return name_here(s, m, at + 1);
+            }
+            if kind == 1 {
+                return integer_here(s, at + 1);
+            }
+        }
+    }
+    longer(depth, s, m, c)
+}
+
+// The same by the cursor, for all kinds.
+fn longer(depth: u64, s: &[u8], m: u64, c: Cursor) -> Cursor
     ensures { λ r. ⌜ r ≡ expr depth (now (s .entry)) m c ⌝ }
 {
     let k = code(s, 9, c);
