@@ -9,14 +9,14 @@ use native.Mathlib.Numerals.{add-one}
 use native.Mathlib.Omega.{arith}
 use lib.ListN.{length, getD, set, replicate, length-set, length-replicate, getD-replicate}
 use lib.Seq.{getD-set-same, getD-set-other}
-use lib.Dec.{eqb}
+use lib.Dec.{eqb, ltb}
 use borrow.Author.Count.{below-more}
-use borrow.Author.Tests.{eq-eqb, ne-eqb, eqb-true, eqb-false}
+use borrow.Author.Tests.{eqb-true, eqb-false, lt-ltb, le-ltb}
 use Rattle.definition.specs.Base.{if_then_else_}
-use Rattle.cells.specs.Le.{le16}
+use Rattle.cells.specs.Le.{le16, le32}
 use Rattle.section.proofs.NameLaws.{known-miss}
 use Rattle.section.specs.Names.{agree, restAlike, alike, known}
-use Rattle.section.specs.Chains.{spread, hash, Hashed, last, Linked, link}
+use Rattle.section.specs.Chains.{lastFour, key, spread, hash, Hashed, last, Linked, link}
 
 -- What a test that is true tells.
 
@@ -53,16 +53,20 @@ alike-at s a b (suc (suc k)) e h g l =
     let z : suc (suc k) ≡ 2 + k = omega arith in
     rw z (agree-at (getD s a 0 - 1) 2 k s a b (alike-rest s a b e) (omega arith))
 
-alike-hash : (s : List ℕ) (a b : ℕ) → alike s a b ≡ true → getD s a 0 < 256 → getD s b 0 < 256 → hash s a ≡ hash s b
-unfolding hash
-alike-hash s a b e h g =
+alike-key : (s : List ℕ) (a b : ℕ) → alike s a b ≡ true → getD s a 0 < 256 → getD s b 0 < 256 → key s a ≡ key s b
+unfolding key lastFour
+alike-key s a b e h g =
     let l : getD s a 0 ≡ getD s b 0 = heads-alike s a b (alike-le16 s a b e) h g .0 in
     let w : le16 s a ≡ le16 s b = alike-le16 s a b e in
-    let x = alike-at s a b (getD s a 0 - 2) e h g (omega arith) in
-    let y = alike-at s a b (getD s a 0 - 1) e h g (omega arith) in
-    let z = alike-at s a b (getD s a 0) e h g (omega arith) in
-    let m = alike-at s a b (getD s a 0 / 2) e h g (omega arith) in
+    let x = alike-at s a b (getD s a 0 - 3) e h g (omega arith) in
+    let y = alike-at s a b (getD s a 0 - 2) e h g (omega arith) in
+    let z = alike-at s a b (getD s a 0 - 1) e h g (omega arith) in
+    let v = alike-at s a b (getD s a 0) e h g (omega arith) in
     cc
+
+alike-hash : (s : List ℕ) (a b : ℕ) → alike s a b ≡ true → getD s a 0 < 256 → getD s b 0 < 256 → hash s a ≡ hash s b
+unfolding hash
+alike-hash s a b e h g = ap spread (alike-key s a b e h g)
 
 -- The last name of a hash.
 
@@ -136,11 +140,30 @@ walk-on s t k p h n j q y v x b c w l eq ey eb en e f =
 
 -- One law for each way out of the functions over chains.
 
-pub hash-law : (s : List ℕ) (p l w a x b y z m h : ℕ) → (l ≡ getD s (p + 0) 0) × (l < 256) → (w ≡ le16 s p) × (w < 65536) → a ≡ l - 2 → (x ≡ getD s (p + a) 0) × (x < 256) → b ≡ l - 1 → (y ≡ getD s (p + b) 0) × (y < 256) → (z ≡ getD s (p + l) 0) × (z < 256) → (m ≡ getD s (p + l / 2) 0) × (m < 256) → (h ≡ spread w x y z m) × (h < 256) → Hashed s p h
-unfolding hash
-hash-law s p l w a x b y z m h el ew ea ex eb ey ez em eh =
+pub whole-law : (s : List ℕ) (p l r : ℕ) → 3 ≤ l → (r ≡ le32 s (p + (l - 3))) × (r < 4294967296) → (r ≡ lastFour s p l) × (r < 4294967296)
+unfolding lastFour le32 le16
+whole-law s p l r h e =
+    let y : p + (l - 3) + 1 ≡ p + (l - 2) = omega arith in
+    let z : p + (l - 3) + 2 ≡ p + (l - 1) = omega arith in
+    let v : p + (l - 1) + 1 ≡ p + l = omega arith in
+    let f = rw (y, z, v) at (e .0) in
+    (omega arith, e .1)
+
+pub key-short : (s : List ℕ) (p l w v : ℕ) → (l ≡ getD s (p + 0) 0) × (l < 256) → l < 3 → (w ≡ le16 s p) × (w < 65536) → (v ≡ getD s (p + l) 0) × (v < 256) → (w + 65536 * v ≡ key s p) × (w + 65536 * v < 4294967296) × (getD s p 0 < 256)
+unfolding key if_then_else_
+key-short s p l w v el h ew ev =
     let f : l ≡ getD s p 0 = rw add-zero at (el .0) in
-    record { is = rw (← f, ← ea, ← eb, ← ew .0, ← ex .0, ← ey .0, ← ez .0, ← em .0) (eh .0); below = eh .1; small = omega arith }
+    (rw (← f, lt-ltb l 3 h, ← ew .0, ← ev .0), omega arith, omega arith)
+
+pub key-long : (s : List ℕ) (p l r : ℕ) → (l ≡ getD s (p + 0) 0) × (l < 256) → 3 ≤ l → (r ≡ lastFour s p l) × (r < 4294967296) → (r ≡ key s p) × (r < 4294967296) × (getD s p 0 < 256)
+unfolding key if_then_else_
+key-long s p l r el h e =
+    let f : l ≡ getD s p 0 = rw add-zero at (el .0) in
+    (rw (← f, le-ltb l 3 h) (e .0), e .1, omega arith)
+
+pub hash-law : (s : List ℕ) (p w h : ℕ) → (w ≡ key s p) × (w < 4294967296) × (getD s p 0 < 256) → (h ≡ spread w) × (h < 256) → Hashed s p h
+unfolding hash
+hash-law s p w h e f = record { is = rw (← e .0) (f .0); below = f .1; small = e .2 }
 
 pub link-law : (h i v l : ℕ) (k k1 k2 : List ℕ) → i < 1024 → v ≡ getD k (1024 + h) 0 → k1 ≡ set k i v → l ≡ (i + 1) % 65536 → k2 ≡ set k1 (1024 + h) l → k2 ≡ link h i k
 unfolding link
@@ -199,5 +222,3 @@ linked-step s t t' k k' i l v q h c e f r d g =
 
 pub hashed-same : (s : List ℕ) (p q h : ℕ) → Hashed s p h → p ≡ q → Hashed s q h
 hashed-same s p q h d e = rw (← e) d
-
-pub ruleset chain-laws = (hash-law, link-law)

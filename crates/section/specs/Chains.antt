@@ -4,23 +4,27 @@ use Prim.Native.Nat.{ℕ, zero, suc, _+_, _-_, _*_, _/_, _%_, _<_}
 use mathlib.Core.Path.{_≡_}
 use mathlib.Core.List.{List}
 use lib.ListN.{length, getD, set}
-use lib.Dec.{eqb}
+use lib.Dec.{eqb, ltb}
 use Rattle.definition.specs.Base.{if_then_else_}
 use Rattle.cells.specs.Le.{le16}
 
--- a number below 256 from two bytes and four single ones
-unfoldable pub spread : ℕ → ℕ → ℕ → ℕ → ℕ → ℕ
-spread w x y z m = (28933 * w + 64083 * x + 60201 * y + 34067 * z + 59333 * m) / 4096 % 256
+-- the four bytes up to the last letter of the name of l letters at p
+unfoldable pub lastFour : List ℕ → ℕ → ℕ → ℕ
+lastFour s p l =
+    getD s (p + (l - 3)) 0 + 256 * getD s (p + (l - 2)) 0 + 65536 * getD s (p + (l - 1)) 0 + 16777216 * getD s (p + l) 0
 
--- of the name at p: its length with the first letter, the last three letters, and one in the middle
+-- what the hash of the name at p is made of: these four, or of a name of fewer than three letters its length, first letter
+-- and last letter
+unfoldable pub key : List ℕ → ℕ → ℕ
+key s p =
+    if ltb (getD s p 0) 3 then le16 s p + 65536 * getD s (p + getD s p 0) 0 else lastFour s p (getD s p 0)
+
+-- a number below 256 from one below 2³²
+unfoldable pub spread : ℕ → ℕ
+spread w = w * 2654435761 / 16777216 % 256
+
 unfoldable pub hash : List ℕ → ℕ → ℕ
-hash s p =
-    spread
-    (le16 s p)
-    (getD s (p + (getD s p 0 - 2)) 0)
-    (getD s (p + (getD s p 0 - 1)) 0)
-    (getD s (p + getD s p 0) 0)
-    (getD s (p + getD s p 0 / 2) 0)
+hash s p = spread (key s p)
 
 -- the hash of the name at p, whose length is a byte
 pub record Hashed (s : List ℕ) (p h : ℕ) : Type 0 where

@@ -1,34 +1,52 @@
 // Chains of the names whose spellings have the same hash: of 1,280 numbers the one at j is 1 + the name before name j on its
 // chain, and the one at 1,024 + h is 1 + the last name whose hash is h; 0 for none.
+use crate::inside::four;
 use crate::names::low;
 ghost use mathlib.Core.Path.{_≡_};
-ghost use Prim.Native.Nat.{_+_, _-_, _<_};
-ghost use Rattle.section.specs.Chains.{spread, Hashed, link};
+ghost use Prim.Native.Nat.{_+_, _≤_, _<_};
+ghost use lib.ListN.{getD};
+ghost use Rattle.section.specs.Chains.{lastFour, key, spread, Hashed, link};
 
-fn less(l: usize, k: usize) -> usize
-    ensures { λ r. ⌜ r ≡ l - k ⌝ }
+// The four bytes up to the last letter of the name of l letters at p. Only a name that the stream's end cuts is read byte by
+// byte.
+fn last_four(s: &[u8], p: usize, l: usize) -> u64
+    requires { ⌜ 3 ≤ l ⌝ }
+    ensures { λ r. ⌜ (r ≡ lastFour (now (s .entry)) p l) × (r < 4294967296) ⌝ }
 {
-    if l < k { 0 } else { l - k }
+    if p < s.len() {
+        if l < s.len() - p {
+            return four(s, p + (l - 3));
+        }
+    }
+    let x = cells::byte(s, p, l - 3);
+    let y = cells::byte(s, p, l - 2);
+    let z = cells::byte(s, p, l - 1);
+    x + 256 * y + 65536 * z + 16777216 * cells::byte(s, p, l)
 }
 
-fn spread(w: u64, x: u64, y: u64, z: u64, m: u64) -> usize
-    requires { ⌜ (w < 65536) × (x < 256) × (y < 256) × (z < 256) × (m < 256) ⌝ }
-    ensures { λ r. ⌜ (r ≡ spread w x y z m) × (r < 256) ⌝ }
+// What the hash of the name at p is made of: its last four bytes, the length before the letters one of them, or of a name of
+// fewer than three letters its length, first letter and last letter.
+fn key(s: &[u8], p: usize) -> u64
+    ensures { λ r. ⌜ (r ≡ key (now (s .entry)) p) × (r < 4294967296) × (getD (now (s .entry)) p 0 < 256) ⌝ }
 {
-    ((28933 * w + 64083 * x + 60201 * y + 34067 * z + 59333 * m) / 4096 % 256) as usize
+    let l = cells::byte(s, p, 0) as usize;
+    if l < 3 {
+        return cells::u16_at(s, p) + 65536 * cells::byte(s, p, l);
+    }
+    last_four(s, p, l)
 }
 
-// From the length and the first letter of the name at p, its last three letters and one in the middle.
+fn spread(w: u64) -> usize
+    requires { ⌜ w < 4294967296 ⌝ }
+    ensures { λ r. ⌜ (r ≡ spread w) × (r < 256) ⌝ }
+{
+    (w * 2654435761 / 16777216 % 256) as usize
+}
+
 pub fn hash(s: &[u8], p: usize) -> usize
     ensures { λ r. ⌜ Hashed (now (s .entry)) p r ⌝ }
 {
-    let l = cells::byte(s, p, 0) as usize;
-    let w = cells::u16_at(s, p);
-    let x = cells::byte(s, p, less(l, 2));
-    let y = cells::byte(s, p, less(l, 1));
-    let z = cells::byte(s, p, l);
-    let m = cells::byte(s, p, l / 2);
-    spread(w, x, y, z, m)
+    spread(key(s, p))
 }
 
 // Name i put on the chain of the hash h.
