@@ -1,17 +1,17 @@
 -- Names spelled alike have the same hash, so the chain of a hash has all of them.
 use mathlib.Core.Path.{_≡_, refl, sym, _∙_, ap}
-use mathlib.Core.Bool.{Bool, true, false}
+use mathlib.Core.Bool.{Bool, true, false, _||_, false≢true}
 use mathlib.Core.List.{List}
 use mathlib.Core.Logic.{⊎-elim}
 use Prim.Native.Nat.{ℕ, zero, suc, _+_, _-_, _*_, _/_, _%_, _≤_, _<_}
 use native.Mathlib.Nat.{add-zero}
 use native.Mathlib.Numerals.{add-one}
 use native.Mathlib.Omega.{arith}
-use lib.ListN.{length, getD, set, replicate, length-set, length-replicate, getD-replicate}
+use lib.ListN.{length, getD, set, replicate, length-set, length-replicate, getD-replicate, List·getD-eq-default}
 use lib.Seq.{getD-set-same, getD-set-other}
 use lib.Dec.{eqb, ltb}
 use borrow.Author.Count.{below-more}
-use borrow.Author.Tests.{eqb-true, eqb-false, lt-ltb, le-ltb}
+use borrow.Author.Tests.{eqb-true, eqb-false, ltb-true, ltb-false}
 use Rattle.definition.specs.Base.{if_then_else_}
 use Rattle.cells.specs.Le.{le16, le32}
 use Rattle.section.proofs.NameLaws.{known-miss}
@@ -140,26 +140,35 @@ walk-on s t k p h n j q y v x b c w l eq ey eb en e f =
 
 -- One law for each way out of the functions over chains.
 
-pub whole-law : (s : List ℕ) (p l r : ℕ) → 3 ≤ l → (r ≡ le32 s (p + (l - 3))) × (r < 4294967296) → (r ≡ lastFour s p l) × (r < 4294967296)
+-- a name of three letters or more whose last letter is not 0 ends inside the stream
+pub key-within : (s : List ℕ) (p l z : ℕ) → (z ≡ getD s (p + l) 0) × (z < 256) → (ltb l 3 || eqb z 0) ≡ false → (3 ≤ l) × (p + l < length s)
+key-within s p l z h e = go (ltb l 3) (eqb z 0) (ltb (p + l) (length s)) refl refl refl e
+  where
+    go : (a b d : Bool) → ltb l 3 ≡ a → eqb z 0 ≡ b → ltb (p + l) (length s) ≡ d → (a || b) ≡ false → (3 ≤ l) × (p + l < length s)
+    go true b d f g i n = absurd (false≢true (sym n))
+    go false true d f g i n = absurd (false≢true (sym n))
+    go false false true f g i n = (ltb-false l 3 f, ltb-true _ _ i)
+    go false false false f g i n = absurd (eqb-false z 0 g (h .0 ∙ List·getD-eq-default s 0 (ltb-false _ _ i)))
+
+last-four : (s : List ℕ) (p l : ℕ) → 3 ≤ l → le32 s (p + (l - 3)) ≡ lastFour s p l
 unfolding lastFour le32 le16
-whole-law s p l r h e =
+last-four s p l h =
     let y : p + (l - 3) + 1 ≡ p + (l - 2) = omega arith in
     let z : p + (l - 3) + 2 ≡ p + (l - 1) = omega arith in
     let v : p + (l - 1) + 1 ≡ p + l = omega arith in
-    let f = rw (y, z, v) at (e .0) in
-    (omega arith, e .1)
+    rw (y, z, v) (omega arith)
 
-pub key-short : (s : List ℕ) (p l w v : ℕ) → (l ≡ getD s (p + 0) 0) × (l < 256) → l < 3 → (w ≡ le16 s p) × (w < 65536) → (v ≡ getD s (p + l) 0) × (v < 256) → (w + 65536 * v ≡ key s p) × (w + 65536 * v < 4294967296) × (getD s p 0 < 256)
+pub key-short : (s : List ℕ) (p l z w : ℕ) → (l ≡ getD s (p + 0) 0) × (l < 256) → (z ≡ getD s (p + l) 0) × (z < 256) → (ltb l 3 || eqb z 0) ≡ true → (w ≡ le16 s p) × (w < 65536) → (w + 65536 * z ≡ key s p) × (w + 65536 * z < 4294967296) × (getD s p 0 < 256)
 unfolding key if_then_else_
-key-short s p l w v el h ew ev =
+key-short s p l z w el ez h ew =
     let f : l ≡ getD s p 0 = rw add-zero at (el .0) in
-    (rw (← f, lt-ltb l 3 h, ← ew .0, ← ev .0), omega arith, omega arith)
+    (rw (← f, ← ez .0, h, ← ew .0), omega arith, omega arith)
 
-pub key-long : (s : List ℕ) (p l r : ℕ) → (l ≡ getD s (p + 0) 0) × (l < 256) → 3 ≤ l → (r ≡ lastFour s p l) × (r < 4294967296) → (r ≡ key s p) × (r < 4294967296) × (getD s p 0 < 256)
+pub key-long : (s : List ℕ) (p l z r : ℕ) → (l ≡ getD s (p + 0) 0) × (l < 256) → (z ≡ getD s (p + l) 0) × (z < 256) → (ltb l 3 || eqb z 0) ≡ false → (r ≡ le32 s (p + (l - 3))) × (r < 4294967296) → (r ≡ key s p) × (r < 4294967296) × (getD s p 0 < 256)
 unfolding key if_then_else_
-key-long s p l r el h e =
+key-long s p l z r el ez h e =
     let f : l ≡ getD s p 0 = rw add-zero at (el .0) in
-    (rw (← f, le-ltb l 3 h) (e .0), e .1, omega arith)
+    (rw (← f, ← ez .0, h) (e .0 ∙ last-four s p l (key-within s p l z ez h .0)), e .1, omega arith)
 
 pub hash-law : (s : List ℕ) (p w h : ℕ) → (w ≡ key s p) × (w < 4294967296) × (getD s p 0 < 256) → (h ≡ spread w) × (h < 256) → Hashed s p h
 unfolding hash

@@ -2,6 +2,7 @@
 -- name j on its chain, and at 1,024 + h, 1 + the last name whose hash is h; 0 for none.
 use Prim.Native.Nat.{ℕ, zero, suc, _+_, _-_, _*_, _/_, _%_, _<_}
 use mathlib.Core.Path.{_≡_}
+use mathlib.Core.Bool.{_||_}
 use mathlib.Core.List.{List}
 use lib.ListN.{length, getD, set}
 use lib.Dec.{eqb, ltb}
@@ -13,11 +14,13 @@ unfoldable pub lastFour : List ℕ → ℕ → ℕ → ℕ
 lastFour s p l =
     getD s (p + (l - 3)) 0 + 256 * getD s (p + (l - 2)) 0 + 65536 * getD s (p + (l - 1)) 0 + 16777216 * getD s (p + l) 0
 
--- what the hash of the name at p is made of: these four, or of a name of fewer than three letters its length, first letter
--- and last letter
+-- what the hash of the name at p is made of: these four, or of a name of fewer than three letters, or whose last letter is 0,
+-- its length, first letter and last letter
 unfoldable pub key : List ℕ → ℕ → ℕ
 key s p =
-    if ltb (getD s p 0) 3 then le16 s p + 65536 * getD s (p + getD s p 0) 0 else lastFour s p (getD s p 0)
+    if ltb (getD s p 0) 3 || eqb (getD s (p + getD s p 0) 0) 0
+    then le16 s p + 65536 * getD s (p + getD s p 0) 0
+    else lastFour s p (getD s p 0)
 
 -- a number below 256 from one below 2³²
 unfoldable pub spread : ℕ → ℕ

@@ -3,37 +3,22 @@
 use crate::inside::four;
 use crate::names::low;
 ghost use mathlib.Core.Path.{_≡_};
-ghost use Prim.Native.Nat.{_+_, _≤_, _<_};
+ghost use Prim.Native.Nat.{_+_, _<_};
 ghost use lib.ListN.{getD};
-ghost use Rattle.section.specs.Chains.{lastFour, key, spread, Hashed, link};
+ghost use Rattle.section.specs.Chains.{key, spread, Hashed, link};
 
-// The four bytes up to the last letter of the name of l letters at p. Only a name that the stream's end cuts is read byte by
-// byte.
-fn last_four(s: &[u8], p: usize, l: usize) -> u64
-    requires { ⌜ 3 ≤ l ⌝ }
-    ensures { λ r. ⌜ (r ≡ lastFour (now (s .entry)) p l) × (r < 4294967296) ⌝ }
-{
-    if p < s.len() {
-        if l < s.len() - p {
-            return four(s, p + (l - 3));
-        }
-    }
-    let x = cells::byte(s, p, l - 3);
-    let y = cells::byte(s, p, l - 2);
-    let z = cells::byte(s, p, l - 1);
-    x + 256 * y + 65536 * z + 16777216 * cells::byte(s, p, l)
-}
-
-// What the hash of the name at p is made of: its last four bytes, the length before the letters one of them, or of a name of
-// fewer than three letters its length, first letter and last letter.
+// What the hash of the name at p is made of: the four bytes up to its last letter, the length before the letters one of them;
+// of a name of fewer than three letters its length, first letter and last letter. A last letter 0, as a name has that the
+// stream's end cuts, is taken as a name of few letters, so that the four bytes are inside the stream.
 fn key(s: &[u8], p: usize) -> u64
     ensures { λ r. ⌜ (r ≡ key (now (s .entry)) p) × (r < 4294967296) × (getD (now (s .entry)) p 0 < 256) ⌝ }
 {
     let l = cells::byte(s, p, 0) as usize;
-    if l < 3 {
-        return cells::u16_at(s, p) + 65536 * cells::byte(s, p, l);
+    let z = cells::byte(s, p, l);
+    if (l < 3) | (z == 0) {
+        return cells::u16_at(s, p) + 65536 * z;
     }
-    last_four(s, p, l)
+    four(s, p + (l - 3))
 }
 
 fn spread(w: u64) -> usize

@@ -5,50 +5,61 @@ use Rattle.section.proofs.chains.key.Reads as reads
 use Rattle.section.proofs.chains.key.Lts as lts
 use Rattle.cells.proofs.byte.Reads as byte-reads
 use Rattle.cells.proofs.u16_at.Reads as u16-at-reads
-use Rattle.section.proofs.chains.last_four.Reads as last-four-reads
-use Rattle.section.proofs.ChainLaws.{key-short, key-long}
+use Rattle.section.proofs.inside.four.Reads as four-reads
+use Rattle.section.proofs.ChainLaws.{key-within, key-short, key-long}
+use native.Mathlib.Omega.{arith}
 
--- src/chains.rt:32:13
+-- src/chains.rt:16:13
 byte-requires : tie.Need-byte-requires
 byte-requires c κs = search needs
 
--- src/chains.rt:34:16
-u16-at-requires : tie.Need-u16-at-requires
-u16-at-requires c κs = search needs
-
--- src/chains.rt:34:46
+-- src/chains.rt:17:9
 byte-requires-2 : tie.Need-byte-requires-2
 byte-requires-2 c κs = search needs
 
--- src/chains.rt:34:38
+-- src/chains.rt:19:16
+u16-at-requires : tie.Need-u16-at-requires
+u16-at-requires c κs = search needs
+
+-- src/chains.rt:19:38
 mul-result : tie.Need-mul-result
 mul-result c = search needs
 
--- src/chains.rt:34:16
+-- src/chains.rt:19:16
 add-result : tie.Need-add-result
 add-result c = search needs
 
--- src/chains.rt:34:9
+-- src/chains.rt:19:9
 returns : tie.Need-returns
-returns c = key-short _ _ _ _ _ (c .before .before .before .byte .ensures) (c .before .before .if1 .taken) (c .before .u16-at .ensures) (c .byte2 .ensures)
+returns c = key-short _ _ _ _ _ (c .before .before .before .byte .ensures) (c .before .before .byte2 .ensures) (c .before .if1 .taken) (c .u16-at .ensures)
 
--- src/chains.rt:36:5
-last-four-requires : tie.Need-last-four-requires
-last-four-requires c κs = search needs
+-- src/chains.rt:21:18
+sub-four : tie.Need-sub-four
+sub-four c = omega (arith, key-within (c .before .before .before .before .args .s .now) (c .before .before .before .before .args .p) (c .before .before .byte .result) (c .before .byte2 .result) (c .before .byte2 .ensures) (c .if1 .left))
 
--- src/chains.rt:29:1
+-- src/chains.rt:21:13
+add-four : tie.Need-add-four
+add-four c = omega (arith, key-within (c .before .before .before .before .args .s .now) (c .before .before .before .before .args .p) (c .before .before .byte .result) (c .before .byte2 .result) (c .before .byte2 .ensures) (c .if1 .left))
+
+-- src/chains.rt:21:5
+four-requires : tie.Need-four-requires
+four-requires c κs = omega (arith, key-within (c .before .before .before .before .args .s .now) (c .before .before .before .before .args .p) (c .before .before .byte .result) (c .before .byte2 .result) (c .before .byte2 .ensures) (c .if1 .left))
+
+-- src/chains.rt:13:1
 returns-2 : tie.Need-returns-2
-returns-2 c = key-long _ _ _ _ (c .before .before .byte .ensures) (c .before .if1 .left) (c .last-four .ensures)
+returns-2 c = key-long _ _ _ _ _ (c .before .before .before .byte .ensures) (c .before .before .byte2 .ensures) (c .before .if1 .left) (c .four .ensures)
 
 pub key-spec : {M : Type 1} → statement M
 key-spec =
     tie.close
     (tie.spec
     byte-requires
-    u16-at-requires
     byte-requires-2
+    u16-at-requires
     mul-result
     add-result
     returns
-    last-four-requires
+    sub-four
+    add-four
+    four-requires
     returns-2)
