@@ -7,9 +7,9 @@ ghost use Prim.Native.Nat.{_+_, _<_};
 ghost use lib.ListN.{getD};
 ghost use Rattle.section.specs.Chains.{key, spread, Hashed, link};
 
-// What the hash of the name at p is made of: the four bytes up to its last letter, the length before the letters one of them;
-// of a name of fewer than three letters its length, first letter and last letter. A last letter 0, as a name has that the
-// stream's end cuts, is taken as a name of few letters, so that the four bytes are inside the stream.
+// What the hash of the name at p is made of: the four bytes up to its last letter (of three letters, with the length byte),
+// or of a name of fewer letters its length, first letter and last letter. A name whose last letter is 0, as that of one is
+// which the stream's end cuts, is taken like a short one, so that the four bytes always lie inside the stream.
 fn key(s: &[u8], p: usize) -> u64
     ensures { λ r. ⌜ (r ≡ key (now (s .entry)) p) × (r < 4294967296) × (getD (now (s .entry)) p 0 < 256) ⌝ }
 {

@@ -1,5 +1,5 @@
 // Expressions, each ahead of its parts. The walk over a prefix-coded expression calls itself on each part, depth left
-// falling. Names and integers, which have no parts and are the most, are read without the cursor's tests.
+// falling. Names and integers, which are the most and have no parts, are read at once.
 use crate::cursor::Cursor;
 use crate::cursor::bits;
 use crate::cursor::code;
@@ -102,7 +102,7 @@ pub fn expr(depth: u64, s: &[u8], m: u64, c: Cursor) -> Cursor
     longer(depth, s, m, c)
 }
 
-// The same by the cursor, for all kinds.
+// An expression of any kind, read by the cursor.
 fn longer(depth: u64, s: &[u8], m: u64, c: Cursor) -> Cursor
     ensures { λ r. ⌜ r ≡ expr depth (now (s .entry)) m c ⌝ }
 {

@@ -1,5 +1,5 @@
-// The header: rule set, counts, default space and the four names, each a u16 at its fixed offset. One that holds is found
-// good at once; any other is read field by field, for its first refusal.
+// The header: rule set, counts, default space and the four names, each a u16 at its fixed offset. A header
+// within all limits is passed at once; any other is read field by field, for its first refusal.
 use crate::cursor::Cursor;
 use crate::cursor::name;
 use crate::cursor::u16_below;
@@ -46,7 +46,7 @@ fn roles(s: &[u8], c: Cursor) -> Cursor
     name(s, m, constant)
 }
 
-// Whether what `global_counts` reads is within its limits, and so of `counts` and `roles`.
+// Whether all that `global_counts` reads is within its limits.
 fn globals_hold(s: &[u8]) -> bool
     requires { ⌜ 34 ≤ length (now s) ⌝ }
     ensures { λ r. ⌜ r ≡ globalsHold (now (s .entry)) ⌝ }
@@ -62,6 +62,7 @@ fn globals_hold(s: &[u8]) -> bool
         & (two(s, 16) < 1025)
 }
 
+// Whether all that `counts` reads is within its limits.
 fn counts_hold(s: &[u8]) -> bool
     requires { ⌜ 34 ≤ length (now s) ⌝ }
     ensures { λ r. ⌜ r ≡ countsHold (now (s .entry)) ⌝ }
@@ -69,6 +70,7 @@ fn counts_hold(s: &[u8]) -> bool
     (two(s, 18) < 65) & (two(s, 20) < 33) & (two(s, 22) < 1025)
 }
 
+// Whether all that `roles` reads is within its limits.
 fn roles_hold(s: &[u8]) -> bool
     requires { ⌜ 34 ≤ length (now s) ⌝ }
     ensures { λ r. ⌜ r ≡ rolesHold (now (s .entry)) ⌝ }
