@@ -1,11 +1,14 @@
 // Total access to lent slices: a read past the end is 0 and a write past the end changes nothing, so that callers have no
 // bounds to show. Numbers are little-endian, and `mask` has the low bits set.
+use inside::two;
 ghost use mathlib.Core.Path.{_≡_};
 ghost use mathlib.Core.List.{_++_};
-ghost use Prim.Native.Nat.{_+_, _-_, _≤_, _<_};
+ghost use Prim.Native.Nat.{_+_, _-_, _<_};
 ghost use lib.ListN.{length, getD, set, take, replicate};
 ghost use Rattle.cells.specs.Le.{le16, le32, le64};
 ghost use Rattle.cells.specs.Mask.{maskOf};
+
+pub mod inside;
 
 // The byte i after a position.
 pub fn byte(s: &[u8], at: usize, i: usize) -> u64
@@ -17,14 +20,6 @@ pub fn byte(s: &[u8], at: usize, i: usize) -> u64
         }
     }
     0
-}
-
-// The number of two bytes that are there.
-fn two(s: &[u8], i: usize) -> u64
-    requires { ⌜ i + 2 ≤ length (now s) ⌝ }
-    ensures { λ r. ⌜ (r ≡ le16 (now (s .entry)) i) × (r < 65536) ⌝ }
-{
-    s[i] as u64 + 256 * (s[i + 1] as u64)
 }
 
 // The number of two bytes, i after a position. Where the second is past the end, it is the first alone.

@@ -10,7 +10,7 @@ use crate::cursor::size;
 use crate::cursor::size_or;
 use crate::cursor::skip;
 use crate::cursor::small_count;
-use crate::inside::two;
+use cells::inside::two;
 ghost use mathlib.Core.Path.{_≡_};
 ghost use Prim.Native.Nat.{_≤_};
 ghost use lib.ListN.{length};

@@ -4,7 +4,7 @@ use crate::cursor::Cursor;
 use crate::cursor::name;
 use crate::cursor::u16_below;
 use crate::cursor::u16_or;
-use crate::inside::two;
+use cells::inside::two;
 ghost use mathlib.Core.Path.{_≡_};
 ghost use Prim.Native.Nat.{_≤_};
 ghost use lib.ListN.{length};

@@ -25,7 +25,6 @@ pub mod chains;
 pub mod cursor;
 pub mod expressions;
 pub mod header;
-pub mod inside;
 pub mod lists;
 pub mod names;
 pub mod statements;

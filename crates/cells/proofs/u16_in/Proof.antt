@@ -4,7 +4,7 @@ use Rattle.cells.proofs.u16_in.Tie as tie
 use Rattle.cells.proofs.u16_in.Reads as reads
 use Rattle.cells.proofs.u16_in.Lts as lts
 use Rattle.cells.proofs.byte.Reads as byte-reads
-use Rattle.cells.proofs.two.Reads as two-reads
+use Rattle.cells.proofs.inside.two.Reads as two-reads
 use native.Mathlib.Omega.{arith}
 use Rattle.cells.proofs.Laws.{last-law, none-law}
 

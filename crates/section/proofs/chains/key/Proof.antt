@@ -5,7 +5,7 @@ use Rattle.section.proofs.chains.key.Reads as reads
 use Rattle.section.proofs.chains.key.Lts as lts
 use Rattle.cells.proofs.byte.Reads as byte-reads
 use Rattle.cells.proofs.u16_at.Reads as u16-at-reads
-use Rattle.section.proofs.inside.four.Reads as four-reads
+use Rattle.cells.proofs.inside.four.Reads as four-reads
 use Rattle.section.proofs.ChainLaws.{key-within, key-short, key-long}
 use native.Mathlib.Omega.{arith}
 

@@ -3,7 +3,7 @@ use Rattle.section.proofs.expressions.name_here.Statement.{statement}
 use Rattle.section.proofs.expressions.name_here.Tie as tie
 use Rattle.section.proofs.expressions.name_here.Reads as reads
 use Rattle.section.proofs.expressions.name_here.Lts as lts
-use Rattle.section.proofs.inside.two.Reads as two-reads
+use Rattle.cells.proofs.inside.two.Reads as two-reads
 use Rattle.section.proofs.CodeLaws.{code-laws}
 
 -- src/expressions.rt:45:8

@@ -3,7 +3,7 @@ use Rattle.section.proofs.header.globals_hold.Statement.{statement}
 use Rattle.section.proofs.header.globals_hold.Tie as tie
 use Rattle.section.proofs.header.globals_hold.Reads as reads
 use Rattle.section.proofs.header.globals_hold.Lts as lts
-use Rattle.section.proofs.inside.two.Reads as two-reads
+use Rattle.cells.proofs.inside.two.Reads as two-reads
 use Rattle.section.proofs.HeaderLaws.{header-laws}
 
 -- src/header.rt:54:6

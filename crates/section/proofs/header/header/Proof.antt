@@ -9,7 +9,7 @@ use Rattle.section.proofs.header.global_counts.Reads as global-counts-r
 use Rattle.section.proofs.header.globals_hold.Reads as globals-hold-reads
 use Rattle.section.proofs.header.roles.Reads as roles-reads
 use Rattle.section.proofs.header.roles_hold.Reads as roles-hold-reads
-use Rattle.section.proofs.inside.two.Reads as two-reads
+use Rattle.cells.proofs.inside.two.Reads as two-reads
 use Rattle.section.proofs.HeaderLaws.{header-laws}
 
 -- src/header.rt:89:12

@@ -2,7 +2,7 @@ use Rattle.section.proofs.zeros.past_zeros.Statement.{statement}
 use Rattle.section.proofs.zeros.past_zeros.Tie as tie
 use Rattle.section.proofs.zeros.past_zeros.Reads as reads
 use Rattle.section.proofs.zeros.past_zeros.Lts as lts
-use Rattle.section.proofs.inside.eight.Reads as eight-reads
+use Rattle.cells.proofs.inside.eight.Reads as eight-reads
 use borrow.Author.Needs.{needs}
 use native.Mathlib.Omega.{arith}
 use Prim.Native.Nat.{_-_}

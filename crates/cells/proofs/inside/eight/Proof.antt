@@ -1,10 +1,10 @@
 use borrow.Author.Needs.{needs}
-use Rattle.section.proofs.inside.eight.Statement.{statement}
-use Rattle.section.proofs.inside.eight.Tie as tie
-use Rattle.section.proofs.inside.eight.Reads as reads
-use Rattle.section.proofs.inside.eight.Lts as lts
-use Rattle.section.proofs.inside.four.Reads as four-reads
+use Rattle.cells.proofs.inside.eight.Statement.{statement}
+use Rattle.cells.proofs.inside.eight.Tie as tie
+use Rattle.cells.proofs.inside.eight.Reads as reads
+use Rattle.cells.proofs.inside.eight.Lts as lts
+use Rattle.cells.proofs.inside.four.Reads as four-reads
 use Rattle.cells.specs.Le.{le64}
 
 -- src/inside.rt:26:5
 four-requires : tie.Need-four-requires

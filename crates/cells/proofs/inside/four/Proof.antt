@@ -1,10 +1,10 @@
 use borrow.Author.Needs.{needs}
-use Rattle.section.proofs.inside.four.Statement.{statement}
-use Rattle.section.proofs.inside.four.Tie as tie
-use Rattle.section.proofs.inside.four.Reads as reads
-use Rattle.section.proofs.inside.four.Lts as lts
-use Rattle.section.proofs.inside.two.Reads as two-reads
+use Rattle.cells.proofs.inside.four.Statement.{statement}
+use Rattle.cells.proofs.inside.four.Tie as tie
+use Rattle.cells.proofs.inside.four.Reads as reads
+use Rattle.cells.proofs.inside.four.Lts as lts
+use Rattle.cells.proofs.inside.two.Reads as two-reads
 use Rattle.cells.specs.Le.{le32}
 
 -- src/inside.rt:19:5
 two-requires : tie.Need-two-requires

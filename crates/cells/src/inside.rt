@@ -1,8 +1,8 @@
-// Little-endian numbers that stand whole inside the stream: read with no test of the bounds, which the caller has made.
+// Little-endian numbers that stand whole inside a slice: read with no test of the bounds, which the caller has made.
 ghost use mathlib.Core.Path.{_≡_};
 ghost use Prim.Native.Nat.{_+_, _≤_, _<_};
 ghost use lib.ListN.{length};
 ghost use Rattle.cells.specs.Le.{le16, le32, le64};
 
 pub fn two(s: &[u8], i: usize) -> u64
     requires { ⌜ i + 2 ≤ length (now s) ⌝ }

@@ -1,12 +1,12 @@
 use borrow.Author.Needs.{needs}
-use Rattle.section.proofs.inside.two.Statement.{statement}
-use Rattle.section.proofs.inside.two.Tie as tie
-use Rattle.section.proofs.inside.two.Reads as reads
-use Rattle.section.proofs.inside.two.Lts as lts
+use Rattle.cells.proofs.inside.two.Statement.{statement}
+use Rattle.cells.proofs.inside.two.Tie as tie
+use Rattle.cells.proofs.inside.two.Reads as reads
+use Rattle.cells.proofs.inside.two.Lts as lts
 use native.Mathlib.Omega.{arith}
 use Prim.Native.Nat.{_+_}
 use mathlib.Core.Path.{refl}
 use Rattle.cells.specs.Le.{le16}
 
 -- src/inside.rt:12:5
 shared-slice-read-result : tie.Need-shared-slice-read-result
