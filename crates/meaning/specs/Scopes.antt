@@ -140,6 +140,37 @@ unfoldable pub resolveIdent : List ℕ → List ℕ → List ℕ → List ℕ �
 resolveIdent s t p m e st name =
     paramOr (findParam (e .count) p (e .params) name) p e (innerMeaning s t m e st name)
 
+-- A plain local as one number. 0 and 1 are left for what is none.
+abbrev pub plain : ℕ → ℕ → ℕ
+plain kind number = kind + 8 * (number + 1)
+
+-- 0 where none is found
+unfoldable pub plainFound : Found → ℕ
+plainFound (Found.Is v) = plain (v .kind) (v .number)
+plainFound Found.Nothing = 0
+
+-- of globals only a register is plain: 0 for a bit range, 1 for what is wrong
+unfoldable pub plainGlobal : ℕ → ℕ
+plainGlobal g =
+    if eqb g 0 then 1
+    else if eqb ((g - 1) % 8) 1 then plain 2 ((g - 1) / 8)
+    else if eqb ((g - 1) % 8) 2 then 0
+    else 1
+
+unfoldable pub plainOr : ℕ → ℕ → ℕ
+plainOr q other = if eqb q 0 then other else q
+
+unfoldable pub plainInner : List ℕ → List ℕ → List ℕ → Env → State → ℕ → ℕ
+plainInner s t m e st name =
+    if eqb name (le16 s 28) then plain 1 0
+    else if eqb name (le16 s 26) then plain 0 0
+    else plainOr (plainFound (lookupLocal t m (e .scope) (st .temporaries) name)) (plainGlobal (global t name))
+
+-- what a name means, where that is a plain local or wrong; 0 for a parameter
+unfoldable pub plainLocal : List ℕ → List ℕ → List ℕ → List ℕ → Env → State → ℕ → ℕ
+plainLocal s t p m e st name =
+    if ltb 0 (findParam (e .count) p (e .params) name) then 0 else plainInner s t m e st name
+
 -- 21 where there was one of this name, else the words that it is attached in
 unfoldable pub undeclared : Found → Value → State → List ℕ → List ℕ → Listed Read
 undeclared (Found.Is w) v st m n = listed (Read.No 21) m

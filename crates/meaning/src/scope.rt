@@ -16,7 +16,7 @@ ghost use Prim.Native.Nat.{_+_, _<_};
 ghost use Rattle.cells.specs.Le.{le16};
 ghost use Rattle.pcode.specs.Base.{listed};
 ghost use Rattle.meaning.specs.Slots.{oneValue, slotOf, ofSlot, putSlot, slotAt, paramPlace};
-ghost use Rattle.meaning.specs.Scopes.{findParam, isLocal, path, link, linked, onward, findLocal, attach, ownLocal, tmpLocal, orTmp, lookupLocal, global, bitRange, globalMeaning, innerMeaning, resolveIdent, namedTmp};
+ghost use Rattle.meaning.specs.Scopes.{findParam, isLocal, path, link, linked, onward, findLocal, attach, ownLocal, tmpLocal, orTmp, lookupLocal, global, bitRange, globalMeaning, innerMeaning, resolveIdent, plainFound, plainGlobal, plainInner, plainLocal, namedTmp};
 
 // What an expression means before it is read.
 pub enum ExprValue {
@@ -394,6 +394,86 @@ pub fn resolve_ident(
         return Meaning::Means(of_slot(slot_at(p, param_place(e.params, i - 1))));
     }
     inner_meaning(s, t, m, e, st, name)
+}
+
+// A field or a subtable as one number: kind + 8 × (1 + number), or 0 where there is none.
+fn plain_own(t: &[u16], name: u64) -> u64
+    ensures { λ r. ⌜ r ≡ plainFound (ownLocal (now (t .entry)) name) ⌝ }
+{
+    let k = cells::get_u16(t, 2048 + (name % 1024) as usize) as u64;
+    if k == 0 {
+        return 0;
+    }
+    if k % 2 == 1 {
+        return 3 + 8 * (k / 2 + 1);
+    }
+    4 + 8 * (k / 2)
+}
+
+fn plain_tmp(m: &[u64], n: usize, name: u64, scope: u64) -> u64
+    ensures { λ r. ⌜ r ≡ plainFound (tmpLocal (now (m .entry)) n name scope) ⌝ }
+{
+    let i = find_local(m, n, name, scope);
+    if i < n {
+        return 6 + 8 * (i as u64 + 1);
+    }
+    0
+}
+
+fn plain_found(t: &[u16], m: &[u64], scope: u64, n: usize, name: u64) -> u64
+    ensures { λ r. ⌜ r ≡ plainFound (lookupLocal (now (t .entry)) (now (m .entry)) scope n name) ⌝ }
+{
+    if scope != 0 {
+        return plain_tmp(m, n, name, scope);
+    }
+    let q = plain_own(t, name);
+    if q == 0 {
+        return plain_tmp(m, n, name, scope);
+    }
+    q
+}
+
+// A global register as one number; 0 for a bit range, 1 where a name means nothing or a wrong thing.
+fn plain_global(t: &[u16], name: u64) -> u64
+    ensures { λ r. ⌜ r ≡ plainGlobal (global (now (t .entry)) name) ⌝ }
+{
+    let g = cells::get_u16(t, 1024 + (name % 1024) as usize) as u64;
+    if g == 0 {
+        return 1;
+    }
+    let kind = (g - 1) % 8;
+    match kind {
+        1 => 2 + 8 * ((g - 1) / 8 + 1),
+        2 => 0,
+        _ => 1,
+    }
+}
+
+fn plain_inner(s: &[u8], t: &[u16], m: &[u64], e: Env, st: State, name: u64) -> u64
+    ensures { λ r. ⌜ r ≡ plainInner (now (s .entry)) (now (t .entry)) (now (m .entry)) e st name ⌝ }
+{
+    if name == cells::u16_at(s, 28) {
+        return 9;
+    }
+    if name == cells::u16_at(s, 26) {
+        return 8;
+    }
+    let q = plain_found(t, m, e.scope, st.temporaries, name);
+    if q == 0 {
+        return plain_global(t, name);
+    }
+    q
+}
+
+// The usual name, a plain local, as one number in place of a large `Meaning`: kind + 8 × (1 + number). 1 stands for `Wrong`, and
+// 0 for what only `resolve_ident` tells.
+pub fn plain_local(s: &[u8], t: &[u16], p: &[u64], m: &[u64], e: Env, st: State, name: u64) -> u64
+    ensures { λ r. ⌜ r ≡ plainLocal (now (s .entry)) (now (t .entry)) (now (p .entry)) (now (m .entry)) e st name ⌝ }
+{
+    if 0 < find_param(p, e.params, e.count, name) {
+        return 0;
+    }
+    plain_inner(s, t, m, e, st, name)
 }
 
 // A named temporary is made, then declared.
