@@ -1,12 +1,14 @@
 -- One law for each way out of the functions over expressions.
 use mathlib.Core.Path.{_≡_, refl, _∙_, ap}
+use mathlib.Core.Bool.{Bool, true, false}
 use mathlib.Core.List.{List, [], _∷_}
-use Prim.Native.Nat.{ℕ, suc, _+_, _-_, _*_, _≤_, _<_}
+use Prim.Native.Nat.{ℕ, suc, _+_, _-_, _*_, _/_, _%_, _≤_, _<_}
 use native.Mathlib.Omega.{arith}
 use lib.ListN.{getD, replicate}
+use lib.Dec.{eqb}
 use types.Run.{OneOf, miss}
 use denote.Enum.Declared.{tagOf}
-use borrow.Author.Tests.{eq-eqb, ne-eqb, lt-ltb, le-ltb}
+use borrow.Author.Tests.{eqb-true, eqb-false, eq-eqb, ne-eqb, lt-ltb, le-ltb}
 use Rattle.cells.specs.Le.{le16, le64}
 use Rattle.section.specs.declared.cursor.Cursor.{Cursor}
 use Rattle.section.specs.Cursors.{cursor}
@@ -16,7 +18,7 @@ use Rattle.pushing.specs.declared.push.State.{State}
 use Rattle.pushing.specs.declared.push.Env.{Env}
 use Rattle.pushing.specs.declared.push.Read.{Read}
 use Rattle.pcode.specs.Base.{if_then_else_}
-use Rattle.pcode.specs.Values.{absent}
+use Rattle.pcode.specs.Values.{absent, local}
 use Rattle.pushing.specs.Pushes.{read}
 use Rattle.meaning.specs.declared.scope.ExprValue.{ExprValue}
 use Rattle.meaning.proofs.scope.ExprValue as exprValues
@@ -27,13 +29,14 @@ use Rattle.expression.specs.declared.expr.Order.{Order}
 use Rattle.meaning.specs.declared.args.Args.{Args}
 use Rattle.expression.specs.declared.calls.Callee.{Callee}
 use Rattle.meaning.specs.Slots.{putArg}
-use Rattle.meaning.specs.Scopes.{resolveIdent}
-use Rattle.meaning.specs.Reading.{readOperand}
+use Rattle.meaning.specs.Scopes.{resolveIdent, plainLocal}
+use Rattle.meaning.proofs.PlainLaws.{plain-means, plain-least}
+use Rattle.meaning.specs.Reading.{constant, copyTo, readValue, readOperand}
 use Rattle.expression.specs.Answers.{resolved, onExpr, operand, onOperand, ArgsOut, passed, onArgs, operandOf, appliedTo, after}
 use Rattle.expression.specs.Slices.{sliceBits}
 use Rattle.expression.specs.Addresses.{resolveAddress}
 use Rattle.expression.specs.Calls.{calleeOf, applied, callUserOp, subpiece}
-use Rattle.expression.specs.Expressions.{valueThen, meansAt, localAddress, addressMeant, addressOf, atom, operationOf, later, skipExpr, order, orderOf, operandsAround, operandsOf, apply1, apply2, partAt, withPart, Walk, exprValue, part, binary, resolveOp, secondOf, callInbuilt, resolveArgs, userOp, callNamed, resolveCall, byCode, resolveExpr}
+use Rattle.expression.specs.Expressions.{valueThen, meansAt, localAddress, addressMeant, addressOf, atom, plainAt, plainOperand, operationOf, later, skipExpr, order, orderOf, operandsAround, operandsOf, apply1, apply2, partAt, withPart, Walk, exprValue, part, binary, resolveOp, secondOf, callInbuilt, resolveArgs, userOp, callNamed, resolveCall, byCode, resolveExpr}
 
 -- ---- positions
 pub after-near : (pos n : ℕ) → pos < 65536 → n < 65536 → pos + n ≡ after pos n
@@ -129,10 +132,8 @@ module _ (s t p m : List ℕ) (pos : ℕ) (e : Env) (st : State) (name : ℕ) (x
   address-meant v size next z q es ex h = rw (← en, ← f, q, ← es, ← ex) h
 
 module _ (code : ℕ) (s t p m : List ℕ) (pos : ℕ) (e : Env) (st : State) where
-  pub atom-name : (name : ℕ) (x : Meaning) (next : ℕ) (z : Expr) → code ≡ 0 → name ≡ le16 s (pos + 1) → x ≡ resolveIdent s t p m e st name → next ≡ after pos 3 →
-      z ≡ meansAt x next st → z ≡ atom code s t p m pos e st
-  unfolding atom if_then_else_
-  atom-name name x next z k en f ex h = rw (eq-eqb code 0 k, ← en, ← f, ← ex) h
+  pub atom-name : (z : Expr) → code ≡ 0 → z ≡ atom 0 s t p m pos e st → z ≡ atom code s t p m pos e st
+  atom-name z k h = rw k h
 
   pub atom-integer : (at n next : ℕ) → code ≡ 1 → at ≡ after pos 1 → n ≡ le64 s at → next ≡ after pos 9 → Expr.Value (ExprValue.Const n 65535) next st ≡ atom code s t p m pos e st
   unfolding atom if_then_else_
@@ -141,6 +142,43 @@ module _ (code : ℕ) (s t p m : List ℕ) (pos : ℕ) (e : Env) (st : State) wh
   pub atom-address : (z : Expr) → (code ≡ 0 → ⊥) → (code ≡ 1 → ⊥) → z ≡ addressOf s t p m pos e st → z ≡ atom code s t p m pos e st
   unfolding atom if_then_else_
   atom-address z k l h = rw (ne-eqb code 0 k, ne-eqb code 1 l) h
+
+module _ (s t p m : List ℕ) (pos : ℕ) (e : Env) (st : State) (name : ℕ) (en : name ≡ le16 s (pos + 1)) (next : ℕ) (ex : next ≡ after pos 3) where
+  pub name-plain : (q : ℕ) (v : Value) → q ≡ plainLocal s t p m e st name → 8 ≤ q → v ≡ local (q % 8) (q / 8 - 1) →
+      Expr.Value (ExprValue.Local v) next st ≡ atom 0 s t p m pos e st
+  unfolding atom meansAt if_then_else_
+  name-plain q v f h ev = rw (← en, ← ex, plain-means s t p m e st name q f h, ev)
+
+  pub name-other : (x : Meaning) (z : Expr) → x ≡ resolveIdent s t p m e st name → z ≡ meansAt x next st → z ≡ atom 0 s t p m pos e st
+  unfolding atom if_then_else_
+  name-other x z f h = rw (← en, ← ex, ← f) h
+
+-- ---- operands that are the value itself
+pub plain-deep : (d : ℕ) (s t p m : List ℕ) (pos : ℕ) (e : Env) (st : State) → d ≡ 0 → 0 ≡ plainAt d s t p m pos e st
+unfolding plainAt if_then_else_
+plain-deep d s t p m pos e st z = rw (eq-eqb d 0 z)
+
+module _ (d : ℕ) (s t p m : List ℕ) (pos : ℕ) (e : Env) (st : State) (nz : d ≡ 0 → ⊥) (code : ℕ) (ec : code ≡ getD s (pos + 0) 0) where
+  pub plain-name : (name q : ℕ) → code ≡ 0 → name ≡ le16 s (pos + 1) → q ≡ plainLocal s t p m e st name → q ≡ plainAt d s t p m pos e st
+  unfolding plainAt if_then_else_
+  plain-name name q k en f = rw (ne-eqb d 0 nz, ← ec, eq-eqb code 0 k, ← en) f
+
+  pub plain-integer : code ≡ 1 → 7 ≡ plainAt d s t p m pos e st
+  unfolding plainAt if_then_else_
+  plain-integer k = rw (ne-eqb d 0 nz, ← ec, k)
+
+  pub plain-none : (code ≡ 0 → ⊥) → (code ≡ 1 → ⊥) → 0 ≡ plainAt d s t p m pos e st
+  unfolding plainAt if_then_else_
+  plain-none k l = rw (ne-eqb d 0 nz, ← ec, ne-eqb code 0 k, ne-eqb code 1 l)
+
+module _ (q : ℕ) (s : List ℕ) (pos : ℕ) (st : State) (v : Value) (next : ℕ) where
+  pub operand-local : 8 ≤ q → v ≡ local (q % 8) (q / 8 - 1) → next ≡ after pos 3 → Operand.Value v next st ≡ plainOperand q s pos st
+  unfolding plainOperand if_then_else_
+  operand-local h ev ex = rw (le-ltb q 8 h, ← ex, ev)
+
+  pub operand-integer : (at n : ℕ) → q < 8 → at ≡ after pos 1 → n ≡ le64 s at → v ≡ constant n → next ≡ after pos 9 → Operand.Value v next st ≡ plainOperand q s pos st
+  unfolding plainOperand if_then_else_
+  operand-integer at n h ea en ev ex = rw (lt-ltb q 8 h, ← ea, ← en, ← ex, ev)
 
 -- ---- operators
 module _ (code : ℕ) where
@@ -334,6 +372,43 @@ module _ (d : ℕ) (s t p : List ℕ) (e : Env) (pos : ℕ) (a m : List ℕ) (st
         unfolding byCode if_then_else_
         expr-call z a1 m1 h g = rw (step, le-ltb code 3 k, ne-eqb code 5 l, le-ltb code 7 o, ne-eqb code 7 h) g
 
-pub ruleset expr-laws = (after-near, after-long, after-far, later-second, later-first, part-deref, part-other, skip-law, then-no, then-value, means-wrong, means-value, apply1-no, apply1-value, apply2-no, apply2-value, address-local, address-other, address-wrong, address-meant, atom-name, atom-integer, atom-address, operation-33, operation-34, operation-35, operation-36, operation-37, operation-38, operation-same, order-written, order-swapped, with-truncate, with-slice, with-deref)
+-- ---- an atom that is read is the value itself
+module _ (d : ℕ) (s t p : List ℕ) (e : Env) (pos : ℕ) (a m : List ℕ) (st : State) (nz : d ≡ 0 → ⊥) where
+  value-atom : (x : ExprValue) (v : Value) (next : ℕ) → getD s (pos + 0) 0 < 3 → Expr.Value x next st ≡ atom (getD s (pos + 0) 0) s t p m pos e st →
+      read (Read.Value v st) a m ≡ readOperand s t a m e x st → operand (Operand.Value v next st) a m ≡ exprValue (resolveExpr d s t p e) s t e pos a m st
+  unfolding valueThen
+  value-atom x v next h g r =
+      value-yes (resolveExpr d s t p e) s t e pos a m st (Expr.Value x next st) a m (expr-atom d s t p e pos a m st nz (getD s (pos + 0) 0) refl (Expr.Value x next st) h g)
+      x next st (Read.Value v st) a m (Operand.Value v next st) refl r refl
 
-pub ruleset walk-laws = (part-no, part-yes, value-no, value-yes, operator-no, operator-yes, inbuilt-one, inbuilt-no, inbuilt-two, user-no, user-yes, call-inbuilt, call-user-op, call-subpiece, call-refused, expr-deep, expr-atom, expr-operator, expr-part, expr-pool, expr-call)
+  plain-atom : (q : ℕ) → getD s (pos + 0) 0 ≡ 0 → q ≡ plainLocal s t p m e st (le16 s (pos + 1)) → 7 ≤ q →
+      operand (plainOperand q s pos st) a m ≡ exprValue (resolveExpr d s t p e) s t e pos a m st
+  unfolding plainOperand readOperand readValue copyTo if_then_else_
+  plain-atom q k f h =
+      let l : 8 ≤ q = plain-least s t p m e st (le16 s (pos + 1)) q f (omega arith) in
+      rw (le-ltb q 8 l)
+      (value-atom (ExprValue.Local (local (q % 8) (q / 8 - 1))) (local (q % 8) (q / 8 - 1)) (after pos 3) (omega arith)
+      (rw k (name-plain s t p m pos e st (le16 s (pos + 1)) refl (after pos 3) refl q _ f l refl)) refl)
+
+  integer-atom : getD s (pos + 0) 0 ≡ 1 → operand (plainOperand 7 s pos st) a m ≡ exprValue (resolveExpr d s t p e) s t e pos a m st
+  unfolding plainOperand readOperand readValue copyTo if_then_else_
+  integer-atom k =
+      value-atom (ExprValue.Const (le64 s (after pos 1)) 65535) (constant (le64 s (after pos 1))) (after pos 9) (omega arith)
+      (atom-integer (getD s (pos + 0) 0) s t p m pos e st (after pos 1) _ (after pos 9) k refl refl refl) refl
+
+pub value-plain : (d : ℕ) (s t p : List ℕ) (e : Env) (pos : ℕ) (a m : List ℕ) (st : State) (q : ℕ) (z : Operand) → q ≡ plainAt d s t p m pos e st → 7 ≤ q →
+    z ≡ plainOperand q s pos st → operand z a m ≡ exprValue (resolveExpr d s t p e) s t e pos a m st
+unfolding plainAt if_then_else_
+value-plain d s t p e pos a m st q z f h g = rw g (go (eqb d 0) refl (eqb (getD s (pos + 0) 0) 0) refl (eqb (getD s (pos + 0) 0) 1) refl f)
+  where
+    go : (x : Bool) → eqb d 0 ≡ x → (y : Bool) → eqb (getD s (pos + 0) 0) 0 ≡ y → (w : Bool) → eqb (getD s (pos + 0) 0) 1 ≡ w →
+        q ≡ (if x then 0 else (if y then plainLocal s t p m e st (le16 s (pos + 1)) else (if w then 7 else 0))) →
+        operand (plainOperand q s pos st) a m ≡ exprValue (resolveExpr d s t p e) s t e pos a m st
+    go true ex y ey w ew f = absurd (omega arith)
+    go false ex true ey w ew f = plain-atom d s t p e pos a m st (eqb-false d 0 ex) q (eqb-true (getD s (pos + 0) 0) 0 ey) f h
+    go false ex false ey true ew f = rw f (integer-atom d s t p e pos a m st (eqb-false d 0 ex) (eqb-true (getD s (pos + 0) 0) 1 ew))
+    go false ex false ey false ew f = absurd (omega arith)
+
+pub ruleset expr-laws = (after-near, after-long, after-far, later-second, later-first, part-deref, part-other, skip-law, then-no, then-value, means-wrong, means-value, apply1-no, apply1-value, apply2-no, apply2-value, address-local, address-other, address-wrong, address-meant, name-plain, name-other, atom-name, atom-integer, atom-address, plain-deep, plain-name, plain-integer, plain-none, operand-local, operand-integer, operation-33, operation-34, operation-35, operation-36, operation-37, operation-38, operation-same, order-written, order-swapped, with-truncate, with-slice, with-deref)
+
+pub ruleset walk-laws = (part-no, part-yes, value-no, value-yes, value-plain, operator-no, operator-yes, inbuilt-one, inbuilt-no, inbuilt-two, user-no, user-yes, call-inbuilt, call-user-op, call-subpiece, call-refused, expr-deep, expr-atom, expr-operator, expr-part, expr-pool, expr-call)

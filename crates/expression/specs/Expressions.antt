@@ -1,5 +1,5 @@
 -- Expressions, resolved by a walk over their prefix code. A step takes the walk over a part, one level deeper, as an argument.
-use Prim.Native.Nat.{ℕ, zero, suc, _+_, _*_}
+use Prim.Native.Nat.{ℕ, zero, suc, _+_, _-_, _*_, _/_, _%_}
 use mathlib.Core.List.{List}
 use lib.ListN.{getD, replicate}
 use lib.Dec.{eqb, ltb}
@@ -11,7 +11,7 @@ use Rattle.pushing.specs.declared.push.State.{State}
 use Rattle.pushing.specs.declared.push.Env.{Env}
 use Rattle.pushing.specs.declared.push.Read.{Read}
 use Rattle.pcode.specs.Base.{if_then_else_}
-use Rattle.pcode.specs.Values.{absent}
+use Rattle.pcode.specs.Values.{absent, local}
 use Rattle.meaning.specs.declared.scope.ExprValue.{ExprValue}
 use Rattle.meaning.specs.declared.scope.Meaning.{Meaning}
 use Rattle.expression.specs.declared.expr.Expr.{Expr}
@@ -20,8 +20,8 @@ use Rattle.expression.specs.declared.expr.Order.{Order}
 use Rattle.meaning.specs.declared.args.Args.{Args}
 use Rattle.expression.specs.declared.calls.Callee.{Callee}
 use Rattle.meaning.specs.Slots.{putArg}
-use Rattle.meaning.specs.Scopes.{resolveIdent}
-use Rattle.meaning.specs.Reading.{readOperand}
+use Rattle.meaning.specs.Scopes.{resolveIdent, plainLocal}
+use Rattle.meaning.specs.Reading.{constant, readOperand}
 use Rattle.expression.specs.Answers.{ExprOut, resolved, onExpr, OperandOut, operand, onOperand, ArgsOut, passed, onArgs, operandOf, appliedTo, after}
 use Rattle.expression.specs.Slices.{sliceBits}
 use Rattle.expression.specs.Addresses.{resolveAddress}
@@ -59,6 +59,20 @@ atom code s t p m pos e st =
     if eqb code 0 then meansAt (resolveIdent s t p m e st (le16 s (pos + 1))) (after pos 3) st
     else if eqb code 1 then Expr.Value (ExprValue.Const (le64 s (after pos 1)) 65535) (after pos 9) st
     else addressOf s t p m pos e st
+
+-- what stands at a position as one number: that of a plain local, or 7 for an integer; less for what has to be resolved
+unfoldable pub plainAt : ℕ → List ℕ → List ℕ → List ℕ → List ℕ → ℕ → Env → State → ℕ
+plainAt deep s t p m pos e st =
+    if eqb deep 0 then 0
+    else if eqb (getD s (pos + 0) 0) 0 then plainLocal s t p m e st (le16 s (pos + 1))
+    else if eqb (getD s (pos + 0) 0) 1 then 7
+    else 0
+
+-- the operand of such a number
+unfoldable pub plainOperand : ℕ → List ℕ → ℕ → State → Operand
+plainOperand q s pos st =
+    if ltb q 8 then Operand.Value (constant (le64 s (after pos 1))) (after pos 9) st
+    else Operand.Value (local (q % 8) (q / 8 - 1)) (after pos 3) st
 
 -- the operation of an operator: the six greater ones are the lesser ones swapped
 unfoldable pub operationOf : ℕ → ℕ

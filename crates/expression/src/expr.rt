@@ -7,20 +7,23 @@ use crate::calls::subpiece;
 use crate::slices::slice_bits;
 use meaning::args::Args;
 use meaning::args::put_arg;
+use meaning::read::constant;
 use meaning::read::read_operand;
 use meaning::scope::ExprValue;
 use meaning::scope::Meaning;
+use meaning::scope::plain_local;
 use meaning::scope::resolve_ident;
 use meaning::scope::u16_in;
 use pcode::value::Value;
 use pcode::value::absent;
+use pcode::value::local;
 use pushing::push::Env;
 use pushing::push::Read;
 use pushing::push::State;
 use section::cursor::Cursor;
 ghost use mathlib.Core.Path.{_≡_};
 ghost use Rattle.expression.specs.Answers.{after, resolved, operand, passed};
-ghost use Rattle.expression.specs.Expressions.{valueThen, meansAt, localAddress, addressOf, atom, operationOf, later, skipExpr, operandsOf, apply1, apply2, partAt, withPart, exprValue, part, resolveOp, callInbuilt, resolveArgs, userOp, resolveCall, resolveExpr};
+ghost use Rattle.expression.specs.Expressions.{valueThen, meansAt, localAddress, addressOf, atom, plainAt, plainOperand, operationOf, later, skipExpr, operandsOf, apply1, apply2, partAt, withPart, exprValue, part, resolveOp, callInbuilt, resolveArgs, userOp, resolveCall, resolveExpr};
 
 pub enum Expr {
     Value {
@@ -95,16 +98,28 @@ fn address_of(s: &[u8], t: &[u16], p: &[u64], m: &[u64], pos: usize, e: Env, st:
     }
 }
 
+// The name at a position. A plain local needs no `Meaning`.
+fn name_at(s: &[u8], t: &[u16], p: &[u64], m: &[u64], pos: usize, e: Env, st: State) -> Expr
+    ensures { λ r. ⌜ r ≡ atom 0 (now (s .entry)) (now (t .entry)) (now (p .entry)) (now (m .entry)) pos e st ⌝ }
+{
+    let name = u16_in(s, pos, 1);
+    let q = plain_local(s, t, p, m, e, st, name);
+    if 8 <= q {
+        return Expr::Value {
+            x: ExprValue::Local(local(q % 8, q / 8 - 1)),
+            next: after(pos, 3),
+            st,
+        };
+    }
+    means_at(resolve_ident(s, t, p, m, e, st, name), after(pos, 3), st)
+}
+
 // A name, an integer or the address of a local.
 fn atom(code: u64, s: &[u8], t: &[u16], p: &[u64], m: &[u64], pos: usize, e: Env, st: State) -> Expr
     ensures { λ r. ⌜ r ≡ atom code (now (s .entry)) (now (t .entry)) (now (p .entry)) (now (m .entry)) pos e st ⌝ }
 {
     match code {
-        0 => means_at(
-            resolve_ident(s, t, p, m, e, st, u16_in(s, pos, 1)),
-            after(pos, 3),
-            st,
-        ),
+        0 => name_at(s, t, p, m, pos, e, st),
         1 => Expr::Value {
             x: ExprValue::Const {
                 value: cells::u64_at(s, after(pos, 1)),
@@ -236,6 +251,48 @@ fn with_part(
     }
 }
 
+// What stands at a position as one number: that of a plain local, or 7 for an integer; less for what has to be resolved.
+fn plain_at(
+    deep: u64,
+    s: &[u8],
+    t: &[u16],
+    p: &[u64],
+    m: &[u64],
+    pos: usize,
+    e: Env,
+    st: State,
+) -> u64
+    ensures { λ r. ⌜ r ≡ plainAt deep (now (s .entry)) (now (t .entry)) (now (p .entry)) (now (m .entry)) pos e st ⌝ }
+{
+    if deep == 0 {
+        return 0;
+    }
+    let code = cells::byte(s, pos, 0);
+    match code {
+        0 => plain_local(s, t, p, m, e, st, u16_in(s, pos, 1)),
+        1 => 7,
+        _ => 0,
+    }
+}
+
+// The operand of such a number, which is the value itself: reading it pushes nothing.
+fn plain_operand(q: u64, s: &[u8], pos: usize, st: State) -> Operand
+    ensures { λ r. ⌜ r ≡ plainOperand q (now (s .entry)) pos st ⌝ }
+{
+    if 8 <= q {
+        return Operand::Value {
+            v: local(q % 8, q / 8 - 1),
+            next: after(pos, 3),
+            st,
+        };
+    }
+    Operand::Value {
+        v: constant(cells::u64_at(s, after(pos, 1))),
+        next: after(pos, 9),
+        st,
+    }
+}
+
 // An expression resolved, then read.
 pub fn expr_value(
     deep: u64,
@@ -250,6 +307,10 @@ pub fn expr_value(
 ) -> Operand
     ensures { λ r. ⌜ operand r (now (a .exit)) (now (m .exit)) ≡ exprValue (resolveExpr deep (now (s .entry)) (now (t .entry)) (now (p .entry)) e) (now (s .entry)) (now (t .entry)) e pos (now (a .entry)) (now (m .entry)) st ⌝ }
 {
+    let q = plain_at(deep, s, t, p, m, pos, e, st);
+    if 7 <= q {
+        return plain_operand(q, s, pos, st);
+    }
     match resolve_expr(deep, s, t, p, pos, e, a, m, st) {
         Expr::No(n) => Operand::No(n),
         Expr::Value { x, next, st: st1 } => value_then(read_operand(s, t, a, m, e, x, st1), next),

@@ -249,6 +249,11 @@ means-told q x (told k n l a b) h =
 means-told q x (toldWrong n a b) h = absurd (omega arith)
 means-told q x (untold a) h = absurd (omega arith)
 
+least-told : (q : ℕ) (x : Meaning) → Told q x → 2 ≤ q → 8 ≤ q
+least-told q x (told k n l a b) h = omega arith
+least-told q x (toldWrong n a b) h = absurd (omega arith)
+least-told q x (untold a) h = absurd (omega arith)
+
 -- some refusal
 pub record Refused (x : Meaning) : Type 0 where
   pub number : ℕ
@@ -262,6 +267,9 @@ wrong-told q x (untold a) h = absurd (omega arith)
 module _ (s t p m : List ℕ) (e : Env) (st : State) (name q : ℕ) (f : q ≡ plainLocal s t p m e st name) where
   pub plain-means : 8 ≤ q → resolveIdent s t p m e st name ≡ Meaning.Means (ExprValue.Local (local (q % 8) (q / 8 - 1)))
   plain-means = means-told q _ (rw f (ident-told s t p m e st name))
+
+  pub plain-least : 2 ≤ q → 8 ≤ q
+  plain-least = least-told q (resolveIdent s t p m e st name) (rw f (ident-told s t p m e st name))
 
   pub plain-wrong : q ≡ 1 → Refused (resolveIdent s t p m e st name)
   plain-wrong = wrong-told q _ (rw f (ident-told s t p m e st name))
