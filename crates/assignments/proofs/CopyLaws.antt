@@ -1,12 +1,14 @@
 -- One law for each way out of the functions that copy.
-use mathlib.Core.Path.{_≡_}
+use mathlib.Core.Path.{_≡_, refl}
 use mathlib.Core.Bool.{Bool, true, false}
 use mathlib.Core.List.{List, [], _∷_}
 use Prim.Native.Nat.{ℕ, _+_, _-_, _*_, _/_, _%_, _^_, _≤_, _<_}
+use native.Mathlib.Omega.{arith}
 use lib.ListN.{getD}
+use lib.Dec.{eqb}
 use types.Run.{OneOf, miss}
 use denote.Enum.Declared.{tagOf}
-use borrow.Author.Tests.{eq-eqb, ne-eqb, le-leb, lt-leb}
+use borrow.Author.Tests.{eqb-true, eqb-false, eq-eqb, ne-eqb, le-leb, lt-leb}
 use Rattle.cells.specs.Le.{le16}
 use Rattle.cells.specs.Mask.{maskOf}
 use Rattle.pcode.specs.declared.value.Value.{Value}
@@ -14,22 +16,24 @@ use Rattle.pushing.specs.declared.push.State.{State}
 use Rattle.pushing.specs.declared.push.Env.{Env}
 use Rattle.pushing.specs.declared.push.Read.{Read}
 use Rattle.pcode.specs.Base.{if_then_else_, listed, thenL}
-use Rattle.pcode.specs.Values.{absent}
+use Rattle.pcode.specs.Values.{absent, local}
 use Rattle.pcode.specs.Sizes.{sizeOf}
 use Rattle.pushing.specs.Pushes.{read, onRead, onTmp, addTmp, opTo}
 use Rattle.meaning.specs.declared.scope.ExprValue.{ExprValue}
 use Rattle.meaning.proofs.scope.ExprValue as exprValue
 use Rattle.meaning.specs.declared.scope.Meaning.{Meaning}
 use Rattle.expression.specs.declared.expr.Expr.{Expr}
-use Rattle.meaning.specs.Scopes.{resolveIdent, namedTmp}
+use Rattle.meaning.specs.Scopes.{resolveIdent, plainLocal, namedTmp}
+use Rattle.meaning.proofs.PlainLaws.{plain-means, plain-wrong}
 use Rattle.meaning.specs.Reading.{constant, byteAligned, sliced, readValue, readOperand}
 use Rattle.expression.specs.Answers.{resolved, onExpr, after}
-use Rattle.expression.specs.Expressions.{exprValue, resolveExpr}
+use Rattle.expression.specs.Expressions.{exprValue, atom, resolveExpr}
+use Rattle.expression.proofs.ExprLaws.{name-plain, expr-atom}
 use Rattle.walking.specs.declared.walk.Walk.{Walk}
 use Rattle.walking.specs.declared.walk.Step.{Step}
 use Rattle.walking.specs.Walks.{stepped, stepRead, stop, readThen}
 use Rattle.assignments.specs.Stores.{store}
-use Rattle.assignments.specs.Copies.{maskBut, mergeBits, extendBits, insertIn, insertBits, keepBits, writeBits, copyBits, readSliced, copyBytes, copyRange, copyRam, copyInto, targetName, targetSize, afterTarget, newTarget, isWrong, isNew, resolveDst, copyTarget, copyStatement}
+use Rattle.assignments.specs.Copies.{maskBut, mergeBits, extendBits, insertIn, insertBits, keepBits, writeBits, copyBits, readSliced, copyBytes, copyRange, copyRam, copyInto, targetName, targetSize, afterTarget, newTarget, isWrong, isNew, plainTarget, resolveDst, copyTarget, copyStatement}
 
 -- ---- bit writes
 pub mask-but-law : (from bits k : ℕ) → k ≡ maskOf bits → 18446744073709551615 - k * 2 ^ from % 2 ^ 64 ≡ maskBut from bits
@@ -227,6 +231,55 @@ module _ (s t p a m : List ℕ) (e : Env) (pos : ℕ) (st : State) (name : ℕ) 
   unfolding resolveDst if_then_else_
   dst-known a1 m1 q h = rw (← en, ← f, q) h
 
+-- ---- a bare name as target, by its number
+module _ (s t p m : List ℕ) (e : Env) (pos name : ℕ) (st : State) (code : ℕ) (ec : code ≡ getD s (pos + 0) 0) where
+  pub plain-part : (code ≡ 0 → ⊥) → 0 ≡ plainTarget s t p m e pos name st
+  unfolding plainTarget if_then_else_
+  plain-part z = rw (← ec, ne-eqb code 0 z)
+
+  pub plain-unnamed : code ≡ 0 → name ≡ 65535 → 0 ≡ plainTarget s t p m e pos name st
+  unfolding plainTarget if_then_else_
+  plain-unnamed z h = rw (← ec, eq-eqb code 0 z, eq-eqb name 65535 h)
+
+  pub plain-bare : (q : ℕ) → code ≡ 0 → (name ≡ 65535 → ⊥) → q ≡ plainLocal s t p m e st name → q ≡ plainTarget s t p m e pos name st
+  unfolding plainTarget if_then_else_
+  plain-bare q z h f = rw (← ec, eq-eqb code 0 z, ne-eqb name 65535 h) f
+
+-- what a number that is not 0 tells
+record Bare (s t p m : List ℕ) (e : Env) (pos name : ℕ) (st : State) (q : ℕ) : Type 0 where
+  bare : getD s (pos + 0) 0 ≡ 0
+  named : name ≡ 65535 → ⊥
+  same : q ≡ plainLocal s t p m e st name
+
+bare-target : (s t p m : List ℕ) (e : Env) (pos name : ℕ) (st : State) (q : ℕ) → q ≡ plainTarget s t p m e pos name st → 1 ≤ q → Bare s t p m e pos name st q
+unfolding plainTarget if_then_else_
+bare-target s t p m e pos name st q f h = go (eqb (getD s (pos + 0) 0) 0) refl (eqb name 65535) refl f
+  where
+    go : (x : Bool) → eqb (getD s (pos + 0) 0) 0 ≡ x → (y : Bool) → eqb name 65535 ≡ y → q ≡ (if x then (if y then 0 else plainLocal s t p m e st name) else 0) →
+        Bare s t p m e pos name st q
+    go true ex true ey f = absurd (omega arith)
+    go true ex false ey f = record { bare = eqb-true (getD s (pos + 0) 0) 0 ex; named = eqb-false name 65535 ey; same = f }
+    go false ex y ey f = absurd (omega arith)
+
+module _ (s t p a m : List ℕ) (e : Env) (pos : ℕ) (st : State) (name q : ℕ) (en : name ≡ targetName s pos) (f : q ≡ plainTarget s t p m e pos name st) where
+  pub dst-plain : (v : Value) (next : ℕ) → 8 ≤ q → v ≡ local (q % 8) (q / 8 - 1) → next ≡ after pos 3 → resolved (Expr.Value (ExprValue.Local v) next st) a m ≡ resolveDst s t p a m e pos st
+  unfolding targetName if_then_else_
+  dst-plain v next h ev ex =
+      let b = bare-target s t p m e pos name st q f (omega arith) in
+      let i = plain-means s t p m e st name q (b .same) h in
+      let k : name ≡ le16 s (pos + 1) = rw (eq-eqb (getD s (pos + 0) 0) 0 (b .bare)) at en in
+      let d : Expr.Value (ExprValue.Local v) next st ≡ atom (getD s (pos + 0) 0) s t p m pos e st = rw (b .bare) (name-plain s t p m pos e st name k next ex q v (b .same) h ev) in
+      dst-known s t p a m e pos st name false en (new-named s t p m e st name (resolveIdent s t p m e st name) false (b .named) refl (wrong-no (resolveIdent s t p m e st name) _ i))
+      (Expr.Value (ExprValue.Local v) next st) a m refl
+      (expr-atom 32 s t p e pos a m st (λ z. omega arith) (getD s (pos + 0) 0) refl (Expr.Value (ExprValue.Local v) next st) (let g = b .bare in omega arith) d)
+
+  pub dst-wrong : (r : Expr) (m1 : List ℕ) → q ≡ 1 → listed r m1 ≡ newTarget s t m e pos name st → resolved r a m1 ≡ resolveDst s t p a m e pos st
+  dst-wrong r m1 h g =
+      let b = bare-target s t p m e pos name st q f (omega arith) in
+      let i = plain-wrong s t p m e st name q (b .same) h in
+      dst-new s t p a m e pos st name true en (new-named s t p m e st name (resolveIdent s t p m e st name) true (b .named) refl (wrong-yes (resolveIdent s t p m e st name) (i .number) (i .same)))
+      r m1 refl g
+
 module _ (s t p a m : List ℕ) (e : Env) (x : ExprValue) (pos : ℕ) (st : State) (w : Walk) (r : Expr) (a1 m1 : List ℕ) (f : resolved r a1 m1 ≡ resolveDst s t p a m e pos st) where
   pub to-no : (n : ℕ) (z : Step) → r ≡ Expr.No n → z ≡ stop n w → stepped z a1 m1 ≡ copyTarget s t p a m e x pos st w
   unfolding copyTarget onExpr
@@ -247,4 +300,4 @@ module _ (s t p a m : List ℕ) (e : Env) (pos : ℕ) (w : Walk) (at : ℕ) (ea 
 
 pub ruleset bit-laws = (merge-no, merge-yes, extend-no, extend-yes, insert-none, insert-tmp, insert-no, insert-yes, keep-no, keep-yes, write-far, write-none, write-kept, bits-no, bits-yes, bytes-no, bytes-yes, range-bytes, range-bits)
 
-pub ruleset copy-laws = (ram-no, ram-yes, into-local, into-ram, into-range, into-other, name-bare, name-cut, name-part, name-none, size-bare, size-cut, after-bare, after-cut, target-no, target-yes, wrong-yes, wrong-no, new-none, new-named, dst-new, dst-known, to-no, to-yes, copy-no, copy-yes)
+pub ruleset copy-laws = (ram-no, ram-yes, into-local, into-ram, into-range, into-other, name-bare, name-cut, name-part, name-none, size-bare, size-cut, after-bare, after-cut, target-no, target-yes, wrong-yes, wrong-no, new-none, new-named, dst-new, dst-known, plain-part, plain-unnamed, plain-bare, dst-plain, dst-wrong, to-no, to-yes, copy-no, copy-yes)

@@ -17,7 +17,7 @@ use Rattle.pushing.specs.Pushes.{ReadOut, read, onRead, onTmp, addTmp, opTo}
 use Rattle.meaning.specs.declared.scope.ExprValue.{ExprValue}
 use Rattle.meaning.specs.declared.scope.Meaning.{Meaning}
 use Rattle.expression.specs.declared.expr.Expr.{Expr}
-use Rattle.meaning.specs.Scopes.{resolveIdent, namedTmp}
+use Rattle.meaning.specs.Scopes.{resolveIdent, plainLocal, namedTmp}
 use Rattle.meaning.specs.Reading.{constant, byteAligned, sliced, readValue, readOperand}
 use Rattle.expression.specs.Answers.{ExprOut, resolved, onExpr, after}
 use Rattle.expression.specs.Expressions.{resolveExpr}
@@ -128,6 +128,11 @@ isWrong (Meaning.Means x) = false
 
 unfoldable pub isNew : List ℕ → List ℕ → List ℕ → List ℕ → Env → State → ℕ → Bool
 isNew s t p m e st name = if eqb name 65535 then false else isWrong (resolveIdent s t p m e st name)
+
+-- a bare name as target: its number as a plain local, 1 where it means nothing or a wrong thing, else 0
+unfoldable pub plainTarget : List ℕ → List ℕ → List ℕ → List ℕ → Env → ℕ → ℕ → State → ℕ
+plainTarget s t p m e pos name st =
+    if eqb (getD s (pos + 0) 0) 0 then (if eqb name 65535 then 0 else plainLocal s t p m e st name) else 0
 
 -- an unknown or disallowed name as target becomes a temporary
 unfoldable pub resolveDst : List ℕ → List ℕ → List ℕ → List ℕ → List ℕ → Env → ℕ → State → ExprOut

@@ -11,11 +11,13 @@ use meaning::read::sliced;
 use meaning::scope::ExprValue;
 use meaning::scope::Meaning;
 use meaning::scope::named_tmp;
+use meaning::scope::plain_local;
 use meaning::scope::resolve_ident;
 use meaning::scope::u16_in;
 use pcode::sizes::size_of;
 use pcode::value::Value;
 use pcode::value::absent;
+use pcode::value::local;
 use pushing::push::Env;
 use pushing::push::Read;
 use pushing::push::State;
@@ -31,7 +33,7 @@ ghost use Rattle.pcode.specs.Base.{listed};
 ghost use Rattle.pushing.specs.Pushes.{read};
 ghost use Rattle.expression.specs.Answers.{resolved};
 ghost use Rattle.walking.specs.Walks.{stepped};
-ghost use Rattle.assignments.specs.Copies.{maskBut, mergeBits, extendBits, insertIn, insertBits, keepBits, writeBits, copyBits, copyBytes, copyRange, copyRam, copyInto, targetName, targetSize, afterTarget, newTarget, isWrong, isNew, resolveDst, copyTarget, copyStatement};
+ghost use Rattle.assignments.specs.Copies.{maskBut, mergeBits, extendBits, insertIn, insertBits, keepBits, writeBits, copyBits, copyBytes, copyRange, copyRam, copyInto, targetName, targetSize, afterTarget, newTarget, isWrong, isNew, plainTarget, resolveDst, copyTarget, copyStatement};
 
 // All 64 bits but those of a bit write.
 fn mask_but(from: u64, bits: u64) -> u64
@@ -397,6 +399,28 @@ fn is_new(s: &[u8], t: &[u16], p: &[u64], m: &[u64], e: Env, st: State, name: u6
     is_wrong(resolve_ident(s, t, p, m, e, st, name))
 }
 
+// A bare name as target: its number as a plain local, 1 where it means nothing or a wrong thing, else 0.
+fn plain_target(
+    s: &[u8],
+    t: &[u16],
+    p: &[u64],
+    m: &[u64],
+    e: Env,
+    pos: usize,
+    name: u64,
+    st: State,
+) -> u64
+    ensures { λ r. ⌜ r ≡ plainTarget (now (s .entry)) (now (t .entry)) (now (p .entry)) (now (m .entry)) e pos name st ⌝ }
+{
+    if cells::byte(s, pos, 0) != 0 {
+        return 0;
+    }
+    if name == 65535 {
+        return 0;
+    }
+    plain_local(s, t, p, m, e, st, name)
+}
+
 // An unknown or disallowed name as target becomes a temporary.
 fn resolve_dst(
     s: &[u8],
@@ -411,6 +435,17 @@ fn resolve_dst(
     ensures { λ r. ⌜ resolved r (now (a .exit)) (now (m .exit)) ≡ resolveDst (now (s .entry)) (now (t .entry)) (now (p .entry)) (now (a .entry)) (now (m .entry)) e pos st ⌝ }
 {
     let name = target_name(s, pos);
+    let q = plain_target(s, t, p, m, e, pos, name, st);
+    if 8 <= q {
+        return Expr::Value {
+            x: ExprValue::Local(local(q % 8, q / 8 - 1)),
+            next: after(pos, 3),
+            st,
+        };
+    }
+    if q == 1 {
+        return new_target(s, t, m, e, pos, name, st);
+    }
     if is_new(s, t, p, m, e, st, name) {
         return new_target(s, t, m, e, pos, name, st);
     }
