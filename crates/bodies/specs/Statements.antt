@@ -1,5 +1,5 @@
 -- Statements and macro bodies. A statement takes what enters a macro as an argument; only that goes a level deeper.
-use Prim.Native.Nat.{ℕ, zero, suc, _+_, _-_, _*_, _%_, _^_}
+use Prim.Native.Nat.{ℕ, zero, suc, _+_, _*_, _%_, _^_}
 use mathlib.Core.List.{List}
 use lib.ListN.{getD, replicate}
 use lib.Dec.{eqb, leb}
@@ -11,12 +11,12 @@ use Rattle.expression.specs.Answers.{onArgs, after}
 use Rattle.walking.specs.declared.walk.Walk.{Walk}
 use Rattle.walking.specs.declared.walk.Step.{Step}
 use Rattle.semantics.specs.declared.calls.Called.{Called}
-use Rattle.walking.specs.Walks.{Stepped, stepped, Walked, walked, besideP, onStep, stop}
+use Rattle.walking.specs.Walks.{Stepped, stepped, Walked, walked, besideL, onStep, stop}
 use Rattle.jumps.specs.Branches.{branch, condBranch, labelStatement}
 use Rattle.semantics.specs.Simple.{unimplemented, exportStatement, localStatement, localAssignment, build}
 use Rattle.assignments.specs.Stores.{storeStatement}
 use Rattle.assignments.specs.Copies.{copyStatement}
-use Rattle.semantics.specs.Calls.{calledOf, otherCall, bindParams, macroAt, macroArgs}
+use Rattle.semantics.specs.Calls.{calledOf, otherCall, macroAt, macroArgs}
 
 unfoldable pub simple : ℕ → List ℕ → List ℕ → List ℕ → List ℕ → List ℕ → Env → ℕ → Walk → Stepped
 simple code s t p a m e pos w =
@@ -29,12 +29,12 @@ simple code s t p a m e pos w =
     else storeStatement s t p a m e pos w
 
 -- a statement that is no call
-unfoldable pub otherStatement : ℕ → List ℕ → List ℕ → List ℕ → List ℕ → List ℕ → Env → ℕ → Walk → Walked
-otherStatement code s t p a m e pos w =
-    if eqb code 8 then branch s t p a m e pos w
-    else if eqb code 9 then condBranch s t p a m e pos w
-    else if eqb code 10 then labelStatement s t p a m e pos w
-    else besideP p (simple code s t p a m e pos w)
+unfoldable pub otherStatement : ℕ → List ℕ → List ℕ → List ℕ → List ℕ → List ℕ → List ℕ → Env → ℕ → Walk → Walked
+otherStatement code s t p l a m e pos w =
+    if eqb code 8 then branch s t p l a m e pos w
+    else if eqb code 9 then condBranch s t p l a m e pos w
+    else if eqb code 10 then labelStatement s t l a m e pos w
+    else besideL l (simple code s t p a m e pos w)
 
 abbrev pub begun : ℕ → ℕ → Walk → Walk
 begun ordinal statements w = record {
@@ -66,14 +66,11 @@ returned next (Step.Next end w) = Step.Next next w
 returned next (Step.Stop refusal ordinal) = Step.Stop refusal ordinal
 
 unfoldable pub returnedTo : ℕ → Walked → Walked
-returnedTo next (walked r p a m) = walked (returned next r) p a m
+returnedTo next (walked r l a m) = walked (returned next r) l a m
 
--- where the parameters of a macro stand that is entered with so many levels left
-unfoldable pub paramsAt : ℕ → ℕ
-paramsAt deep = (17 - deep % 17) * 64
-
-abbrev pub macroEnv : ℕ → ℕ → ℕ → Env → Env
-macroEnv scope params count e = record { pointer = e .pointer; scope = scope; params = params; count = count }
+-- a macro's parameters stand in the words of its own call
+abbrev pub macroEnv : ℕ → ℕ → Env → Env
+macroEnv scope count e = record { pointer = e .pointer; scope = scope; params = 0; count = count }
 
 -- where the body of a macro with n parameters begins, behind their names
 unfoldable pub bodyAt : ℕ → ℕ → ℕ
@@ -82,35 +79,35 @@ bodyAt at n = after at (1 + 2 * (n % 16))
 unfoldable pub firstOrdinal : List ℕ → ℕ → ℕ
 firstOrdinal t id = getD t (3200 + id % 128) 0
 
--- what enters a macro: the lists, the scope, the macro's number, the arguments, where the call ends, the state
+-- what enters a macro: the lists, the scope, the macro's number, its parameters, where the call ends, the state
 abbrev pub Enter : Type 0
 Enter = List ℕ → List ℕ → List ℕ → Env → ℕ → List ℕ → ℕ → ℕ → State → Walk → Walked
 
-unfoldable pub macroStatement : Enter → List ℕ → List ℕ → List ℕ → List ℕ → List ℕ → Env → ℕ → ℕ → ℕ → Walk → Walked
-macroStatement enter s t p a m e pos id n w =
+unfoldable pub macroStatement : Enter → List ℕ → List ℕ → List ℕ → List ℕ → List ℕ → List ℕ → Env → ℕ → ℕ → ℕ → Walk → Walked
+macroStatement enter s t p l a m e pos id n w =
     onArgs (macroArgs s t p a m (replicate 64 0) e pos id n (w .st))
-    (λ next st b u args. enter p b u e id args n next st w)
-    (λ k b u. walked (stop k w) p b u)
+    (λ next st b u args. enter l b u e id args n next st w)
+    (λ k b u. walked (stop k w) l b u)
 
-unfoldable pub callNamed : Enter → Called → List ℕ → List ℕ → List ℕ → List ℕ → List ℕ → Env → ℕ → ℕ → Walk → Walked
-callNamed enter c s t p a m e pos n w =
-    if eqb (c .kind) 2 then macroStatement enter s t p a m e pos (c .number) n w
-    else besideP p (otherCall c s t p a m e pos n w)
+unfoldable pub callNamed : Enter → Called → List ℕ → List ℕ → List ℕ → List ℕ → List ℕ → List ℕ → Env → ℕ → ℕ → Walk → Walked
+callNamed enter c s t p l a m e pos n w =
+    if eqb (c .kind) 2 then macroStatement enter s t p l a m e pos (c .number) n w
+    else besideL l (otherCall c s t p a m e pos n w)
 
-unfoldable pub callStatement : Enter → List ℕ → List ℕ → List ℕ → List ℕ → List ℕ → Env → ℕ → Walk → Walked
-callStatement enter s t p a m e pos w =
-    callNamed enter (calledOf s t (le16 s (pos + 1))) s t p a m e pos (getD s (pos + 3) 0) w
+unfoldable pub callStatement : Enter → List ℕ → List ℕ → List ℕ → List ℕ → List ℕ → List ℕ → Env → ℕ → Walk → Walked
+callStatement enter s t p l a m e pos w =
+    callNamed enter (calledOf s t (le16 s (pos + 1))) s t p l a m e pos (getD s (pos + 3) 0) w
 
-unfoldable pub statementBy : ℕ → Enter → List ℕ → List ℕ → Env → ℕ → List ℕ → List ℕ → List ℕ → Walk → Walked
-statementBy code enter s t e pos p a m w =
-    if eqb code 7 then callStatement enter s t p a m e pos w else otherStatement code s t p a m e pos w
+unfoldable pub statementBy : ℕ → Enter → List ℕ → List ℕ → List ℕ → Env → ℕ → List ℕ → List ℕ → List ℕ → Walk → Walked
+statementBy code enter s t p e pos l a m w =
+    if eqb code 7 then callStatement enter s t p l a m e pos w else otherStatement code s t p l a m e pos w
 
-unfoldable pub statementBegun : Step → Enter → List ℕ → List ℕ → Env → ℕ → List ℕ → List ℕ → List ℕ → Walked
-statementBegun (Step.Next next w) enter s t e pos p a m = statementBy (getD s (pos + 0) 0) enter s t e pos p a m w
-statementBegun (Step.Stop refusal ordinal) enter s t e pos p a m = walked (Step.Stop refusal ordinal) p a m
+unfoldable pub statementBegun : Step → Enter → List ℕ → List ℕ → List ℕ → Env → ℕ → List ℕ → List ℕ → List ℕ → Walked
+statementBegun (Step.Next next w) enter s t p e pos l a m = statementBy (getD s (pos + 0) 0) enter s t p e pos l a m w
+statementBegun (Step.Stop refusal ordinal) enter s t p e pos l a m = walked (Step.Stop refusal ordinal) l a m
 
-unfoldable pub resolveStatement : Enter → List ℕ → List ℕ → Env → ℕ → ℕ → List ℕ → List ℕ → List ℕ → Walk → Walked
-resolveStatement enter s t e pos ordinal p a m w = statementBegun (begin ordinal w) enter s t e pos p a m
+unfoldable pub resolveStatement : Enter → List ℕ → List ℕ → List ℕ → Env → ℕ → ℕ → List ℕ → List ℕ → List ℕ → Walk → Walked
+resolveStatement enter s t p e pos ordinal l a m w = statementBegun (begin ordinal w) enter s t p e pos l a m
 
 -- a statement at a position, with its ordinal
 abbrev pub Statement : Type 0
@@ -118,23 +115,22 @@ Statement = ℕ → ℕ → List ℕ → List ℕ → List ℕ → Walk → Walk
 
 -- k statements from a position on, the first number i of a body whose first has that ordinal
 unfoldable pub resolveAll : Statement → ℕ → ℕ → ℕ → ℕ → List ℕ → List ℕ → List ℕ → Walk → Walked
-resolveAll resolve zero i ordinal pos p a m w = walked (Step.Next pos w) p a m
-resolveAll resolve (suc k) i ordinal pos p a m w =
-    onStep (resolve pos ((ordinal + i) % 2 ^ 64) p a m w) λ next w1 q b u. resolveAll resolve k (suc i) ordinal next q b u w1
+resolveAll resolve zero i ordinal pos l a m w = walked (Step.Next pos w) l a m
+resolveAll resolve (suc k) i ordinal pos l a m w =
+    onStep (resolve pos ((ordinal + i) % 2 ^ 64) l a m w) λ next w1 q b u. resolveAll resolve k (suc i) ordinal next q b u w1
 
--- the body of a macro that stands at a position, in a scope of its own
-unfoldable pub macroBody : Enter → ℕ → List ℕ → List ℕ → ℕ → List ℕ → List ℕ → List ℕ → Env → ℕ → ℕ → State → Walk → Walked
-macroBody enter deep s t at p a m e id n st w =
+-- the body of a macro that stands at a position, with its parameters, in a scope of its own
+unfoldable pub macroBody : Enter → List ℕ → List ℕ → List ℕ → ℕ → List ℕ → List ℕ → List ℕ → Env → ℕ → ℕ → State → Walk → Walked
+macroBody enter s t args at l a m e id n st w =
     resolveAll
-    (resolveStatement enter s t (macroEnv ((w .scopes + 1) % 2 ^ 64) (paramsAt deep) n e))
-    (le16 s (bodyAt at n + 0)) 0 (firstOrdinal t id) (after (bodyAt at n) 2) p a m (entered st ((w .scopes + 1) % 2 ^ 64) w)
+    (resolveStatement enter s t args (macroEnv ((w .scopes + 1) % 2 ^ 64) n e))
+    (le16 s (bodyAt at n + 0)) 0 (firstOrdinal t id) (after (bodyAt at n) 2) l a m (entered st ((w .scopes + 1) % 2 ^ 64) w)
 
 -- with macro calls so deep at most
 unfoldable pub enterMacro : ℕ → List ℕ → List ℕ → Enter
-enterMacro zero s t p a m e id args n next st w = walked (stop 11 w) p a m
-enterMacro (suc d) s t p a m e id args n next st w =
-    returnedTo next (macroBody (enterMacro d s t) (suc d) s t (macroAt t id)
-    (bindParams n s p (paramsAt (suc d)) args (after (macroAt t id) 1)) a m e id n st w)
+enterMacro zero s t l a m e id args n next st w = walked (stop 11 w) l a m
+enterMacro (suc d) s t l a m e id args n next st w =
+    returnedTo next (macroBody (enterMacro d s t) s t args (macroAt t id) l a m e id n st w)
 
-unfoldable pub resolveBody : ℕ → List ℕ → List ℕ → List ℕ → List ℕ → List ℕ → Env → ℕ → ℕ → ℕ → Walk → Walked
-resolveBody deep s t p a m e pos n ordinal w = resolveAll (resolveStatement (enterMacro deep s t) s t e) n 0 ordinal pos p a m w
+unfoldable pub resolveBody : ℕ → List ℕ → List ℕ → List ℕ → List ℕ → List ℕ → List ℕ → Env → ℕ → ℕ → ℕ → Walk → Walked
+resolveBody deep s t p l a m e pos n ordinal w = resolveAll (resolveStatement (enterMacro deep s t) s t p e) n 0 ordinal pos l a m w

@@ -10,7 +10,6 @@ use meaning::scope::u16_in;
 use pcode::sizes::Sizing;
 use pushing::push::Env;
 use pushing::push::State;
-use semantics::calls::bind_params;
 use semantics::calls::called_of;
 use semantics::calls::macro_args;
 use semantics::calls::macro_at;
@@ -25,7 +24,7 @@ use walking::walk::Walk;
 use walking::walk::stop;
 ghost use mathlib.Core.Path.{_≡_};
 ghost use Rattle.walking.specs.Walks.{stepped, walked};
-ghost use Rattle.bodies.specs.Statements.{simple, otherStatement, begun, begin, entered, returned, paramsAt, macroEnv, bodyAt, firstOrdinal, callStatement, macroStatement, enterMacro, resolveStatement, resolveBody};
+ghost use Rattle.bodies.specs.Statements.{simple, otherStatement, begun, begin, entered, returned, macroEnv, bodyAt, firstOrdinal, callStatement, macroStatement, enterMacro, resolveStatement, resolveBody};
 
 fn simple(
     code: u64,
@@ -56,19 +55,20 @@ fn other_statement(
     code: u64,
     s: &[u8],
     t: &[u16],
-    p: &mut [u64],
+    p: &[u64],
+    l: &mut [u64],
     a: &mut [u64],
     m: &mut [u64],
     e: Env,
     pos: usize,
     w: Walk,
 ) -> Step
-    ensures { λ r. ⌜ walked r (now (p .exit)) (now (a .exit)) (now (m .exit)) ≡ otherStatement code (now (s .entry)) (now (t .entry)) (now (p .entry)) (now (a .entry)) (now (m .entry)) e pos w ⌝ }
+    ensures { λ r. ⌜ walked r (now (l .exit)) (now (a .exit)) (now (m .exit)) ≡ otherStatement code (now (s .entry)) (now (t .entry)) (now (p .entry)) (now (l .entry)) (now (a .entry)) (now (m .entry)) e pos w ⌝ }
 {
     match code {
-        8 => branch(s, t, p, a, m, e, pos, w),
-        9 => cond_branch(s, t, p, a, m, e, pos, w),
-        10 => label_statement(s, t, p, a, m, e, pos, w),
+        8 => branch(s, t, p, l, a, m, e, pos, w),
+        9 => cond_branch(s, t, p, l, a, m, e, pos, w),
+        10 => label_statement(s, t, l, a, m, e, pos, w),
         _ => simple(code, s, t, p, a, m, e, pos, w),
     }
 }
@@ -143,20 +143,14 @@ fn returned(r: Step, next: usize) -> Step
     }
 }
 
-// Where the parameters of a macro stand that is entered with so many levels left.
-fn params_at(deep: u64) -> usize
-    ensures { λ r. ⌜ r ≡ paramsAt deep ⌝ }
-{
-    (17 - deep % 17) as usize * 64
-}
-
-fn macro_env(e: Env, scope: u64, params: usize, count: u64) -> Env
-    ensures { λ r. ⌜ r ≡ macroEnv scope params count e ⌝ }
+// A macro's parameters stand in the words of its own call.
+fn macro_env(e: Env, scope: u64, count: u64) -> Env
+    ensures { λ r. ⌜ r ≡ macroEnv scope count e ⌝ }
 {
     Env {
         pointer: e.pointer,
         scope,
-        params,
+        params: 0,
         count: count as usize,
     }
 }
@@ -179,7 +173,7 @@ fn enter(
     deep: u64,
     s: &[u8],
     t: &[u16],
-    p: &mut [u64],
+    l: &mut [u64],
     a: &mut [u64],
     m: &mut [u64],
     e: Env,
@@ -190,23 +184,21 @@ fn enter(
     st: State,
     w: Walk,
 ) -> Step
-    ensures { λ r. ⌜ walked r (now (p .exit)) (now (a .exit)) (now (m .exit)) ≡ enterMacro deep (now (s .entry)) (now (t .entry)) (now (p .entry)) (now (a .entry)) (now (m .entry)) e id (now (args .entry)) n next st w ⌝ }
+    ensures { λ r. ⌜ walked r (now (l .exit)) (now (a .exit)) (now (m .exit)) ≡ enterMacro deep (now (s .entry)) (now (t .entry)) (now (l .entry)) (now (a .entry)) (now (m .entry)) e id (now (args .entry)) n next st w ⌝ }
 {
     if deep == 0 {
         return stop(w, 11);
     }
     let at = macro_at(t, id);
-    let params = params_at(deep);
-    bind_params(s, p, params, args, after(at, 1), n as usize);
     let scope = std::num::wrapping_add_u64(w.scopes, 1);
     let start = body_at(at, n);
     let count = u16_in(s, start, 0);
-    let inner = macro_env(e, scope, params, n);
+    let inner = macro_env(e, scope, n);
     let first = first_ordinal(t, id);
     let below = deep - 1;
     let from = after(start, 2);
     let w = entered(w, st, scope);
-    let r = body(below, s, t, p, a, m, inner, from, count, first, w);
+    let r = body(below, s, t, args, l, a, m, inner, from, count, first, w);
     returned(r, next)
 }
 
@@ -214,7 +206,8 @@ fn macro_statement(
     deep: u64,
     s: &[u8],
     t: &[u16],
-    p: &mut [u64],
+    p: &[u64],
+    l: &mut [u64],
     a: &mut [u64],
     m: &mut [u64],
     e: Env,
@@ -223,12 +216,12 @@ fn macro_statement(
     n: u64,
     w: Walk,
 ) -> Step
-    ensures { λ r. ⌜ walked r (now (p .exit)) (now (a .exit)) (now (m .exit)) ≡ macroStatement (enterMacro deep (now (s .entry)) (now (t .entry))) (now (s .entry)) (now (t .entry)) (now (p .entry)) (now (a .entry)) (now (m .entry)) e pos id n w ⌝ }
+    ensures { λ r. ⌜ walked r (now (l .exit)) (now (a .exit)) (now (m .exit)) ≡ macroStatement (enterMacro deep (now (s .entry)) (now (t .entry))) (now (s .entry)) (now (t .entry)) (now (p .entry)) (now (l .entry)) (now (a .entry)) (now (m .entry)) e pos id n w ⌝ }
 {
     let mut args = [0u64; 64];
     match macro_args(s, t, p, a, m, &mut args, e, pos, id, n, w.st) {
         Args::No(k) => stop(w, k),
-        Args::Done { next, st } => enter(deep, s, t, p, a, m, e, id, &args, n, next, st, w),
+        Args::Done { next, st } => enter(deep, s, t, l, a, m, e, id, &args, n, next, st, w),
     }
 }
 
@@ -236,19 +229,20 @@ fn call_statement(
     deep: u64,
     s: &[u8],
     t: &[u16],
-    p: &mut [u64],
+    p: &[u64],
+    l: &mut [u64],
     a: &mut [u64],
     m: &mut [u64],
     e: Env,
     pos: usize,
     w: Walk,
 ) -> Step
-    ensures { λ r. ⌜ walked r (now (p .exit)) (now (a .exit)) (now (m .exit)) ≡ callStatement (enterMacro deep (now (s .entry)) (now (t .entry))) (now (s .entry)) (now (t .entry)) (now (p .entry)) (now (a .entry)) (now (m .entry)) e pos w ⌝ }
+    ensures { λ r. ⌜ walked r (now (l .exit)) (now (a .exit)) (now (m .exit)) ≡ callStatement (enterMacro deep (now (s .entry)) (now (t .entry))) (now (s .entry)) (now (t .entry)) (now (p .entry)) (now (l .entry)) (now (a .entry)) (now (m .entry)) e pos w ⌝ }
 {
     let n = cells::byte(s, pos, 3);
     let c = called_of(s, t, u16_in(s, pos, 1));
     if c.kind == 2 {
-        return macro_statement(deep, s, t, p, a, m, e, pos, c.number, n, w);
+        return macro_statement(deep, s, t, p, l, a, m, e, pos, c.number, n, w);
     }
     other_call(c, s, t, p, a, m, e, pos, n, w)
 }
@@ -257,7 +251,8 @@ fn statement(
     deep: u64,
     s: &[u8],
     t: &[u16],
-    p: &mut [u64],
+    p: &[u64],
+    l: &mut [u64],
     a: &mut [u64],
     m: &mut [u64],
     e: Env,
@@ -265,7 +260,7 @@ fn statement(
     ordinal: u64,
     w: Walk,
 ) -> Step
-    ensures { λ r. ⌜ walked r (now (p .exit)) (now (a .exit)) (now (m .exit)) ≡ resolveStatement (enterMacro deep (now (s .entry)) (now (t .entry))) (now (s .entry)) (now (t .entry)) e pos ordinal (now (p .entry)) (now (a .entry)) (now (m .entry)) w ⌝ }
+    ensures { λ r. ⌜ walked r (now (l .exit)) (now (a .exit)) (now (m .exit)) ≡ resolveStatement (enterMacro deep (now (s .entry)) (now (t .entry))) (now (s .entry)) (now (t .entry)) (now (p .entry)) e pos ordinal (now (l .entry)) (now (a .entry)) (now (m .entry)) w ⌝ }
 {
     match begin(w, ordinal) {
         Step::Stop {
@@ -278,9 +273,9 @@ fn statement(
         Step::Next { next: _, w: b } => {
             let code = cells::byte(s, pos, 0);
             if code == 7 {
-                return call_statement(deep, s, t, p, a, m, e, pos, b);
+                return call_statement(deep, s, t, p, l, a, m, e, pos, b);
             }
-            other_statement(code, s, t, p, a, m, e, pos, b)
+            other_statement(code, s, t, p, l, a, m, e, pos, b)
         }
     }
 }
@@ -290,7 +285,8 @@ pub fn body(
     deep: u64,
     s: &[u8],
     t: &[u16],
-    p: &mut [u64],
+    p: &[u64],
+    l: &mut [u64],
     a: &mut [u64],
     m: &mut [u64],
     e: Env,
@@ -299,13 +295,13 @@ pub fn body(
     ordinal: u64,
     w: Walk,
 ) -> Step
-    ensures { λ r. ⌜ walked r (now (p .exit)) (now (a .exit)) (now (m .exit)) ≡ resolveBody deep (now (s .entry)) (now (t .entry)) (now (p .entry)) (now (a .entry)) (now (m .entry)) e pos n ordinal w ⌝ }
+    ensures { λ r. ⌜ walked r (now (l .exit)) (now (a .exit)) (now (m .exit)) ≡ resolveBody deep (now (s .entry)) (now (t .entry)) (now (p .entry)) (now (l .entry)) (now (a .entry)) (now (m .entry)) e pos n ordinal w ⌝ }
 {
     let mut at = pos;
     let mut w = w;
     for i in 0..n {
         let own = std::num::wrapping_add_u64(ordinal, i);
-        match statement(deep, s, t, p, a, m, e, at, own, w) {
+        match statement(deep, s, t, p, l, a, m, e, at, own, w) {
             Step::Stop {
                 refusal,
                 ordinal: o,

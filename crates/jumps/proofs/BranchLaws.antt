@@ -26,7 +26,7 @@ use Rattle.expression.specs.Expressions.{exprValue, resolveExpr}
 use Rattle.walking.specs.declared.walk.Walk.{Walk}
 use Rattle.walking.specs.declared.walk.Step.{Step}
 use Rattle.jumps.specs.declared.labels.Label.{Label}
-use Rattle.walking.specs.Walks.{stepped, walked, stepPushed, besideP, stop, pushedThen}
+use Rattle.walking.specs.Walks.{stepped, walked, stepPushed, besideL, stop, pushedThen}
 use Rattle.jumps.specs.Labels.{getOrInsertLabel, onLabel, resolveLabel, labelled}
 use Rattle.jumps.specs.Branches.{pushLabel, labelStatement, branchTo, branchLabel, labelBranch, jumpValue, afterJump, directAddress, direct, indirect, jumpTo, jumpMeant, jump, resolveBranch, branch, condBranch}
 
@@ -38,13 +38,13 @@ push-label-law s t a m e id next w here o x y r a1 m1 z eh eo ex ey f h =
     let g : pushed r a1 m1 ≡ pushOp s t a m e 62 id 0 noOutput absent absent (w .st) = rw (eo, ex, ey) at f in
     rw (← g, h, eh)
 
-module _ (s t p a m : List ℕ) (e : Env) (pos : ℕ) (w : Walk) (name : ℕ) (en : (name ≡ le16 s (pos + 1)) × (name < 65536)) (r : Label) (q : List ℕ) (f : listed r q ≡ resolveLabel p name (e .scope) (w .labels)) where
-  pub statement-no : (n : ℕ) (x : Step) → r ≡ Label.No n → x ≡ stop n w → walked x q a m ≡ labelStatement s t p a m e pos w
+module _ (s t l a m : List ℕ) (e : Env) (pos : ℕ) (w : Walk) (name : ℕ) (en : (name ≡ le16 s (pos + 1)) × (name < 65536)) (r : Label) (q : List ℕ) (f : listed r q ≡ resolveLabel l name (e .scope) (w .labels)) where
+  pub statement-no : (n : ℕ) (x : Step) → r ≡ Label.No n → x ≡ stop n w → walked x q a m ≡ labelStatement s t l a m e pos w
   unfolding labelStatement onLabel
   statement-no n x k h = rw (← en .0, ← f, k, h)
 
-  pub statement-is : (id next : ℕ) (x : Step) (a1 m1 : List ℕ) → r ≡ Label.Is id → next ≡ after pos 3 → stepped x a1 m1 ≡ pushLabel s t a m e id next w → walked x q a1 m1 ≡ labelStatement s t p a m e pos w
-  unfolding labelStatement onLabel besideP
+  pub statement-is : (id next : ℕ) (x : Step) (a1 m1 : List ℕ) → r ≡ Label.Is id → next ≡ after pos 3 → stepped x a1 m1 ≡ pushLabel s t a m e id next w → walked x q a1 m1 ≡ labelStatement s t l a m e pos w
+  unfolding labelStatement onLabel besideL
   statement-is id next x a1 m1 k g h = rw (← en .0, ← f, k, ← g, ← h)
 
 pub branch-to-law : (s t a m : List ℕ) (e : Env) (cond address : Value) (hint : ℕ) (st : State) (w : Walk) (number next : ℕ) (o : Value) (r : Pushed) (a1 m1 : List ℕ) (z : Step) →
@@ -63,13 +63,13 @@ branch-label-law s t a m e id cond next st w here o nil r a1 m1 z eh eo ez f h =
     let k : pushed r a1 m1 ≡ pushOp s t a m e 61 id 2 noOutput cond (constant 0) st = rw (eo, ez) at f in
     rw (← k, h, eh)
 
-module _ (s t p a m : List ℕ) (e : Env) (pos : ℕ) (cond : Value) (st : State) (w : Walk) (name : ℕ) (en : (name ≡ le16 s (pos + 1)) × (name < 65536)) (r : Label) (q : List ℕ) (f : listed r q ≡ getOrInsertLabel p name (e .scope) (w .labels)) where
-  pub branch-no : (n : ℕ) (x : Step) → r ≡ Label.No n → x ≡ stop n w → walked x q a m ≡ labelBranch s t p a m e pos cond st w
+module _ (s t l a m : List ℕ) (e : Env) (pos : ℕ) (cond : Value) (st : State) (w : Walk) (name : ℕ) (en : (name ≡ le16 s (pos + 1)) × (name < 65536)) (r : Label) (q : List ℕ) (f : listed r q ≡ getOrInsertLabel l name (e .scope) (w .labels)) where
+  pub branch-no : (n : ℕ) (x : Step) → r ≡ Label.No n → x ≡ stop n w → walked x q a m ≡ labelBranch s t l a m e pos cond st w
   unfolding labelBranch onLabel
   branch-no n x k h = rw (← en .0, ← f, k, h)
 
-  pub branch-is : (id next : ℕ) (x : Step) (a1 m1 : List ℕ) → r ≡ Label.Is id → next ≡ after pos 4 → stepped x a1 m1 ≡ branchLabel s t a m e id cond next st w → walked x q a1 m1 ≡ labelBranch s t p a m e pos cond st w
-  unfolding labelBranch onLabel besideP
+  pub branch-is : (id next : ℕ) (x : Step) (a1 m1 : List ℕ) → r ≡ Label.Is id → next ≡ after pos 4 → stepped x a1 m1 ≡ branchLabel s t a m e id cond next st w → walked x q a1 m1 ≡ labelBranch s t l a m e pos cond st w
+  unfolding labelBranch onLabel besideL
   branch-is id next x a1 m1 k g h = rw (← en .0, ← f, k, ← g, ← h)
 
 module _ (s t p m : List ℕ) (pos : ℕ) (e : Env) (st : State) (code : ℕ) (ec : (code ≡ getD s (pos + 0) 0) × (code < 256)) where
@@ -142,27 +142,27 @@ module _ (s t p a m : List ℕ) (e : Env) (pos : ℕ) (cond : Value) (st : State
   unfolding jump jumpMeant
   jump-means code y hint x a1 m1 ec q g h = rw (← et, ← f, q, ← ec .0, ← g) h
 
-module _ (s t p a m : List ℕ) (e : Env) (pos : ℕ) (cond : Value) (st : State) (w : Walk) (code : ℕ) (ec : (code ≡ getD s (pos + 0) 0) × (code < 256)) (x : Step) where
-  pub to-label : (p1 a1 m1 : List ℕ) → code ≡ 2 → walked x p1 a1 m1 ≡ labelBranch s t p a m e pos cond st w → walked x p1 a1 m1 ≡ resolveBranch s t p a m e pos cond st w
+module _ (s t p l a m : List ℕ) (e : Env) (pos : ℕ) (cond : Value) (st : State) (w : Walk) (code : ℕ) (ec : (code ≡ getD s (pos + 0) 0) × (code < 256)) (x : Step) where
+  pub to-label : (l1 a1 m1 : List ℕ) → code ≡ 2 → walked x l1 a1 m1 ≡ labelBranch s t l a m e pos cond st w → walked x l1 a1 m1 ≡ resolveBranch s t p l a m e pos cond st w
   unfolding resolveBranch if_then_else_
-  to-label p1 a1 m1 z h = rw (← ec .0, eq-eqb code 2 z) h
+  to-label l1 a1 m1 z h = rw (← ec .0, eq-eqb code 2 z) h
 
-  pub to-jump : (a1 m1 : List ℕ) → (code ≡ 2 → ⊥) → stepped x a1 m1 ≡ jump s t p a m e pos cond st w → walked x p a1 m1 ≡ resolveBranch s t p a m e pos cond st w
-  unfolding resolveBranch if_then_else_ besideP
+  pub to-jump : (a1 m1 : List ℕ) → (code ≡ 2 → ⊥) → stepped x a1 m1 ≡ jump s t p a m e pos cond st w → walked x l a1 m1 ≡ resolveBranch s t p l a m e pos cond st w
+  unfolding resolveBranch if_then_else_ besideL
   to-jump a1 m1 z h = rw (← ec .0, ne-eqb code 2 z, ← h)
 
-pub branch-law : (s t p a m : List ℕ) (e : Env) (pos : ℕ) (w : Walk) (at : ℕ) (c : Value) (x : Step) (p1 a1 m1 : List ℕ) → at ≡ after pos 1 → c ≡ constant 1 →
-    walked x p1 a1 m1 ≡ resolveBranch s t p a m e at c (w .st) w → walked x p1 a1 m1 ≡ branch s t p a m e pos w
+pub branch-law : (s t p l a m : List ℕ) (e : Env) (pos : ℕ) (w : Walk) (at : ℕ) (c : Value) (x : Step) (l1 a1 m1 : List ℕ) → at ≡ after pos 1 → c ≡ constant 1 →
+    walked x l1 a1 m1 ≡ resolveBranch s t p l a m e at c (w .st) w → walked x l1 a1 m1 ≡ branch s t p l a m e pos w
 unfolding branch
-branch-law s t p a m e pos w at c x p1 a1 m1 ea ec h = rw (← ea) (rw ec at h)
+branch-law s t p l a m e pos w at c x l1 a1 m1 ea ec h = rw (← ea) (rw ec at h)
 
-module _ (s t p a m : List ℕ) (e : Env) (pos : ℕ) (w : Walk) (at : ℕ) (ea : at ≡ after pos 1) (r : Operand) (a1 m1 : List ℕ) (f : operand r a1 m1 ≡ exprValue (resolveExpr 32 s t p e) s t e at a m (w .st)) where
-  pub cond-no : (n : ℕ) (x : Step) → r ≡ Operand.No n → x ≡ stop n w → walked x p a1 m1 ≡ condBranch s t p a m e pos w
+module _ (s t p l a m : List ℕ) (e : Env) (pos : ℕ) (w : Walk) (at : ℕ) (ea : at ≡ after pos 1) (r : Operand) (a1 m1 : List ℕ) (f : operand r a1 m1 ≡ exprValue (resolveExpr 32 s t p e) s t e at a m (w .st)) where
+  pub cond-no : (n : ℕ) (x : Step) → r ≡ Operand.No n → x ≡ stop n w → walked x l a1 m1 ≡ condBranch s t p l a m e pos w
   unfolding condBranch onOperand
   cond-no n x q h = rw (← ea, ← f, q, h)
 
-  pub cond-yes : (v : Value) (next : ℕ) (st : State) (x : Step) (p2 a2 m2 : List ℕ) → r ≡ Operand.Value v next st → walked x p2 a2 m2 ≡ resolveBranch s t p a1 m1 e next v st w → walked x p2 a2 m2 ≡ condBranch s t p a m e pos w
+  pub cond-yes : (v : Value) (next : ℕ) (st : State) (x : Step) (l2 a2 m2 : List ℕ) → r ≡ Operand.Value v next st → walked x l2 a2 m2 ≡ resolveBranch s t p l a1 m1 e next v st w → walked x l2 a2 m2 ≡ condBranch s t p l a m e pos w
   unfolding condBranch onOperand
-  cond-yes v next st x p2 a2 m2 q h = rw (← ea, ← f, q) h
+  cond-yes v next st x l2 a2 m2 q h = rw (← ea, ← f, q) h
 
 pub ruleset branch-laws = (push-label-law, statement-no, statement-is, branch-to-law, branch-label-law, branch-no, branch-is, jump-name, jump-integer, after-name, after-integer, address-subtable, address-other, direct-local, direct-other, indirect-no, indirect-yes, to-direct, to-indirect, jump-wrong, jump-means, to-label, to-jump, branch-law, cond-no, cond-yes)

@@ -14,56 +14,56 @@ use Rattle.jumps.specs.Labels.{findLabel, labelKey, labelOr, getOrInsert
 less : (n i : ℕ) → i < n → n - i ≡ suc (n - (i + 1))
 less n i h = omega arith
 
-pub find-start : (n : ℕ) (p : List ℕ) (key : ℕ) → findLabel (n - 0) 0 p key ≡ findLabel n 0 p key
-find-start n p key = let z : n - 0 ≡ n = omega arith in rw z
+pub find-start : (n : ℕ) (l : List ℕ) (key : ℕ) → findLabel (n - 0) 0 l key ≡ findLabel n 0 l key
+find-start n l key = let z : n - 0 ≡ n = omega arith in rw z
 
-pub find-hit : (n i : ℕ) (p : List ℕ) (key w r : ℕ) → i < n → w ≡ getD p (1088 + i) 0 → w % 4294967296 ≡ key → findLabel (n - i) i p key ≡ r → i ≡ r
+pub find-hit : (n i : ℕ) (l : List ℕ) (key w r : ℕ) → i < n → w ≡ getD l i 0 → w % 4294967296 ≡ key → findLabel (n - i) i l key ≡ r → i ≡ r
 unfolding findLabel if_then_else_
-find-hit n i p key w r h g q e = rw (less n i h, ← g, eq-eqb (w % 4294967296) key q) at e
+find-hit n i l key w r h g q e = rw (less n i h, ← g, eq-eqb (w % 4294967296) key q) at e
 
-pub find-miss : (n i : ℕ) (p : List ℕ) (key w r : ℕ) → i < n → w ≡ getD p (1088 + i) 0 → (w % 4294967296 ≡ key → ⊥) →
-    findLabel (n - i) i p key ≡ r → findLabel (n - (i + 1)) (i + 1) p key ≡ r
+pub find-miss : (n i : ℕ) (l : List ℕ) (key w r : ℕ) → i < n → w ≡ getD l i 0 → (w % 4294967296 ≡ key → ⊥) →
+    findLabel (n - i) i l key ≡ r → findLabel (n - (i + 1)) (i + 1) l key ≡ r
 unfolding findLabel if_then_else_
-find-miss n i p key w r h g q e =
+find-miss n i l key w r h g q e =
     let o : i + 1 ≡ suc i = omega arith in
     rw o (rw (less n i h, ← g, ne-eqb (w % 4294967296) key q, o) at e)
 
-pub find-end : (n i : ℕ) (p : List ℕ) (key r : ℕ) → n ≤ i → findLabel (n - i) i p key ≡ r → i ≡ r
+pub find-end : (n i : ℕ) (l : List ℕ) (key r : ℕ) → n ≤ i → findLabel (n - i) i l key ≡ r → i ≡ r
 unfolding findLabel
-find-end n i p key r h e = let z : n - i ≡ 0 = omega arith in rw z at e
+find-end n i l key r h e = let z : n - i ≡ 0 = omega arith in rw z at e
 
 pub key-law : (name scope : ℕ) → (name % 65536 + scope % 65536 * 65536 ≡ labelKey name scope) × (name % 65536 + scope % 65536 * 65536 < 4294967296)
 unfolding labelKey
 key-law name scope = (refl, omega arith)
 
-module _ (p : List ℕ) (name scope n k i : ℕ) (ek : (k ≡ labelKey name scope) × (k < 4294967296)) (ei : i ≡ findLabel n 0 p k) where
-  pub label-found : i < n → listed (Label.Is i) p ≡ getOrInsertLabel p name scope n
+module _ (l : List ℕ) (name scope n k i : ℕ) (ek : (k ≡ labelKey name scope) × (k < 4294967296)) (ei : i ≡ findLabel n 0 l k) where
+  pub label-found : i < n → listed (Label.Is i) l ≡ getOrInsertLabel l name scope n
   unfolding getOrInsertLabel labelOr if_then_else_
   label-found h = rw (← ek .0, ← ei, lt-ltb i n h)
 
-  pub label-many : n ≤ i → 256 ≤ n → listed (Label.No 14) p ≡ getOrInsertLabel p name scope n
+  pub label-many : n ≤ i → 256 ≤ n → listed (Label.No 14) l ≡ getOrInsertLabel l name scope n
   unfolding getOrInsertLabel labelOr if_then_else_
-  label-many h l = rw (← ek .0, ← ei, le-ltb i n h, le-leb 256 n l)
+  label-many h f = rw (← ek .0, ← ei, le-ltb i n h, le-leb 256 n f)
 
-  pub label-new : (q : List ℕ) → n ≤ i → n < 256 → q ≡ set p (1088 + n) k → listed (Label.Is n) q ≡ getOrInsertLabel p name scope n
+  pub label-new : (q : List ℕ) → n ≤ i → n < 256 → q ≡ set l n k → listed (Label.Is n) q ≡ getOrInsertLabel l name scope n
   unfolding getOrInsertLabel labelOr if_then_else_
-  label-new q h l e = rw (← ek .0, ← ei, le-ltb i n h, lt-leb 256 n l, e)
+  label-new q h f e = rw (← ek .0, ← ei, le-ltb i n h, lt-leb 256 n f, e)
 
-module _ (p : List ℕ) (id name scope w : ℕ) (e : w ≡ getD p (1088 + id) 0) where
-  pub place-twice : 4294967296 ≤ w → listed (Label.No 27) p ≡ placeLabel p id name scope
+module _ (l : List ℕ) (id name scope w : ℕ) (e : w ≡ getD l id 0) where
+  pub place-twice : 4294967296 ≤ w → listed (Label.No 27) l ≡ placeLabel l id name scope
   unfolding placeLabel if_then_else_
   place-twice h = rw (← e, le-leb 4294967296 w h)
 
-  pub place-once : (k : ℕ) (q : List ℕ) → w < 4294967296 → (k ≡ labelKey name scope) × (k < 4294967296) → q ≡ set p (1088 + id) (4294967296 + k) → listed (Label.Is id) q ≡ placeLabel p id name scope
+  pub place-once : (k : ℕ) (q : List ℕ) → w < 4294967296 → (k ≡ labelKey name scope) × (k < 4294967296) → q ≡ set l id (4294967296 + k) → listed (Label.Is id) q ≡ placeLabel l id name scope
   unfolding placeLabel if_then_else_
   place-once k q h ek f = rw (← e, lt-leb 4294967296 w h, ← ek .0, f)
 
-module _ (p : List ℕ) (name scope n : ℕ) (r : Label) (q : List ℕ) (f : listed r q ≡ getOrInsertLabel p name scope n) where
-  pub resolve-no : (k : ℕ) → r ≡ Label.No k → listed (Label.No k) q ≡ resolveLabel p name scope n
+module _ (l : List ℕ) (name scope n : ℕ) (r : Label) (q : List ℕ) (f : listed r q ≡ getOrInsertLabel l name scope n) where
+  pub resolve-no : (k : ℕ) → r ≡ Label.No k → listed (Label.No k) q ≡ resolveLabel l name scope n
   unfolding resolveLabel onLabel
   resolve-no k h = rw (← f, h)
 
-  pub resolve-is : (id : ℕ) (x : Label) (q1 : List ℕ) → r ≡ Label.Is id → listed x q1 ≡ placeLabel q id name scope → listed x q1 ≡ resolveLabel p name scope n
+  pub resolve-is : (id : ℕ) (x : Label) (q1 : List ℕ) → r ≡ Label.Is id → listed x q1 ≡ placeLabel q id name scope → listed x q1 ≡ resolveLabel l name scope n
   unfolding resolveLabel onLabel
   resolve-is id x q1 h g = rw (← f, h) g
 

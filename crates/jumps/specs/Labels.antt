@@ -1,4 +1,4 @@
--- Labels. The words of the scopes keep one for each label from 1,088 on: its name, its scope, whether it is placed.
+-- Labels. Each has a word in a list of its own: its name, its scope, whether it is placed.
 use Prim.Native.Nat.{ℕ, zero, suc, _+_, _*_, _%_, _^_}
 use mathlib.Core.List.{List}
 use lib.ListN.{getD, set}
@@ -10,35 +10,35 @@ use Rattle.jumps.specs.declared.labels.Label.{Label}
 
 -- the first of k labels from i on with that name and scope, or the one behind them
 unfoldable pub findLabel : ℕ → ℕ → List ℕ → ℕ → ℕ
-findLabel zero i p key = i
-findLabel (suc k) i p key = if eqb (getD p (1088 + i) 0 % 4294967296) key then i else findLabel k (suc i) p key
+findLabel zero i l key = i
+findLabel (suc k) i l key = if eqb (getD l i 0 % 4294967296) key then i else findLabel k (suc i) l key
 
 unfoldable pub labelKey : ℕ → ℕ → ℕ
 labelKey name scope = name % 65536 + scope % 65536 * 65536
 
 -- the label found, else the next one, up to 256
 unfoldable pub labelOr : ℕ → List ℕ → ℕ → ℕ → Listed Label
-labelOr i p key n =
-    if ltb i n then listed (Label.Is i) p
-    else if leb 256 n then listed (Label.No 14) p
-    else listed (Label.Is n) (set p (1088 + n) key)
+labelOr i l key n =
+    if ltb i n then listed (Label.Is i) l
+    else if leb 256 n then listed (Label.No 14) l
+    else listed (Label.Is n) (set l n key)
 
 unfoldable pub getOrInsertLabel : List ℕ → ℕ → ℕ → ℕ → Listed Label
-getOrInsertLabel p name scope n = labelOr (findLabel n 0 p (labelKey name scope)) p (labelKey name scope) n
+getOrInsertLabel l name scope n = labelOr (findLabel n 0 l (labelKey name scope)) l (labelKey name scope) n
 
 unfoldable pub onLabel : {A : Type 0} → Listed Label → (ℕ → List ℕ → A) → (ℕ → List ℕ → A) → A
-onLabel (listed (Label.Is id) p) f g = f id p
-onLabel (listed (Label.No n) p) f g = g n p
+onLabel (listed (Label.Is id) l) f g = f id l
+onLabel (listed (Label.No n) l) f g = g n l
 
 -- a label is placed once
 unfoldable pub placeLabel : List ℕ → ℕ → ℕ → ℕ → Listed Label
-placeLabel p id name scope =
-    if leb 4294967296 (getD p (1088 + id) 0) then listed (Label.No 27) p
-    else listed (Label.Is id) (set p (1088 + id) (4294967296 + labelKey name scope))
+placeLabel l id name scope =
+    if leb 4294967296 (getD l id 0) then listed (Label.No 27) l
+    else listed (Label.Is id) (set l id (4294967296 + labelKey name scope))
 
 unfoldable pub resolveLabel : List ℕ → ℕ → ℕ → ℕ → Listed Label
-resolveLabel p name scope n =
-    onLabel (getOrInsertLabel p name scope n)
+resolveLabel l name scope n =
+    onLabel (getOrInsertLabel l name scope n)
     (λ id q. placeLabel q id name scope)
     (λ k q. listed (Label.No k) q)
 

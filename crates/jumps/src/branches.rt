@@ -63,16 +63,16 @@ fn push_label(
 pub fn label_statement(
     s: &[u8],
     t: &[u16],
-    p: &mut [u64],
+    l: &mut [u64],
     a: &mut [u64],
     m: &mut [u64],
     e: Env,
     pos: usize,
     w: Walk,
 ) -> Step
-    ensures { λ r. ⌜ walked r (now (p .exit)) (now (a .exit)) (now (m .exit)) ≡ labelStatement (now (s .entry)) (now (t .entry)) (now (p .entry)) (now (a .entry)) (now (m .entry)) e pos w ⌝ }
+    ensures { λ r. ⌜ walked r (now (l .exit)) (now (a .exit)) (now (m .exit)) ≡ labelStatement (now (s .entry)) (now (t .entry)) (now (l .entry)) (now (a .entry)) (now (m .entry)) e pos w ⌝ }
 {
-    match resolve_label(p, u16_in(s, pos, 1), e.scope, w.labels) {
+    match resolve_label(l, u16_in(s, pos, 1), e.scope, w.labels) {
         Label::No(n) => stop(w, n),
         Label::Is(id) => push_label(s, t, a, m, e, id, after(pos, 3), w),
     }
@@ -125,7 +125,7 @@ fn branch_label(
 fn label_branch(
     s: &[u8],
     t: &[u16],
-    p: &mut [u64],
+    l: &mut [u64],
     a: &mut [u64],
     m: &mut [u64],
     e: Env,
@@ -134,9 +134,9 @@ fn label_branch(
     st: State,
     w: Walk,
 ) -> Step
-    ensures { λ r. ⌜ walked r (now (p .exit)) (now (a .exit)) (now (m .exit)) ≡ labelBranch (now (s .entry)) (now (t .entry)) (now (p .entry)) (now (a .entry)) (now (m .entry)) e pos cond st w ⌝ }
+    ensures { λ r. ⌜ walked r (now (l .exit)) (now (a .exit)) (now (m .exit)) ≡ labelBranch (now (s .entry)) (now (t .entry)) (now (l .entry)) (now (a .entry)) (now (m .entry)) e pos cond st w ⌝ }
 {
-    match get_or_insert_label(p, u16_in(s, pos, 1), e.scope, w.labels) {
+    match get_or_insert_label(l, u16_in(s, pos, 1), e.scope, w.labels) {
         Label::No(n) => stop(w, n),
         Label::Is(id) => branch_label(s, t, a, m, e, id, cond, after(pos, 4), st, w),
     }
@@ -276,7 +276,8 @@ fn jump(
 fn resolve_branch(
     s: &[u8],
     t: &[u16],
-    p: &mut [u64],
+    p: &[u64],
+    l: &mut [u64],
     a: &mut [u64],
     m: &mut [u64],
     e: Env,
@@ -285,10 +286,10 @@ fn resolve_branch(
     st: State,
     w: Walk,
 ) -> Step
-    ensures { λ r. ⌜ walked r (now (p .exit)) (now (a .exit)) (now (m .exit)) ≡ resolveBranch (now (s .entry)) (now (t .entry)) (now (p .entry)) (now (a .entry)) (now (m .entry)) e pos cond st w ⌝ }
+    ensures { λ r. ⌜ walked r (now (l .exit)) (now (a .exit)) (now (m .exit)) ≡ resolveBranch (now (s .entry)) (now (t .entry)) (now (p .entry)) (now (l .entry)) (now (a .entry)) (now (m .entry)) e pos cond st w ⌝ }
 {
     if cells::byte(s, pos, 0) == 2 {
-        return label_branch(s, t, p, a, m, e, pos, cond, st, w);
+        return label_branch(s, t, l, a, m, e, pos, cond, st, w);
     }
     jump(s, t, p, a, m, e, pos, cond, st, w)
 }
@@ -296,32 +297,34 @@ fn resolve_branch(
 pub fn branch(
     s: &[u8],
     t: &[u16],
-    p: &mut [u64],
+    p: &[u64],
+    l: &mut [u64],
     a: &mut [u64],
     m: &mut [u64],
     e: Env,
     pos: usize,
     w: Walk,
 ) -> Step
-    ensures { λ r. ⌜ walked r (now (p .exit)) (now (a .exit)) (now (m .exit)) ≡ branch (now (s .entry)) (now (t .entry)) (now (p .entry)) (now (a .entry)) (now (m .entry)) e pos w ⌝ }
+    ensures { λ r. ⌜ walked r (now (l .exit)) (now (a .exit)) (now (m .exit)) ≡ branch (now (s .entry)) (now (t .entry)) (now (p .entry)) (now (l .entry)) (now (a .entry)) (now (m .entry)) e pos w ⌝ }
 {
-    resolve_branch(s, t, p, a, m, e, after(pos, 1), constant(1), w.st, w)
+    resolve_branch(s, t, p, l, a, m, e, after(pos, 1), constant(1), w.st, w)
 }
 
 pub fn cond_branch(
     s: &[u8],
     t: &[u16],
-    p: &mut [u64],
+    p: &[u64],
+    l: &mut [u64],
     a: &mut [u64],
     m: &mut [u64],
     e: Env,
     pos: usize,
     w: Walk,
 ) -> Step
-    ensures { λ r. ⌜ walked r (now (p .exit)) (now (a .exit)) (now (m .exit)) ≡ condBranch (now (s .entry)) (now (t .entry)) (now (p .entry)) (now (a .entry)) (now (m .entry)) e pos w ⌝ }
+    ensures { λ r. ⌜ walked r (now (l .exit)) (now (a .exit)) (now (m .exit)) ≡ condBranch (now (s .entry)) (now (t .entry)) (now (p .entry)) (now (l .entry)) (now (a .entry)) (now (m .entry)) e pos w ⌝ }
 {
     match expr_value(32, s, t, p, after(pos, 1), e, a, m, w.st) {
         Operand::No(n) => stop(w, n),
-        Operand::Value { v, next, st } => resolve_branch(s, t, p, a, m, e, next, v, st, w),
+        Operand::Value { v, next, st } => resolve_branch(s, t, p, l, a, m, e, next, v, st, w),
     }
 }

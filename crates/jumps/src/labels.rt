@@ -1,10 +1,11 @@
-// Labels. The words of the scopes keep one for each label from 1,088 on: its name, its scope, whether it is placed.
+// Labels. Each has a word in a list of its own: its name, its scope, whether it is placed.
 use pcode::value::get;
 use pcode::value::put;
 use pushing::push::State;
 use walking::walk::Walk;
 ghost use mathlib.Core.Path.{_≡_};
 ghost use Prim.Native.Nat.{_<_};
+ghost use lib.ListN.{getD, set};
 ghost use Rattle.pcode.specs.Base.{listed};
 ghost use Rattle.jumps.specs.Labels.{findLabel, labelKey, getOrInsertLabel, placeLabel, resolveLabel, labelsAfter, labelled};
 
@@ -13,13 +14,26 @@ pub enum Label {
     No(u64),
 }
 
+// The word of label i, and 0 past the end.
+fn label_at(l: &[u64], i: u64) -> u64
+    ensures { λ r. ⌜ r ≡ getD (now (l .entry)) i 0 ⌝ }
+{
+    get(l, 0, i as usize)
+}
+
+fn put_label(l: &mut [u64], i: u64, w: u64)
+    ensures { λ _. ⌜ now (l .exit) ≡ set (now (l .entry)) i w ⌝ }
+{
+    put(l, 0, i as usize, w);
+}
+
 // The first of n labels with this name and scope, or n.
-fn find_label(p: &[u64], n: u64, key: u64) -> u64
-    ensures { λ r. ⌜ r ≡ findLabel n 0 (now (p .entry)) key ⌝ }
+fn find_label(l: &[u64], n: u64, key: u64) -> u64
+    ensures { λ r. ⌜ r ≡ findLabel n 0 (now (l .entry)) key ⌝ }
 {
     let mut i = 0;
     while i < n {
-        if get(p, 1088, i as usize) % 4294967296 == key {
+        if label_at(l, i) % 4294967296 == key {
             return i;
         }
         i += 1;
@@ -34,38 +48,38 @@ fn key(name: u64, scope: u64) -> u64
 }
 
 // The label of a name in a scope, else the next one, up to 256.
-pub fn get_or_insert_label(p: &mut [u64], name: u64, scope: u64, n: u64) -> Label
-    ensures { λ r. ⌜ listed r (now (p .exit)) ≡ getOrInsertLabel (now (p .entry)) name scope n ⌝ }
+pub fn get_or_insert_label(l: &mut [u64], name: u64, scope: u64, n: u64) -> Label
+    ensures { λ r. ⌜ listed r (now (l .exit)) ≡ getOrInsertLabel (now (l .entry)) name scope n ⌝ }
 {
     let k = key(name, scope);
-    let i = find_label(p, n, k);
+    let i = find_label(l, n, k);
     if i < n {
         return Label::Is(i);
     }
     if 256 <= n {
         return Label::No(14);
     }
-    put(p, 1088, n as usize, k);
+    put_label(l, n, k);
     Label::Is(n)
 }
 
-fn place_label(p: &mut [u64], id: u64, name: u64, scope: u64) -> Label
-    ensures { λ r. ⌜ listed r (now (p .exit)) ≡ placeLabel (now (p .entry)) id name scope ⌝ }
+fn place_label(l: &mut [u64], id: u64, name: u64, scope: u64) -> Label
+    ensures { λ r. ⌜ listed r (now (l .exit)) ≡ placeLabel (now (l .entry)) id name scope ⌝ }
 {
-    if 4294967296 <= get(p, 1088, id as usize) {
+    if 4294967296 <= label_at(l, id) {
         return Label::No(27);
     }
-    put(p, 1088, id as usize, 4294967296 + key(name, scope));
+    put_label(l, id, 4294967296 + key(name, scope));
     Label::Is(id)
 }
 
 // A label is placed once.
-pub fn resolve_label(p: &mut [u64], name: u64, scope: u64, n: u64) -> Label
-    ensures { λ r. ⌜ listed r (now (p .exit)) ≡ resolveLabel (now (p .entry)) name scope n ⌝ }
+pub fn resolve_label(l: &mut [u64], name: u64, scope: u64, n: u64) -> Label
+    ensures { λ r. ⌜ listed r (now (l .exit)) ≡ resolveLabel (now (l .entry)) name scope n ⌝ }
 {
-    match get_or_insert_label(p, name, scope, n) {
+    match get_or_insert_label(l, name, scope, n) {
         Label::No(k) => Label::No(k),
-        Label::Is(id) => place_label(p, id, name, scope),
+        Label::Is(id) => place_label(l, id, name, scope),
     }
 }
 

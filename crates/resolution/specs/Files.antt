@@ -36,14 +36,14 @@ atStart subtables = record {
 abbrev pub startEnv : ℕ → Env
 startEnv ptr = record { pointer = ptr; scope = 0; params = 0; count = 0 }
 
--- without the words of the scopes
-unfoldable pub withoutP : Walked → Stepped
-withoutP (walked r p a m) = stepped r a m
+-- without the labels
+unfoldable pub withoutL : Walked → Stepped
+withoutL (walked r l a m) = stepped r a m
 
--- the section's own statements, with macro calls 16 deep at most
+-- the section's own statements, which have no parameters, with macro calls 16 deep at most
 unfoldable pub walkSection : List ℕ → List ℕ → List ℕ → List ℕ → ℕ → ℕ → Stepped
 walkSection s t a m subtables ptr =
-    withoutP (resolveBody 16 s t (replicate 1344 0) a m (startEnv ptr) (getD t 3337 0) (le16 s 22) (getD t 3338 0) (atStart subtables))
+    withoutL (resolveBody 16 s t (replicate 1 0) (replicate 256 0) a m (startEnv ptr) (getD t 3337 0) (le16 s 22) (getD t 3338 0) (atStart subtables))
 
 -- the end, or the walk's refusal
 unfoldable pub resolveWalked : List ℕ → List ℕ → ℕ → Stepped → Resolved

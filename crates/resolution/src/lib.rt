@@ -67,7 +67,7 @@ fn start_env(ptr: u64) -> Env
     }
 }
 
-// The section's own statements, with macro calls 16 deep at most.
+// The section's own statements, which have no parameters, with macro calls 16 deep at most.
 fn walk_section(
     s: &[u8],
     t: &[u16],
@@ -78,13 +78,14 @@ fn walk_section(
 ) -> Step
     ensures { λ r. ⌜ stepped r (now (a .exit)) (now (m .exit)) ≡ walkSection (now (s .entry)) (now (t .entry)) (now (a .entry)) (now (m .entry)) subtables ptr ⌝ }
 {
-    let mut p = [0u64; 1344];
+    let p = [0u64; 1];
+    let mut l = [0u64; 256];
     let pos = cells::get_u16(t, 3337) as usize;
     let n = cells::u16_at(s, 22);
     let ordinal = cells::get_u16(t, 3338) as u64;
     let e = start_env(ptr);
     let w = at_start(subtables);
-    bodies::statements::body(16, s, t, &mut p, a, m, e, pos, n, ordinal, w)
+    bodies::statements::body(16, s, t, &p, &mut l, a, m, e, pos, n, ordinal, w)
 }
 
 fn resolve_section(s: &[u8], t: &[u16], a: &mut [u64], m: &mut [u64]) -> Answer

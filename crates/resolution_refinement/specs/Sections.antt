@@ -32,7 +32,7 @@ use Rattle.refinement.specs.Marks.{start-actions, start-state}
 use Rattle.outcome.specs.Answers.{Resolved, resolvedTo, refused}
 use Rattle.outcome.specs.Ends.{finish}
 use Rattle.resolution.specs.Files as w
-use Rattle.resolution.specs.Files.{startEnv, withoutP, walkSection, resolveWalked}
+use Rattle.resolution.specs.Files.{startEnv, withoutL, walkSection, resolveWalked}
 use Rattle.expression_refinement.specs.Encodings.{count}
 use Rattle.expression_refinement.specs.Answers.{acts, temps, word}
 use Rattle.semantics_refinement.specs.Views.{Beside}
@@ -40,7 +40,7 @@ use Rattle.semantics_refinement.specs.Given.{walkOf}
 use Rattle.semantics_refinement.specs.Standing.{Standing, Follows}
 use Rattle.resolution_refinement.specs.Answers.{asAnswer, refused-is}
 use Rattle.resolution_refinement.specs.Finish.{end-is}
-use Rattle.resolution_refinement.specs.Start.{pointer-is, noScopes, roomOf, startBeside, frontOf, tailOf, front-length, lent-length}
+use Rattle.resolution_refinement.specs.Start.{pointer-is, noParams, noLabels, roomOf, startBeside, frontOf, tailOf, front-length, lent-length}
 
 -- A lent list keeps its length: the contract of a function that is lent one knows it.
 abbrev pub Lengths : ℕ → ℕ → Resolved → Type 0
@@ -58,8 +58,8 @@ module _ (s t : List ℕ) (sec : Section) (a m : List ℕ) where
   -- The walk over the section's own statements follows the definition.
   pub record Walks : Type 0 where
     pub next : ℕ
-    pub follows : Follows s t (roomOf sec a m) (frontOf sec a) (tailOf sec a) m (startEnv (w.pointerSize s t)) 0 64 noScopes [] (startBeside sec) (atStart sec) next
-        (resolveBody 16 s t noScopes (acts sec (frontOf sec a) (tailOf sec a) [] m (atStart sec)) (temps sec (frontOf sec a) (tailOf sec a) [] m (atStart sec)) (startEnv (w.pointerSize s t)) (getD t 3337 0) (le16 s 22) (getD t 3338 0) (walkOf (startBeside sec) (word sec (frontOf sec a) (tailOf sec a) [] m (atStart sec))))
+    pub follows : Follows s t (roomOf sec a m) (frontOf sec a) (tailOf sec a) m (startEnv (w.pointerSize s t)) 0 noParams noLabels [] (startBeside sec) (atStart sec) next
+        (resolveBody 16 s t noParams noLabels (acts sec (frontOf sec a) (tailOf sec a) [] m (atStart sec)) (temps sec (frontOf sec a) (tailOf sec a) [] m (atStart sec)) (startEnv (w.pointerSize s t)) (getD t 3337 0) (le16 s 22) (getD t 3338 0) (walkOf (startBeside sec) (word sec (frontOf sec a) (tailOf sec a) [] m (atStart sec))))
         (statements.resolveBody 16 (statements.ordinalAfter (sec .macros)) (sec .statements) (roomOf sec a m) (atStart sec))
 
 module _ (s t : List ℕ) (sec : Section) (holds : Holds s t sec) (within : WithinLimits sec) (tables : TablesNamed sec) (a m : List ℕ) (short : length a < 2 ^ 60) (shorter : length m < 2 ^ 60) where
@@ -92,11 +92,11 @@ module _ (s t : List ℕ) (sec : Section) (holds : Holds s t sec) (within : With
     start-actions-are = start-actions (24 * length (sec .subtables)) a
 
     begins : walkSection s t a m (length (sec .subtables)) (w.pointerSize s t)
-        ≡ withoutP (resolveBody 16 s t noScopes (acts sec (frontOf sec a) (tailOf sec a) [] m (atStart sec)) (temps sec (frontOf sec a) (tailOf sec a) [] m (atStart sec)) (startEnv (w.pointerSize s t)) (getD t 3337 0) (le16 s 22) (getD t 3338 0) (walkOf (startBeside sec) (word sec (frontOf sec a) (tailOf sec a) [] m (atStart sec))))
-    unfolding walkSection noScopes
-    begins = λ i. withoutP (resolveBody 16 s t (replicate 1344 0) (sym start-actions-are i) (sym start-temporaries i) (startEnv (w.pointerSize s t)) (getD t 3337 0) (le16 s 22) (getD t 3338 0) (sym start-walk i))
+        ≡ withoutL (resolveBody 16 s t noParams noLabels (acts sec (frontOf sec a) (tailOf sec a) [] m (atStart sec)) (temps sec (frontOf sec a) (tailOf sec a) [] m (atStart sec)) (startEnv (w.pointerSize s t)) (getD t 3337 0) (le16 s 22) (getD t 3338 0) (walkOf (startBeside sec) (word sec (frontOf sec a) (tailOf sec a) [] m (atStart sec))))
+    unfolding walkSection noParams noLabels
+    begins = λ i. withoutL (resolveBody 16 s t (replicate 1 0) (replicate 256 0) (sym start-actions-are i) (sym start-temporaries i) (startEnv (w.pointerSize s t)) (getD t 3337 0) (le16 s 22) (getD t 3338 0) (sym start-walk i))
 
-    finishes : (more : List ℕ) (c : Beside) (u : State) (q : List ℕ) → Standing s t e (frontOf sec a) (tailOf sec a) m (startEnv (w.pointerSize s t)) 0 q more c u → Kept e u → c .placed ≡ labelsPlaced (u .actions)
+    finishes : (more : List ℕ) (c : Beside) (u : State) (q : List ℕ) → Standing s t e (frontOf sec a) (tailOf sec a) m (startEnv (w.pointerSize s t)) 0 noParams q more c u → Kept e u → c .placed ≡ labelsPlaced (u .actions)
         → asAnswer (finish s t (acts sec (frontOf sec a) (tailOf sec a) more m u) (temps sec (frontOf sec a) (tailOf sec a) more m u) (w.pointerSize s t) (walkOf c (word sec (frontOf sec a) (tailOf sec a) more m u))) ≡ answered (length a) (length m) (d.finish e u)
     finishes more c u q standing kept placed =
         let front = frontOf sec a in let tail = tailOf sec a in
@@ -104,12 +104,12 @@ module _ (s t : List ℕ) (sec : Section) (holds : Holds s t sec) (within : With
         (record { export = (standing .export, standing .exportSound); placed = placed; statements = standing .statements }) subtables-are in
         (λ i. asAnswer (finish s t (acts sec front tail more m u) (temps sec front tail more m u) (pointer-is s t sec holds i) (walkOf c (word sec front tail more m u)))) ∙ x ∙ ap (λ (n : ℕ). answered n (length m) (d.finish e u)) (lent-length sec a room)
 
-    ends : {next : ℕ} (x : Walked) (o : Outcome (Unit {0})) → Follows s t e (frontOf sec a) (tailOf sec a) m (startEnv (w.pointerSize s t)) 0 64 noScopes [] (startBeside sec) (atStart sec) next x o
-        → Lengths (length a) (length m) (resolveWalked s t (w.pointerSize s t) (withoutP x)) → asAnswer (resolveWalked s t (w.pointerSize s t) (withoutP x)) ≡ answered (length a) (length m) (on e o (λ _. d.finish))
-    unfolding resolveWalked withoutP on answered orNone orElse
+    ends : {next : ℕ} (x : Walked) (o : Outcome (Unit {0})) → Follows s t e (frontOf sec a) (tailOf sec a) m (startEnv (w.pointerSize s t)) 0 noParams noLabels [] (startBeside sec) (atStart sec) next x o
+        → Lengths (length a) (length m) (resolveWalked s t (w.pointerSize s t) (withoutL x)) → asAnswer (resolveWalked s t (w.pointerSize s t) (withoutL x)) ≡ answered (length a) (length m) (on e o (λ _. d.finish))
+    unfolding resolveWalked withoutL on answered orNone orElse
     ends x o (Follows.goes u q more c i j standing kept placed framed) l = rw (i, j) (finishes more c u q standing kept placed)
     ends x o (Follows.stops r ordinal q b n i j) l =
-        let k = refused-lengths b n (length a) (length m) (refusalNumber r) ordinal 0 (subst (λ (x : Walked). Lengths (length a) (length m) (resolveWalked s t (w.pointerSize s t) (withoutP x))) j l) in
+        let k = refused-lengths b n (length a) (length m) (refusalNumber r) ordinal 0 (subst (λ (x : Walked). Lengths (length a) (length m) (resolveWalked s t (w.pointerSize s t) (withoutL x))) j l) in
         rw (i, j) (refused-is b n (length a) (length m) r (some ordinal) 0 (k .0) (k .1))
 
   abbrev body : Env → State → Outcome (Unit {0})

@@ -70,9 +70,12 @@ scope-sound sec = each-both (λ (p : ℕ × Value). Sound sec 0 (p .1)) (locals 
     (locals-sound sec Kind.Field 0 (map (λ (x : Field). x .name) (sec .fields)) (λ n h. record { number = omega (arith, length-map (sec .fields) (λ (x : Field). x .name)); offset = omega arith; size = omega arith }))
     (locals-sound sec Kind.Subtable 0 (map (λ (x : Subtable). x .name) (sec .subtables)) (λ n h. record { number = omega (arith, length-map (sec .subtables) (λ (x : Subtable). x .name)); offset = omega arith; size = omega arith }))
 
--- the words of the scopes before any is opened
-unfoldable pub noScopes : List ℕ
-noScopes = replicate 1344 0
+-- the words of parameters, of which the section's own statements have none, and those of labels before any is made
+unfoldable pub noParams : List ℕ
+noParams = replicate 1 0
+
+unfoldable pub noLabels : List ℕ
+noLabels = replicate 256 0
 
 abbrev pub roomOf : Section → List ℕ → List ℕ → Env
 roomOf sec a m = record { section = sec; actionRoom = length a / 24; temporaryRoom = length m }
@@ -105,12 +108,12 @@ module _ (s t : List ℕ) (sec : Section) (holds : Holds s t sec) (within : With
     pointer = pointer-is s t sec holds;
   }
 
-  no-labels : LabelsIn noScopes 0 0 []
+  no-labels : LabelsIn noLabels 0 0 []
   unfolding findLabel find first
   no-labels = record { found = λ name known. unfold idOr in refl; below = λ name l e. no-label l name e; placed = λ name l known e. no-label l name e }
 
-  pub start-standing : Standing s t (roomOf sec a m) (frontOf sec a) (tailOf sec a) m (startEnv (w.pointerSize s t)) 0 noScopes [] (startBeside sec) (atStart sec)
-  unfolding atStart sectionScope temporaryWords noScopes
+  pub start-standing : Standing s t (roomOf sec a m) (frontOf sec a) (tailOf sec a) m (startEnv (w.pointerSize s t)) 0 noParams noLabels [] (startBeside sec) (atStart sec)
+  unfolding atStart sectionScope temporaryWords noLabels
   start-standing = record {
     stood = record { actions = omega arith; temporaries = omega arith; marked = omega arith; sizes = tt; errors = omega arith; sound = tt; params = tt; mapping = scope-sound sec };
     scoped = record { params = tt; counted = refl; locals = λ name known. start-locals s t sec holds name known m };
@@ -120,7 +123,7 @@ module _ (s t : List ℕ) (sec : Section) (holds : Holds s t sec) (within : With
     statements = refl;
     export = (refl, refl);
     exportSound = tt;
-    long = length-replicate {A = ℕ} 1344 0;
+    long = length-replicate {A = ℕ} 256 0;
     counted = omega arith;
     scopes = omega arith;
     own = omega arith;

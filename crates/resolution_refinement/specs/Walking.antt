@@ -23,7 +23,7 @@ use Rattle.semantics_refinement.specs.Given.{walkOf}
 use Rattle.semantics_refinement.specs.Standing.{Follows}
 use Rattle.semantics_refinement.specs.MacroPlaces.{ordinal-is, ordinal-small}
 use Rattle.semantics_refinement.specs.Bodies.{Between, EnterFollows, StatementFollows, body-follows}
-use Rattle.resolution_refinement.specs.Start.{noScopes, roomOf, startBeside, frontOf, tailOf, start-given, start-standing}
+use Rattle.resolution_refinement.specs.Start.{noParams, noLabels, roomOf, startBeside, frontOf, tailOf, start-given, start-standing}
 use Rattle.resolution_refinement.specs.Sections.{Walks}
 
 all-taken : {A : Type 0} (xs : List A) → take (length xs) xs ≡ xs
@@ -31,11 +31,10 @@ all-taken [] = refl
 all-taken (x ∷ xs) = rw (all-taken xs)
 
 module _ (s t : List ℕ) (sec : Section) (holds : Holds s t sec) (within : WithinLimits sec) (tables : TablesNamed sec) (ranges : BitRangesFit sec) (short : length s ≤ 65280) (a m : List ℕ) (room : length (sec .subtables) ≤ length a / 24) where
-  start-between : Between s t (roomOf sec a m) (frontOf sec a) (tailOf sec a) m 0 16 (startEnv (w.pointerSize s t)) noScopes [] (startBeside sec) (atStart sec)
+  start-between : Between s t (roomOf sec a m) (frontOf sec a) (tailOf sec a) m 0 (startEnv (w.pointerSize s t)) noParams noLabels [] (startBeside sec) (atStart sec)
   unfolding atStart labelsPlaced sum
   start-between = record {
     given = start-given s t sec holds within tables ranges short a m room;
-    params = omega arith;
     standing = start-standing s t sec holds within tables ranges short a m room;
     kept = start-kept (roomOf sec a m) room;
     placed = refl;
@@ -47,13 +46,13 @@ module _ (s t : List ℕ) (sec : Section) (holds : Holds s t sec) (within : With
   few-ordinals : d.ordinalAfter (sec .macros) ≤ 131072
   few-ordinals = subst (λ (xs : List Macro). d.ordinalAfter xs ≤ 131072) (all-taken (sec .macros)) (ordinal-small s t sec holds (length (sec .macros)))
 
-  pub section-walks : ((deep : ℕ) → deep ≤ 16 → EnterFollows s t (roomOf sec a m) (frontOf sec a) (tailOf sec a) m 0 deep → StatementFollows s t (roomOf sec a m) (frontOf sec a) (tailOf sec a) m 0 deep) → Walks s t sec a m
+  pub section-walks : ((deep : ℕ) → EnterFollows s t (roomOf sec a m) (frontOf sec a) (tailOf sec a) m 0 deep → StatementFollows s t (roomOf sec a m) (frontOf sec a) (tailOf sec a) m 0 deep) → Walks s t sec a m
   section-walks statements =
       let x = body-follows s t (roomOf sec a m) (frontOf sec a) (tailOf sec a) m 0 within statements (startEnv (w.pointerSize s t)) (le16 s 22) (d.ordinalAfter (sec .macros)) (getD t 3337 0) (sec .statements) (drop (holds .statements .after) s)
-      (holds .statements .reads) (holds .statements .inside) (within .statements) (let l = holds .limits .statements in omega (arith, few-ordinals)) noScopes [] (startBeside sec) (atStart sec) start-between in
+      (holds .statements .reads) (holds .statements .inside) (within .statements) (let l = holds .limits .statements in omega (arith, few-ordinals)) noParams noLabels [] (startBeside sec) (atStart sec) start-between in
       record {
         next = x .0;
-        follows = subst (λ (n : ℕ). Follows s t (roomOf sec a m) (frontOf sec a) (tailOf sec a) m (startEnv (w.pointerSize s t)) 0 64 noScopes [] (startBeside sec) (atStart sec) (x .0)
-            (resolveBody 16 s t noScopes (acts sec (frontOf sec a) (tailOf sec a) [] m (atStart sec)) (temps sec (frontOf sec a) (tailOf sec a) [] m (atStart sec)) (startEnv (w.pointerSize s t)) (getD t 3337 0) (le16 s 22) n (walkOf (startBeside sec) (word sec (frontOf sec a) (tailOf sec a) [] m (atStart sec))))
+        follows = subst (λ (n : ℕ). Follows s t (roomOf sec a m) (frontOf sec a) (tailOf sec a) m (startEnv (w.pointerSize s t)) 0 noParams noLabels [] (startBeside sec) (atStart sec) (x .0)
+            (resolveBody 16 s t noParams noLabels (acts sec (frontOf sec a) (tailOf sec a) [] m (atStart sec)) (temps sec (frontOf sec a) (tailOf sec a) [] m (atStart sec)) (startEnv (w.pointerSize s t)) (getD t 3337 0) (le16 s 22) n (walkOf (startBeside sec) (word sec (frontOf sec a) (tailOf sec a) [] m (atStart sec))))
             (d.resolveBody 16 (d.ordinalAfter (sec .macros)) (sec .statements) (roomOf sec a m) (atStart sec))) ordinals (x .1);
       }

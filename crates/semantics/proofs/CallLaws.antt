@@ -16,9 +16,8 @@ use Rattle.pcode.specs.Values.{absent, noOutput, valueAt, putValue}
 use Rattle.pushing.specs.Pushes.{read, onRead, onPush, push}
 use Rattle.meaning.specs.declared.scope.ExprValue.{ExprValue}
 use Rattle.meaning.proofs.scope.ExprValue as exprValue
-use Rattle.meaning.specs.declared.scope.Slot.{Slot}
 use Rattle.meaning.specs.declared.args.Args.{Args}
-use Rattle.meaning.specs.Slots.{putSlot, slotAt, paramPlace, argAt}
+use Rattle.meaning.specs.Slots.{paramPlace, argAt}
 use Rattle.meaning.specs.Scopes.{global}
 use Rattle.meaning.specs.Reading.{readOperand}
 use Rattle.expression.specs.Answers.{passed, onArgs, after}
@@ -29,7 +28,7 @@ use Rattle.walking.specs.declared.walk.Step.{Step}
 use Rattle.semantics.specs.declared.calls.Called.{Called}
 use Rattle.walking.specs.Walks.{stepped, stop, pushedThen}
 use Rattle.pcode.proofs.LoopLaws.{run-end}
-use Rattle.semantics.specs.Calls.{called, symbolOf, calledOf, delaySlot, ArgsRead, argsRead, readArgs, writeInput, writeInputs, pushUserOp, userOpRead, userOpArgs, stepArgs, userOpStatement, otherCall, bindParam, bindArg, bindParams, macroAt, counted, macroCounted, macroArgs}
+use Rattle.semantics.specs.Calls.{called, symbolOf, calledOf, delaySlot, ArgsRead, argsRead, readArgs, writeInput, writeInputs, pushUserOp, userOpRead, userOpArgs, stepArgs, userOpStatement, otherCall, macroAt, bindName, bindNames, counted, macroCounted, macroArgs}
 
 -- ---- what is called
 pub symbol-none : (g : ℕ) → g ≡ 0 → called 3 22 ≡ symbolOf g
@@ -150,18 +149,13 @@ module _ (c : Called) (s t p a m : List ℕ) (e : Env) (pos n : ℕ) (w : Walk) 
   call-none q k h = rw (ne-eqb (c .kind) 0 q, ne-eqb (c .kind) 1 k, h)
 
 -- ---- what a macro is given
-pub bind-param-law : (p p1 p2 : List ℕ) (at name : ℕ) (k : Slot) → p1 ≡ set p (at + 0) name → p2 ≡ putSlot p1 at k → p2 ≡ bindParam p at name k
-unfolding bindParam
-bind-param-law p p1 p2 at name k e h = rw (← e) h
+pub bind-name-law : (s : List ℕ) (names i : ℕ) (args args1 : List ℕ) (name at : ℕ) → (name ≡ le16 s (names + i % 8 * 2)) × (name < 65536) → at ≡ paramPlace 0 i → args1 ≡ set args (at + 0) name → args1 ≡ bindName s names i args
+unfolding bindName
+bind-name-law s names i args args1 name at en ea h = rw (← en .0, ← ea) h
 
-pub bind-arg-law : (s : List ℕ) (params : ℕ) (args : List ℕ) (names i : ℕ) (p p1 : List ℕ) (name at k : ℕ) (x : Slot) → (name ≡ le16 s (names + i % 8 * 2)) × (name < 65536) → at ≡ paramPlace params i → k ≡ paramPlace 0 i → x ≡ slotAt args k →
-    p1 ≡ bindParam p at name x → p1 ≡ bindArg s params args names i p
-unfolding bindArg
-bind-arg-law s params args names i p p1 name at k x en ea ek ex h = rw (← en .0, ← ea, ← ek, ← ex) h
-
-pub bind-params-law : (n i : ℕ) (s p q : List ℕ) (params : ℕ) (args : List ℕ) (names : ℕ) → n ≤ i → run (n - i) i (bindArg s params args names) q ≡ run n 0 (bindArg s params args names) p → q ≡ bindParams n s p params args names
-unfolding bindParams
-bind-params-law n i s p q params args names h e = run-end n i (bindArg s params args names) q _ h e
+pub bind-names-law : (n i : ℕ) (s : List ℕ) (names : ℕ) (args q : List ℕ) → n ≤ i → run (n - i) i (bindName s names) q ≡ run n 0 (bindName s names) args → q ≡ bindNames n s names args
+unfolding bindNames
+bind-names-law n i s names args q h e = run-end n i (bindName s names) q _ h e
 
 pub macro-at-law : (t : List ℕ) (id r : ℕ) → r ≡ getD t (3072 + id % 128) 0 → r ≡ macroAt t id
 unfolding macroAt
@@ -172,9 +166,10 @@ module _ (s t p a m args : List ℕ) (e : Env) (pos id n : ℕ) (st : State) (at
   unfolding macroArgs macroCounted
   macro-no k q = rw (← ea, ← f, q)
 
-  pub macro-done : (next : ℕ) (st1 : State) (x : Args) → r ≡ Args.Done next st1 → x ≡ counted s t id n next st1 → passed x a1 m1 args1 ≡ macroArgs s t p a m args e pos id n st
+  pub macro-done : (next : ℕ) (st1 : State) (k names : ℕ) (args2 : List ℕ) (x : Args) → r ≡ Args.Done next st1 → k ≡ macroAt t id → names ≡ after k 1 → args2 ≡ bindNames n s names args1 → x ≡ counted s t id n next st1 →
+      passed x a1 m1 args2 ≡ macroArgs s t p a m args e pos id n st
   unfolding macroArgs macroCounted
-  macro-done next st1 x q h = rw (← ea, ← f, q, h)
+  macro-done next st1 k names args2 x q ek en g h = rw (← ea, ← f, q, ← ek, ← en, ← g, h)
 
 module _ (s t : List ℕ) (id n next : ℕ) (st : State) (k c : ℕ) (ek : k ≡ macroAt t id) (ec : (c ≡ getD s (k + 0) 0) × (c < 256)) where
   pub counted-same : c ≡ n → Args.Done next st ≡ counted s t id n next st
@@ -185,4 +180,4 @@ module _ (s t : List ℕ) (id n next : ℕ) (st : State) (k c : ℕ) (ek : k ≡
   unfolding counted if_then_else_
   counted-other h = rw (← ek, ← ec .0, ne-eqb c n h)
 
-pub ruleset call-laws = (symbol-none, symbol-op, symbol-macro, symbol-other, called-delay, called-symbol, delay-one, delay-other, user-full, user-done, user-no, user-yes, user-stop, user-next, call-delay, call-op, call-none, bind-param-law, macro-at-law, macro-no, macro-done)
+pub ruleset call-laws = (symbol-none, symbol-op, symbol-macro, symbol-other, called-delay, called-symbol, delay-one, delay-other, user-full, user-done, user-no, user-yes, user-stop, user-next, call-delay, call-op, call-none, macro-at-law, macro-no, macro-done)

@@ -10,9 +10,8 @@ use Rattle.pushing.specs.declared.push.Pushed.{Pushed}
 use Rattle.pcode.specs.Base.{if_then_else_, run, Listed, listed, thenL}
 use Rattle.pcode.specs.Values.{absent, noOutput, valueAt, putValue}
 use Rattle.pushing.specs.Pushes.{onRead, onPush, push}
-use Rattle.meaning.specs.declared.scope.Slot.{Slot}
 use Rattle.meaning.specs.declared.args.Args.{Args}
-use Rattle.meaning.specs.Slots.{putSlot, slotAt, paramPlace, argAt}
+use Rattle.meaning.specs.Slots.{paramPlace, argAt}
 use Rattle.meaning.specs.Scopes.{global}
 use Rattle.meaning.specs.Reading.{readOperand}
 use Rattle.expression.specs.Answers.{ArgsOut, passed, onArgs, after}
@@ -91,30 +90,27 @@ otherCall c s t p a m e pos n w =
     else if eqb (c .kind) 1 then userOpStatement s t p a m e pos (c .number) n w
     else stepped (stop (c .number) w) a m
 
-unfoldable pub bindParam : List ℕ → ℕ → ℕ → Slot → List ℕ
-bindParam p at name k = putSlot (set p (at + 0) name) at k
-
--- argument i as parameter i, whose name stands in a list of names
-unfoldable pub bindArg : List ℕ → ℕ → List ℕ → ℕ → ℕ → List ℕ → List ℕ
-bindArg s params args names i p =
-    bindParam p (paramPlace params i) (le16 s (names + i % 8 * 2)) (slotAt args (paramPlace 0 i))
-
-unfoldable pub bindParams : ℕ → List ℕ → List ℕ → ℕ → List ℕ → ℕ → List ℕ
-bindParams n s p params args names = run n 0 (bindArg s params args names) p
-
 -- where a macro stands
 unfoldable pub macroAt : List ℕ → ℕ → ℕ
 macroAt t id = getD t (3072 + id % 128) 0
+
+-- argument i with the name of parameter i, which stands in a list of names
+unfoldable pub bindName : List ℕ → ℕ → ℕ → List ℕ → List ℕ
+bindName s names i args = set args (paramPlace 0 i + 0) (le16 s (names + i % 8 * 2))
+
+unfoldable pub bindNames : ℕ → List ℕ → ℕ → List ℕ → List ℕ
+bindNames n s names args = run n 0 (bindName s names) args
 
 -- as many arguments as the macro has parameters
 unfoldable pub counted : List ℕ → List ℕ → ℕ → ℕ → ℕ → State → Args
 counted s t id n next st = if eqb (getD s (macroAt t id + 0) 0) n then Args.Done next st else Args.No 26
 
 unfoldable pub macroCounted : List ℕ → List ℕ → ℕ → ℕ → ArgsOut → ArgsOut
-macroCounted s t id n (passed (Args.Done next st) a m args) = passed (counted s t id n next st) a m args
+macroCounted s t id n (passed (Args.Done next st) a m args) =
+    passed (counted s t id n next st) a m (bindNames n s (after (macroAt t id) 1) args)
 macroCounted s t id n (passed (Args.No k) a m args) = passed (Args.No k) a m args
 
--- the arguments of a macro call
+-- the arguments of a macro call, as its parameters
 unfoldable pub macroArgs : List ℕ → List ℕ → List ℕ → List ℕ → List ℕ → List ℕ → Env → ℕ → ℕ → ℕ → State → ArgsOut
 macroArgs s t p a m args e pos id n st =
     macroCounted s t id n (resolveArgs (resolveExpr 32 s t p e) n 0 (after pos 4) a m args st)

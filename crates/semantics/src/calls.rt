@@ -5,11 +5,8 @@ use expression::expr::resolve_args;
 use meaning::args::Args;
 use meaning::args::arg_at;
 use meaning::read::read_operand;
-use meaning::scope::Slot;
 use meaning::scope::global;
 use meaning::scope::param_place;
-use meaning::scope::put_slot;
-use meaning::scope::slot_at;
 use meaning::scope::u16_in;
 use pcode::value::absent;
 use pcode::value::no_output;
@@ -29,7 +26,7 @@ ghost use mathlib.Core.Path.{_≡_};
 ghost use Rattle.pcode.specs.Base.{listed};
 ghost use Rattle.expression.specs.Answers.{passed};
 ghost use Rattle.walking.specs.Walks.{stepped};
-ghost use Rattle.semantics.specs.Calls.{symbolOf, calledOf, delaySlot, argsRead, readArgs, writeInputs, pushUserOp, userOpArgs, userOpStatement, otherCall, bindParam, bindParams, macroAt, counted, macroArgs};
+ghost use Rattle.semantics.specs.Calls.{symbolOf, calledOf, delaySlot, argsRead, readArgs, writeInputs, pushUserOp, userOpArgs, userOpStatement, otherCall, macroAt, bindNames, counted, macroArgs};
 
 // What a call statement calls: 0 the delay slot, 1 a user op, 2 a macro, 3 a refusal.
 pub struct Called {
@@ -201,33 +198,21 @@ pub fn other_call(
     }
 }
 
-fn bind_param(p: &mut [u64], at: usize, name: u64, k: Slot)
-    ensures { λ _. ⌜ now (p .exit) ≡ bindParam (now (p .entry)) at name k ⌝ }
-{
-    put(p, at, 0, name);
-    put_slot(p, at, k);
-}
-
-// Binds n arguments to a macro's parameters, whose names stand from a position on.
-pub fn bind_params(s: &[u8], p: &mut [u64], params: usize, args: &[u64], names: usize, n: usize)
-    ensures { λ _. ⌜ now (p .exit) ≡ bindParams n (now (s .entry)) (now (p .entry)) params (now (args .entry)) names ⌝ }
-{
-    for i in 0..n {
-        let name = u16_in(s, names, i % 8 * 2);
-        bind_param(
-            p,
-            param_place(params, i),
-            name,
-            slot_at(args, param_place(0, i)),
-        );
-    }
-}
-
 // Where macro number `id` stands.
 pub fn macro_at(t: &[u16], id: u64) -> usize
     ensures { λ r. ⌜ r ≡ macroAt (now (t .entry)) id ⌝ }
 {
     cells::get_u16(t, 3072 + (id % 128) as usize) as usize
+}
+
+// Gives n arguments the names of the macro's parameters, which stand from a position on: each slot's first word.
+fn bind_names(s: &[u8], args: &mut [u64], names: usize, n: usize)
+    ensures { λ _. ⌜ now (args .exit) ≡ bindNames n (now (s .entry)) names (now (args .entry)) ⌝ }
+{
+    for i in 0..n {
+        let name = u16_in(s, names, i % 8 * 2);
+        put(args, param_place(0, i), 0, name);
+    }
 }
 
 // As many arguments as the macro has parameters.
@@ -240,7 +225,7 @@ fn counted(s: &[u8], t: &[u16], id: u64, n: u64, next: usize, st: State) -> Args
     Args::No(26)
 }
 
-// The arguments of a macro call.
+// The arguments of a macro call, as its parameters.
 pub fn macro_args(
     s: &[u8],
     t: &[u16],
@@ -258,6 +243,9 @@ pub fn macro_args(
 {
     match resolve_args(32, s, t, p, after(pos, 4), n, e, a, m, args, st) {
         Args::No(k) => Args::No(k),
-        Args::Done { next, st: st1 } => counted(s, t, id, n, next, st1),
+        Args::Done { next, st: st1 } => {
+            bind_names(s, args, after(macro_at(t, id), 1), n as usize);
+            counted(s, t, id, n, next, st1)
+        }
     }
 }

@@ -33,7 +33,7 @@ use Rattle.expression.specs.Answers.{after}
 use Rattle.expression.specs.Calls.{onlyInteger}
 use Rattle.walking.specs.declared.walk.Walk.{Walk}
 use Rattle.walking.specs.declared.walk.Step.{Step}
-use Rattle.walking.specs.Walks.{Stepped, stepped, besideP, stop, pushedThen}
+use Rattle.walking.specs.Walks.{Stepped, stepped, besideL, stop, pushedThen}
 use Rattle.semantics.specs.Calls.{called, symbolOf, calledOf, delaySlot, userOpStatement, otherCall}
 use Rattle.bodies.specs.Statements.{Enter, callNamed, callStatement}
 use Rattle.expression_refinement.specs.Encodings.{stood-more}
@@ -51,8 +51,8 @@ use Rattle.semantics_refinement.specs.Stepping.{steps-goes}
 use Rattle.semantics_refinement.specs.Ends.{call-inside}
 use Rattle.semantics_refinement.specs.UserOps.{user-op-steps}
 
-module _ (s t : List ℕ) (e : Env) (p front tail marks rest : List ℕ) (we : WordEnv) (given : Given s t e front tail rest we) (spare : ℕ) (room : Spare spare tail) (b : Beside) (level : ℕ)
-    (from : State) (stand : Standing s t e front tail rest we spare p marks b from) (pos next : ℕ) where
+module _ (s t : List ℕ) (e : Env) (p front tail marks rest : List ℕ) (we : WordEnv) (given : Given s t e front tail rest we) (spare : ℕ) (room : Spare spare tail) (b : Beside) (ls : List ℕ)
+    (from : State) (stand : Standing s t e front tail rest we spare p ls marks b from) (pos next : ℕ) where
   abbrev A : List ℕ
   A = acts (e .section) front tail marks rest from
 
@@ -63,10 +63,10 @@ module _ (s t : List ℕ) (e : Env) (p front tail marks rest : List ℕ) (we : W
   w = walkOf b (word (e .section) front tail marks rest from)
 
   abbrev Ends : Stepped → Outcome (Unit {0}) → Type 0
-  Ends x o = Steps s t e front tail rest we spare 0 level p marks b from next (besideP p x) o
+  Ends x o = Steps s t e front tail rest we spare 0 p ls marks b from next (besideL ls x) o
 
   goes : (x : Stepped) (o : Outcome (Unit {0})) → Goes (e .section) front tail marks rest spare from next b (orNone (from .sizing .begun)) x o → Ends x o
-  goes x o h = steps-goes s t e front tail rest we spare level p marks b from next (orNone (from .sizing .begun)) x o stand refl h
+  goes x o h = steps-goes s t e front tail rest we spare p ls marks b from next (orNone (from .sizing .begun)) x o stand refl h
 
   stops : (n : ℕ) (r : Refusal) → n ≡ refusalNumber r → Ends (stepped (stop n w) A M) (stopped r (from .sizing .begun) 0)
   stops n r h = goes _ _ (step-stops (e .section) front tail marks rest spare from _ _ w A M n r h)
@@ -109,7 +109,7 @@ module _ (s t : List ℕ) (e : Env) (p front tail marks rest : List ℕ) (we : W
     delay-steps = delay-by (expressions.onlyInteger args) (onlyInteger s pos n) (after pos 13) (only-integer s (le16 s 2) 32 pos n args next starts (given .short) inside reads)
 
     user-op : (id : ℕ) → Ends (userOpStatement s t p A M we pos id n w) (d.userOpStatement id args e from)
-    user-op id = user-op-steps s t e p front tail marks rest we given spare room b level from stand pos n args next reads few starts inside id
+    user-op id = user-op-steps s t e p front tail marks rest we given spare room b ls from stand pos n args next reads few starts inside id
 
     module _ (enter : ℕ → Macro → List ExprValue → walks.Walk (Unit {0})) where
       -- a symbol that is no user op and no macro
@@ -139,7 +139,7 @@ module _ (s t : List ℕ) (e : Env) (p front tail marks rest : List ℕ) (we : W
       by-name true c = unfold otherCall in delay-steps
       by-name false c = by-symbol (find name (globals (e .section))) c
 
-      call-steps : (into : Enter) → eqb (calledOf s t name .kind) 2 ≡ false → Steps s t e front tail rest we spare 0 level p marks b from next (callStatement into s t p A M we pos w) (d.callStatement enter name args e from)
+      call-steps : (into : Enter) → eqb (calledOf s t name .kind) 2 ≡ false → Steps s t e front tail rest we spare 0 p ls marks b from next (callStatement into s t p ls A M we pos w) (d.callStatement enter name args e from)
       unfolding callStatement callNamed if_then_else_ d.callStatement on
       call-steps into c = rw c (named c)
         where
@@ -150,10 +150,10 @@ module _ (s t : List ℕ) (e : Env) (p front tail marks rest : List ℕ) (we : W
               rw (g, ← holds .delaySlot) (by-name (eqb name (e .section .delaySlot)) (rw (g, ← holds .delaySlot) at c))
 
 -- A call statement at its position, whose name is no macro's.
-module _ (s t : List ℕ) (e : Env) (p front tail marks rest : List ℕ) (we : WordEnv) (given : Given s t e front tail rest we) (spare : ℕ) (room : Spare spare tail) (b : Beside) (level : ℕ)
-    (from : State) (stand : Standing s t e front tail rest we spare p marks b from) (enter : ℕ → Macro → List ExprValue → walks.Walk (Unit {0})) (into : Enter) (pos : ℕ) (x : Statement) (next : ℕ) where
+module _ (s t : List ℕ) (e : Env) (p front tail marks rest : List ℕ) (we : WordEnv) (given : Given s t e front tail rest we) (spare : ℕ) (room : Spare spare tail) (b : Beside) (ls : List ℕ)
+    (from : State) (stand : Standing s t e front tail rest we spare p ls marks b from) (enter : ℕ → Macro → List ExprValue → walks.Walk (Unit {0})) (into : Enter) (pos : ℕ) (x : Statement) (next : ℕ) where
   abbrev Calling : Statement → ℕ → Type 0
-  Calling y end = Steps s t e front tail rest we spare 0 level p marks b from end (callStatement into s t p (acts (e .section) front tail marks rest from) (temps (e .section) front tail marks rest from) we pos (walkOf b (word (e .section) front tail marks rest from))) (d.resolveStatement enter y e from)
+  Calling y end = Steps s t e front tail rest we spare 0 p ls marks b from end (callStatement into s t p ls (acts (e .section) front tail marks rest from) (temps (e .section) front tail marks rest from) we pos (walkOf b (word (e .section) front tail marks rest from))) (d.resolveStatement enter y e from)
 
   call-read : CallStatementAt s (le16 s 2) pos x (drop next s) → pos + 4 ≤ length s → next ≤ length s → eqb (calledOf s t (le16 s (pos + 1)) .kind) 2 ≡ false → Calling x next
   call-read i starts inside c =
@@ -161,7 +161,7 @@ module _ (s t : List ℕ) (e : Env) (p front tail marks rest : List ℕ) (we : W
       subst (λ (n : ℕ). Calling x n) (sym k) (subst (λ (y : Statement). Calling y (i .args-end)) (sym (i .is)) calls)
     where
       calls : Calling (Statement.Call (le16 s (pos + 1)) (i .args)) (i .args-end)
-      calls = unfold d.resolveStatement in call-steps s t e p front tail marks rest we given spare room b level from stand pos (i .args-end) (i .args) (i .args-reads) (i .name-below) (i .count-below) starts (i .args-inside) enter into c
+      calls = unfold d.resolveStatement in call-steps s t e p front tail marks rest we given spare room b ls from stand pos (i .args-end) (i .args) (i .args-reads) (i .name-below) (i .count-below) starts (i .args-inside) enter into c
 
   pub other-call-steps : statement (le16 s 2) (drop pos s) ≡ parsed x (drop next s) → next ≤ length s → getD s pos 0 ≡ 7 → eqb (calledOf s t (le16 s (pos + 1)) .kind) 2 ≡ false → Calling x next
   other-call-steps reads inside code c = call-read (call-statement-at s (le16 s 2) pos x (drop next s) code reads) (call-inside s (le16 s 2) pos x next reads inside code) inside c

@@ -15,9 +15,8 @@ use Rattle.semantics_refinement.specs.Begin.{oneMore, started}
 use Rattle.semantics_refinement.specs.Standing.{labelScope, Standing, Framed}
 
 module _ (s t : List ℕ) (e : Env) (front tail rest : List ℕ) (we : WordEnv) (spare : ℕ) where
-  pub framed-refl : (level : ℕ) (p marks : List ℕ) (b : Beside) (st : State) → Framed s t e front tail rest we spare level p marks b st p marks b st
-  framed-refl level p marks b st = record {
-    slots = λ i h. refl;
+  pub framed-refl : (ls marks : List ℕ) (b : Beside) (st : State) → Framed s t e front tail rest we spare ls marks b st ls marks b st
+  framed-refl ls marks b st = record {
     labels = omega arith;
     oldLabels = λ j h. refl;
     otherLabels = λ j h k. refl;
@@ -27,10 +26,9 @@ module _ (s t : List ℕ) (e : Env) (front tail rest : List ℕ) (we : WordEnv) 
     locals = λ name scope a h k. refl;
   }
 
-  pub framed-trans : {level : ℕ} {p marks q more r last : List ℕ} {b c d : Beside} {from mid u : State}
-      → Framed s t e front tail rest we spare level p marks b from q more c mid → Framed s t e front tail rest we spare level q more c mid r last d u → Framed s t e front tail rest we spare level p marks b from r last d u
-  framed-trans {level} {p} {marks} {q} {more} {r} {last} {b} {c} {d} {from} {mid} {u} f g = record {
-    slots = λ i h. g .slots i h ∙ f .slots i h;
+  pub framed-trans : {ls marks q more r last : List ℕ} {b c d : Beside} {from mid u : State}
+      → Framed s t e front tail rest we spare ls marks b from q more c mid → Framed s t e front tail rest we spare q more c mid r last d u → Framed s t e front tail rest we spare ls marks b from r last d u
+  framed-trans {ls} {marks} {q} {more} {r} {last} {b} {c} {d} {from} {mid} {u} f g = record {
     labels = omega (arith, f .labels, g .labels);
     oldLabels = λ j h. g .oldLabels j (omega (arith, f .labels)) ∙ f .oldLabels j h;
     otherLabels = λ j h k. g .otherLabels j (omega (arith, f .labels)) (λ z. k (sym (f .oldLabels j h) ∙ z)) ∙ f .otherLabels j h k;
@@ -49,11 +47,10 @@ module _ (s t : List ℕ) (e : Env) (front tail rest : List ℕ) (we : WordEnv) 
       label j h k false y = later (labelScope r j) (g .newLabels j (ltb-false j (c .labels) y) k)
 
   -- a statement that begins changes nothing of this
-  pub framed-begun : {level : ℕ} {p marks q more : List ℕ} {b c : Beside} {st u : State} (ordinal : ℕ) → Framed s t e front tail rest we spare level p marks (oneMore b) (started ordinal st) q more c u
-      → Framed s t e front tail rest we spare level p marks b st q more c u
+  pub framed-begun : {ls marks q more : List ℕ} {b c : Beside} {st u : State} (ordinal : ℕ) → Framed s t e front tail rest we spare ls marks (oneMore b) (started ordinal st) q more c u
+      → Framed s t e front tail rest we spare ls marks b st q more c u
   unfolding d.counted d.begun
   framed-begun ordinal f = record {
-    slots = f .slots;
     labels = f .labels;
     oldLabels = f .oldLabels;
     otherLabels = f .otherLabels;
@@ -63,10 +60,10 @@ module _ (s t : List ℕ) (e : Env) (front tail rest : List ℕ) (we : WordEnv) 
     locals = f .locals;
   }
 
-  pub standing-begun : {p marks : List ℕ} {b : Beside} {st : State} (ordinal : ℕ) → Standing s t e front tail rest we spare p marks b st → st .statements < 4096
-      → Standing s t e front tail rest we spare p marks (oneMore b) (started ordinal st)
+  pub standing-begun : {p ls marks : List ℕ} {b : Beside} {st : State} (ordinal : ℕ) → Standing s t e front tail rest we spare p ls marks b st → st .statements < 4096
+      → Standing s t e front tail rest we spare p ls marks (oneMore b) (started ordinal st)
   unfolding d.counted d.begun
-  standing-begun {p} {marks} {b} {st} ordinal h few = record {
+  standing-begun {p} {ls} {marks} {b} {st} ordinal h few = record {
     stood = record {
       actions = h .stood .actions;
       temporaries = h .stood .temporaries;

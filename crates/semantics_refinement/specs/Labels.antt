@@ -1,5 +1,4 @@
--- Labels: the words of the scopes, from 1,088 on, give for each name the label that the scope has under it; and they still
--- do after a label is added.
+-- Labels: their words give for each name the label that the scope has under it; and they still do after a label is added.
 use Prim.Native.Nat.{ℕ, zero, suc, _+_, _*_, _%_, _≤_, _<_}
 use mathlib.Core.Path.{_≡_, refl, sym, _∙_, ap, subst}
 use mathlib.Core.Bool.{Bool, true, false}
@@ -24,37 +23,37 @@ idOr n none = n
 idOr n (some l) = l .id
 
 -- with n labels given in all, those of this scope
-pub record LabelsIn (p : List ℕ) (scope n : ℕ) (labels : List (ℕ × Label)) : Type 0 where
-  pub found : (name : ℕ) → name < 1024 → findLabel n 0 p (labelKey name scope) ≡ idOr n (find name labels)
+pub record LabelsIn (ls : List ℕ) (scope n : ℕ) (labels : List (ℕ × Label)) : Type 0 where
+  pub found : (name : ℕ) → name < 1024 → findLabel n 0 ls (labelKey name scope) ≡ idOr n (find name labels)
   pub below : (name : ℕ) (l : Label) → find name labels ≡ some l → l .id < n
-  pub placed : (name : ℕ) (l : Label) → name < 1024 → find name labels ≡ some l → leb 4294967296 (getD p (1088 + l .id) 0) ≡ l .defined
+  pub placed : (name : ℕ) (l : Label) → name < 1024 → find name labels ≡ some l → leb 4294967296 (getD ls (l .id) 0) ≡ l .defined
 
-module _ (p : List ℕ) (scope n : ℕ) (labels : List (ℕ × Label)) (labelled : LabelsIn p scope n labels) (name : ℕ) (known : name < 1024) where
-  pub label-found : (l : Label) → find name labels ≡ some l → getOrInsertLabel p name scope n ≡ listed (WordLabel.Is (l .id)) p
+module _ (ls : List ℕ) (scope n : ℕ) (labels : List (ℕ × Label)) (labelled : LabelsIn ls scope n labels) (name : ℕ) (known : name < 1024) where
+  pub label-found : (l : Label) → find name labels ≡ some l → getOrInsertLabel ls name scope n ≡ listed (WordLabel.Is (l .id)) ls
   unfolding getOrInsertLabel labelOr if_then_else_ idOr
   label-found l q = rw (labelled .found name known, q, lt-ltb (l .id) n (labelled .below name l q))
 
-  pub labels-full : find name labels ≡ none → 256 ≤ n → getOrInsertLabel p name scope n ≡ listed (WordLabel.No 14) p
+  pub labels-full : find name labels ≡ none → 256 ≤ n → getOrInsertLabel ls name scope n ≡ listed (WordLabel.No 14) ls
   unfolding getOrInsertLabel labelOr if_then_else_ idOr
   labels-full q h = rw (labelled .found name known, q, le-ltb n n (omega arith), le-leb 256 n h)
 
-  pub label-new : find name labels ≡ none → n < 256 → getOrInsertLabel p name scope n ≡ listed (WordLabel.Is n) (set p (1088 + n) (labelKey name scope))
+  pub label-new : find name labels ≡ none → n < 256 → getOrInsertLabel ls name scope n ≡ listed (WordLabel.Is n) (set ls n (labelKey name scope))
   unfolding getOrInsertLabel labelOr if_then_else_ idOr
   label-new q h = rw (labelled .found name known, q, le-ltb n n (omega arith), lt-leb 256 n (omega arith))
 
-same-label : (p q : List ℕ) (key k i : ℕ) → ((j : ℕ) → j < i + k → getD p (1088 + j) 0 ≡ getD q (1088 + j) 0) → findLabel k i p key ≡ findLabel k i q key
+same-label : (ls q : List ℕ) (key k i : ℕ) → ((j : ℕ) → j < i + k → getD ls j 0 ≡ getD q j 0) → findLabel k i ls key ≡ findLabel k i q key
 unfolding findLabel
-same-label p q key zero i h = refl
-same-label p q key (suc k) i h = rw (h i (omega arith), same-label p q key k (suc i) (λ j l. h j (omega arith)))
+same-label ls q key zero i h = refl
+same-label ls q key (suc k) i h = rw (h i (omega arith), same-label ls q key k (suc i) (λ j l. h j (omega arith)))
 
 -- one label more
-more-label : (p : List ℕ) (key k i : ℕ) → findLabel (suc k) i p key ≡ (if ltb (findLabel k i p key) (i + k) then findLabel k i p key else if eqb (getD p (1088 + (i + k)) 0 % 4294967296) key then i + k else suc (i + k))
+more-label : (ls : List ℕ) (key k i : ℕ) → findLabel (suc k) i ls key ≡ (if ltb (findLabel k i ls key) (i + k) then findLabel k i ls key else if eqb (getD ls (i + k) 0 % 4294967296) key then i + k else suc (i + k))
 unfolding findLabel if_then_else_
-more-label p key zero i = let z : i + 0 ≡ i = omega arith in rw (z, le-ltb i i (omega arith))
-more-label p key (suc k) i = go (eqb (getD p (1088 + i) 0 % 4294967296) key) (let z : suc i + k ≡ i + suc k = omega arith in rw z at (more-label p key k (suc i)))
+more-label ls key zero i = let z : i + 0 ≡ i = omega arith in rw (z, le-ltb i i (omega arith))
+more-label ls key (suc k) i = go (eqb (getD ls i 0 % 4294967296) key) (let z : suc i + k ≡ i + suc k = omega arith in rw z at (more-label ls key k (suc i)))
   where
-    go : (b : Bool) → findLabel (suc k) (suc i) p key ≡ (if ltb (findLabel k (suc i) p key) (i + suc k) then findLabel k (suc i) p key else if eqb (getD p (1088 + (i + suc k)) 0 % 4294967296) key then i + suc k else suc (i + suc k))
-        → (if b then i else findLabel (suc k) (suc i) p key) ≡ (if ltb (if b then i else findLabel k (suc i) p key) (i + suc k) then (if b then i else findLabel k (suc i) p key) else if eqb (getD p (1088 + (i + suc k)) 0 % 4294967296) key then i + suc k else suc (i + suc k))
+    go : (b : Bool) → findLabel (suc k) (suc i) ls key ≡ (if ltb (findLabel k (suc i) ls key) (i + suc k) then findLabel k (suc i) ls key else if eqb (getD ls (i + suc k) 0 % 4294967296) key then i + suc k else suc (i + suc k))
+        → (if b then i else findLabel (suc k) (suc i) ls key) ≡ (if ltb (if b then i else findLabel k (suc i) ls key) (i + suc k) then (if b then i else findLabel k (suc i) ls key) else if eqb (getD ls (i + suc k) 0 % 4294967296) key then i + suc k else suc (i + suc k))
     go true h = rw (lt-ltb i (i + suc k) (omega arith))
     go false h = h
 
@@ -70,18 +69,18 @@ key-same name other scope h k = go (eqb name other) refl
     go true q = let r = eqb-true name other q in eq-eqb (name % 65536 + scope % 65536 * 65536) (other % 65536 + scope % 65536 * 65536) (omega arith)
     go false q = ne-eqb (name % 65536 + scope % 65536 * 65536) (other % 65536 + scope % 65536 * 65536) (λ z. eqb-false name other q (omega arith))
 
-module _ (p : List ℕ) (scope n : ℕ) (labels : List (ℕ × Label)) (labelled : LabelsIn p scope n labels) (name : ℕ) (known : name < 1024) (few : scope < 65536) (long : 1344 ≤ length p) (room : n < 256) (new : find name labels ≡ none) where
+module _ (ls : List ℕ) (scope n : ℕ) (labels : List (ℕ × Label)) (labelled : LabelsIn ls scope n labels) (name : ℕ) (known : name < 1024) (few : scope < 65536) (long : 256 ≤ length ls) (room : n < 256) (new : find name labels ≡ none) where
   abbrev added : List ℕ
-  added = set p (1088 + n) (labelKey name scope)
+  added = set ls n (labelKey name scope)
 
   abbrev fresh : Label
   fresh = record { id = n; defined = false }
 
-  old : (j : ℕ) → j < n → getD added (1088 + j) 0 ≡ getD p (1088 + j) 0
-  old j h = getD-set-other p (1088 + n) (1088 + j) (labelKey name scope) 0 (λ q. omega arith)
+  old : (j : ℕ) → j < n → getD added j 0 ≡ getD ls j 0
+  old j h = getD-set-other ls n j (labelKey name scope) 0 (λ q. omega arith)
 
-  own : getD added (1088 + n) 0 ≡ labelKey name scope
-  own = getD-set-same p (1088 + n) (labelKey name scope) 0 (omega arith)
+  own : getD added n 0 ≡ labelKey name scope
+  own = getD-set-same ls n (labelKey name scope) 0 (omega arith)
 
   find-cons : (m : ℕ) → find m ((name, fresh) ∷ labels) ≡ (definition.if_then_else_ (eqb name m) (some fresh) none) or find m labels
   find-cons m = rw (eqb-swap name m) (unfold find first in refl)
@@ -97,7 +96,7 @@ module _ (p : List ℕ) (scope n : ℕ) (labels : List (ℕ × Label)) (labelled
   found-in m h =
       let z : 0 + n ≡ n = omega arith in
       more-label added (labelKey m scope) n 0
-      ∙ rw (z, own, key-small name scope known few, key-same name m scope known h, same-label added p (labelKey m scope) n 0 (λ j l. old j (omega arith)), labelled .found m h, find-cons m)
+      ∙ rw (z, own, key-small name scope known few, key-same name m scope known h, same-label added ls (labelKey m scope) n 0 (λ j l. old j (omega arith)), labelled .found m h, find-cons m)
       (finds m (find m labels) refl (labelled .below m) (eqb name m) (λ q. subst (λ (i : ℕ). find i labels ≡ none) (eqb-true name m q) new))
 
   key-below : labelKey name scope < 4294967296
@@ -116,59 +115,59 @@ module _ (p : List ℕ) (scope n : ℕ) (labels : List (ℕ × Label)) (labelled
       inside m l true q = let k : some fresh ≡ some l = unfold base-opens in q in let j : fresh ≡ l = cc in subst (λ (y : Label). y .id < suc n) j (omega arith)
       inside m l false q = let k : find m labels ≡ some l = unfold base-opens in q in let j = labelled .below m l k in omega arith
 
-      marked : (m : ℕ) (l : Label) → m < 1024 → (b : Bool) → (definition.if_then_else_ b (some fresh) none) or find m labels ≡ some l → leb 4294967296 (getD added (1088 + l .id) 0) ≡ l .defined
+      marked : (m : ℕ) (l : Label) → m < 1024 → (b : Bool) → (definition.if_then_else_ b (some fresh) none) or find m labels ≡ some l → leb 4294967296 (getD added (l .id) 0) ≡ l .defined
       marked m l h true q =
           let k : some fresh ≡ some l = unfold base-opens in q in
           let j : fresh ≡ l = cc in
-          subst (λ (y : Label). leb 4294967296 (getD added (1088 + y .id) 0) ≡ y .defined) j (rw own (lt-leb 4294967296 (labelKey name scope) key-below))
+          subst (λ (y : Label). leb 4294967296 (getD added (y .id) 0) ≡ y .defined) j (rw own (lt-leb 4294967296 (labelKey name scope) key-below))
       marked m l h false q = let k : find m labels ≡ some l = unfold base-opens in q in rw (old (l .id) (labelled .below m l k)) (labelled .placed m l h k)
 
 -- A label is placed once.
 
-hit : (p : List ℕ) (key k i : ℕ) → findLabel k i p key < i + k → eqb (getD p (1088 + findLabel k i p key) 0 % 4294967296) key ≡ true
+hit : (ls : List ℕ) (key k i : ℕ) → findLabel k i ls key < i + k → eqb (getD ls (findLabel k i ls key) 0 % 4294967296) key ≡ true
 unfolding findLabel if_then_else_
-hit p key zero i h = absurd (omega arith)
-hit p key (suc k) i h = go (eqb (getD p (1088 + i) 0 % 4294967296) key) refl (hit p key k (suc i)) h
+hit ls key zero i h = absurd (omega arith)
+hit ls key (suc k) i h = go (eqb (getD ls i 0 % 4294967296) key) refl (hit ls key k (suc i)) h
   where
-    go : (b : Bool) → eqb (getD p (1088 + i) 0 % 4294967296) key ≡ b → (findLabel k (suc i) p key < suc i + k → eqb (getD p (1088 + findLabel k (suc i) p key) 0 % 4294967296) key ≡ true)
-        → (if b then i else findLabel k (suc i) p key) < i + suc k → eqb (getD p (1088 + (if b then i else findLabel k (suc i) p key)) 0 % 4294967296) key ≡ true
+    go : (b : Bool) → eqb (getD ls i 0 % 4294967296) key ≡ b → (findLabel k (suc i) ls key < suc i + k → eqb (getD ls (findLabel k (suc i) ls key) 0 % 4294967296) key ≡ true)
+        → (if b then i else findLabel k (suc i) ls key) < i + suc k → eqb (getD ls (if b then i else findLabel k (suc i) ls key) 0 % 4294967296) key ≡ true
     go true q f l = q
     go false q f l = f (omega arith)
 
-same-keys : (p q : List ℕ) (key k i : ℕ) → ((j : ℕ) → j < i + k → getD p (1088 + j) 0 % 4294967296 ≡ getD q (1088 + j) 0 % 4294967296) → findLabel k i p key ≡ findLabel k i q key
+same-keys : (ls q : List ℕ) (key k i : ℕ) → ((j : ℕ) → j < i + k → getD ls j 0 % 4294967296 ≡ getD q j 0 % 4294967296) → findLabel k i ls key ≡ findLabel k i q key
 unfolding findLabel
-same-keys p q key zero i h = refl
-same-keys p q key (suc k) i h = rw (h i (omega arith), same-keys p q key k (suc i) (λ j l. h j (omega arith)))
+same-keys ls q key zero i h = refl
+same-keys ls q key (suc k) i h = rw (h i (omega arith), same-keys ls q key k (suc i) (λ j l. h j (omega arith)))
 
-module _ (p : List ℕ) (scope n : ℕ) (labels : List (ℕ × Label)) (labelled : LabelsIn p scope n labels) (name : ℕ) (known : name < 1024) (few : scope < 65536) (long : 1344 ≤ length p) (room : n ≤ 256) (l : Label) (is : find name labels ≡ some l) where
+module _ (ls : List ℕ) (scope n : ℕ) (labels : List (ℕ × Label)) (labelled : LabelsIn ls scope n labels) (name : ℕ) (known : name < 1024) (few : scope < 65536) (long : 256 ≤ length ls) (room : n ≤ 256) (l : Label) (is : find name labels ≡ some l) where
   abbrev placing : List ℕ
-  placing = set p (1088 + l .id) (4294967296 + labelKey name scope)
+  placing = set ls (l .id) (4294967296 + labelKey name scope)
 
   abbrev there : Label
   there = record { id = l .id; defined = true }
 
-  pub key-at : (m : ℕ) (y : Label) → m < 1024 → find m labels ≡ some y → getD p (1088 + y .id) 0 % 4294967296 ≡ labelKey m scope
+  pub key-at : (m : ℕ) (y : Label) → m < 1024 → find m labels ≡ some y → getD ls (y .id) 0 % 4294967296 ≡ labelKey m scope
   key-at m y h q =
-      let k : findLabel n 0 p (labelKey m scope) ≡ y .id = labelled .found m h ∙ (unfold idOr in rw q) in
+      let k : findLabel n 0 ls (labelKey m scope) ≡ y .id = labelled .found m h ∙ (unfold idOr in rw q) in
       let b = labelled .below m y q in
-      eqb-true (getD p (1088 + y .id) 0 % 4294967296) (labelKey m scope) (subst (λ (i : ℕ). eqb (getD p (1088 + i) 0 % 4294967296) (labelKey m scope) ≡ true) k (hit p (labelKey m scope) n 0 (omega arith)))
+      eqb-true (getD ls (y .id) 0 % 4294967296) (labelKey m scope) (subst (λ (i : ℕ). eqb (getD ls i 0 % 4294967296) (labelKey m scope) ≡ true) k (hit ls (labelKey m scope) n 0 (omega arith)))
 
   label-below : l .id < n
   label-below = labelled .below name l is
 
-  now : getD placing (1088 + l .id) 0 ≡ 4294967296 + labelKey name scope
-  now = let b = label-below in getD-set-same p (1088 + l .id) (4294967296 + labelKey name scope) 0 (omega arith)
+  now : getD placing (l .id) 0 ≡ 4294967296 + labelKey name scope
+  now = let b = label-below in getD-set-same ls (l .id) (4294967296 + labelKey name scope) 0 (omega arith)
 
   key-within : (4294967296 + labelKey name scope) % 4294967296 ≡ labelKey name scope
   unfolding labelKey
   key-within = omega arith
 
-  pub keys : (j : ℕ) → j < n → getD placing (1088 + j) 0 % 4294967296 ≡ getD p (1088 + j) 0 % 4294967296
+  pub keys : (j : ℕ) → j < n → getD placing j 0 % 4294967296 ≡ getD ls j 0 % 4294967296
   keys j h = go (eqb j (l .id)) refl
     where
-      go : (b : Bool) → eqb j (l .id) ≡ b → getD placing (1088 + j) 0 % 4294967296 ≡ getD p (1088 + j) 0 % 4294967296
-      go true q = subst (λ (i : ℕ). getD placing (1088 + i) 0 % 4294967296 ≡ getD p (1088 + i) 0 % 4294967296) (sym (eqb-true j (l .id) q)) (rw now (key-within ∙ sym (key-at name l known is)))
-      go false q = rw (getD-set-other p (1088 + l .id) (1088 + j) (4294967296 + labelKey name scope) 0 (λ z. eqb-false j (l .id) q (omega arith)))
+      go : (b : Bool) → eqb j (l .id) ≡ b → getD placing j 0 % 4294967296 ≡ getD ls j 0 % 4294967296
+      go true q = subst (λ (i : ℕ). getD placing i 0 % 4294967296 ≡ getD ls i 0 % 4294967296) (sym (eqb-true j (l .id) q)) (rw now (key-within ∙ sym (key-at name l known is)))
+      go false q = rw (getD-set-other ls (l .id) j (4294967296 + labelKey name scope) 0 (λ z. eqb-false j (l .id) q (omega arith)))
 
   find-there : (m : ℕ) → find m ((name, there) ∷ labels) ≡ (definition.if_then_else_ (eqb name m) (some there) none) or find m labels
   find-there m = rw (eqb-swap name m) (unfold find first in refl)
@@ -176,7 +175,7 @@ module _ (p : List ℕ) (scope n : ℕ) (labels : List (ℕ × Label)) (labelled
   -- the labels with this one placed
   pub label-placed : LabelsIn placing scope n ((name, there) ∷ labels)
   label-placed = record {
-    found = λ m h. same-keys placing p (labelKey m scope) n 0 (λ j k. keys j (omega arith)) ∙ labelled .found m h ∙ sym (ap (idOr n) (find-there m) ∙ ids m (eqb name m) refl);
+    found = λ m h. same-keys placing ls (labelKey m scope) n 0 (λ j k. keys j (omega arith)) ∙ labelled .found m h ∙ sym (ap (idOr n) (find-there m) ∙ ids m (eqb name m) refl);
     below = λ m y q. inside m y (eqb name m) (sym (find-there m) ∙ q);
     placed = λ m y h q. marked m y h (eqb name m) refl (sym (find-there m) ∙ q);
   }
@@ -189,25 +188,25 @@ module _ (p : List ℕ) (scope n : ℕ) (labels : List (ℕ × Label)) (labelled
       inside m y true q = let k : some there ≡ some y = unfold base-opens in q in let j : there ≡ y = cc in subst (λ (z : Label). z .id < n) j label-below
       inside m y false q = let k : find m labels ≡ some y = unfold base-opens in q in labelled .below m y k
 
-      marked : (m : ℕ) (y : Label) → m < 1024 → (b : Bool) → eqb name m ≡ b → (definition.if_then_else_ b (some there) none) or find m labels ≡ some y → leb 4294967296 (getD placing (1088 + y .id) 0) ≡ y .defined
+      marked : (m : ℕ) (y : Label) → m < 1024 → (b : Bool) → eqb name m ≡ b → (definition.if_then_else_ b (some there) none) or find m labels ≡ some y → leb 4294967296 (getD placing (y .id) 0) ≡ y .defined
       marked m y h true r q =
           let k : some there ≡ some y = unfold base-opens in q in
           let j : there ≡ y = cc in
-          subst (λ (z : Label). leb 4294967296 (getD placing (1088 + z .id) 0) ≡ z .defined) j (rw now (le-leb 4294967296 (4294967296 + labelKey name scope) (omega arith)))
+          subst (λ (z : Label). leb 4294967296 (getD placing (z .id) 0) ≡ z .defined) j (rw now (le-leb 4294967296 (4294967296 + labelKey name scope) (omega arith)))
       marked m y h false r q =
           let k : find m labels ≡ some y = unfold base-opens in q in
-          rw (getD-set-other p (1088 + l .id) (1088 + y .id) (4294967296 + labelKey name scope) 0 (λ z. apart m y h r k (omega arith))) (labelled .placed m y h k)
+          rw (getD-set-other ls (l .id) (y .id) (4294967296 + labelKey name scope) 0 (λ z. apart m y h r k (omega arith))) (labelled .placed m y h k)
         where
           apart : (m : ℕ) (y : Label) → m < 1024 → eqb name m ≡ false → find m labels ≡ some y → l .id ≡ y .id → ⊥
           apart m y h r k z =
-              let c : labelKey name scope ≡ labelKey m scope = sym (key-at name l known is) ∙ ap (λ (i : ℕ). getD p (1088 + i) 0 % 4294967296) z ∙ key-at m y h k in
+              let c : labelKey name scope ≡ labelKey m scope = sym (key-at name l known is) ∙ ap (λ (i : ℕ). getD ls i 0 % 4294967296) z ∙ key-at m y h k in
               let a : eqb name m ≡ true = sym (key-same name m scope known h) ∙ eq-eqb (labelKey name scope) (labelKey m scope) c in
               eqb-false name m r (eqb-true name m a)
 
-  pub label-once : l .defined ≡ false → placeLabel p (l .id) name scope ≡ listed (WordLabel.Is (l .id)) placing
+  pub label-once : l .defined ≡ false → placeLabel ls (l .id) name scope ≡ listed (WordLabel.Is (l .id)) placing
   unfolding placeLabel if_then_else_
   label-once q = rw (labelled .placed name l known is, q)
 
-  pub label-twice : l .defined ≡ true → placeLabel p (l .id) name scope ≡ listed (WordLabel.No 27) p
+  pub label-twice : l .defined ≡ true → placeLabel ls (l .id) name scope ≡ listed (WordLabel.No 27) ls
   unfolding placeLabel if_then_else_
   label-twice q = rw (labelled .placed name l known is, q)

@@ -16,6 +16,7 @@ use Rattle.definition.specs.Refusals.{refusalNumber, macroArguments}
 use Rattle.definition.specs.Ast.{Args, Statement, Space as SpaceEntry, Register as RegisterEntry, BitRange as BitRangeEntry, Table as TableEntry, Macro, Section}
 use Rattle.definition.specs.SectionFile.{parsed, exprWithin, argsOf, statement}
 use Rattle.definition.specs.Walk.{ExprValue, State, Env, Outcome, done, stopped, on, require}
+use Rattle.definition.specs.Scope as scope
 use Rattle.definition.specs.Scope.{find, SymbolKind, symbolNumber, Symbol, isSymbol, symbols, globals, lookup}
 use Rattle.definition.specs.Expressions as expressions
 use Rattle.definition.specs.Statements as d
@@ -31,28 +32,30 @@ use Rattle.section_refinement.specs.Inversion.{CallStatementAt, call-statement-
 use Rattle.refinement.specs.Encoding.{Each}
 use Rattle.refinement.specs.Seen.{outcome}
 use Rattle.meaning.specs.declared.args.Args.{Args as WordArgs}
-use Rattle.expression.specs.Answers.{ArgsOut, passed, onArgs}
+use Rattle.expression.specs.Answers.{ArgsOut, passed, onArgs, after}
 use Rattle.expression.specs.Expressions.{resolveArgs, resolveExpr}
 use Rattle.walking.specs.declared.walk.Walk.{Walk}
 use Rattle.semantics.specs.declared.calls.Called.{Called}
 use Rattle.walking.specs.Walks.{Walked, walked, stop}
-use Rattle.semantics.specs.Calls.{called, symbolOf, calledOf, macroAt, counted, macroCounted, macroArgs}
+use Rattle.semantics.specs.Calls.{called, symbolOf, calledOf, macroAt, bindNames, counted, macroCounted, macroArgs}
 use Rattle.bodies.specs.Statements.{enterMacro, macroStatement, callNamed, callStatement}
 use Rattle.expression_refinement.specs.Encodings.{SoundX, count}
 use Rattle.expression_refinement.specs.Answers.{acts, temps, word, seenArgs, Reached, Refines}
 use Rattle.expression_refinement.specs.Below.{Spare}
 use Rattle.expression_refinement.specs.Positions.{drop-same}
-use Rattle.expression_refinement.specs.Scopes.{find-each, word-nonzero, word-kind, word-place, global-is}
+use Rattle.expression_refinement.specs.Scopes.{ParamsIn, find-each, word-nonzero, word-kind, word-place, global-is}
 use Rattle.expression_refinement.specs.Expressions.{after-is, filledArgs, filled-in, resolve-args, resolve-expr}
 use Rattle.semantics_refinement.specs.Views.{Beside}
 use Rattle.semantics_refinement.specs.Given.{Given, walkOf, below}
 use Rattle.semantics_refinement.specs.Standing.{Follows}
 use Rattle.semantics_refinement.specs.Stepping.{standing-later, framed-later}
 use Rattle.semantics_refinement.specs.MacroPlaces.{parts, macro-place}
-use Rattle.semantics_refinement.specs.Bodies.{levelOf, enterOf, Begun, EnterFollows, follows-after}
+use Rattle.semantics_refinement.specs.Macros.{bound-in}
+use Rattle.semantics_refinement.specs.UserOps.{filled-long}
+use Rattle.semantics_refinement.specs.Bodies.{enterOf, Begun, EnterFollows, follows-after}
 
 module _ (s t : List ℕ) (e : Env) (front tail rest : List ℕ) (spare : ℕ) (room : Spare spare tail) (limits : WithinLimits (e .section)) (deep : ℕ) (enters : EnterFollows s t e front tail rest spare deep)
-    (we : WordEnv) (p marks : List ℕ) (b : Beside) (st : State) (ordinal : ℕ) (h : Begun s t e front tail rest spare deep we p marks b st ordinal) (id : ℕ) (m : Macro) (is : getElem? (e .section .macros) id ≡ some m)
+    (we : WordEnv) (p ls marks : List ℕ) (b : Beside) (st : State) (ordinal : ℕ) (h : Begun s t e front tail rest spare we p ls marks b st ordinal) (id : ℕ) (m : Macro) (is : getElem? (e .section .macros) id ≡ some m)
     (pos : ℕ) (args : Args) (next : ℕ) (reads : argsOf (exprWithin (le16 s 2) 32) (getD s (pos + 3) 0) (drop (pos + 4) s) ≡ parsed args (drop next s)) (few : getD s (pos + 3) 0 < 9) (starts : pos + 4 ≤ length s) (inside : next ≤ length s) (within : ArgsWithin args) where
   given : Given s t e front tail rest we
   given = h .between .given
@@ -76,7 +79,7 @@ module _ (s t : List ℕ) (e : Env) (front tail rest : List ℕ) (spare : ℕ) (
   W u = word (e .section) front tail marks rest u
 
   abbrev Goes-on : State → Walked → Outcome (Unit {0}) → Type 0
-  Goes-on from x o = Follows s t e front tail rest we spare (levelOf deep) p marks b from next x o
+  Goes-on from x o = Follows s t e front tail rest we spare p ls marks b from next x o
 
   abbrev Resolved : ArgsOut → Outcome (List ExprValue) → Type 0
   Resolved x o = Refines (e .section) front tail marks rest spare st (λ (vs : List ExprValue). (filledArgs (replicate 64 0) 0 vs, next)) (λ k vs. Each (SoundX (e .section) k) vs × (length vs ≡ n)) (seenArgs x) o
@@ -95,34 +98,44 @@ module _ (s t : List ℕ) (e : Env) (front tail rest : List ℕ) (spare : ℕ) (
   count-is = rw (macro-place s t (e .section) holds id m is, add-zero (getD t (3072 + id) 0)) (sym (parts s t (e .section) holds id m is .params .count))
 
   abbrev enter : ℕ → WordState → List ℕ → List ℕ → List ℕ → Walked
-  enter end st1 a1 m1 args1 = enterMacro deep s t p a1 m1 we id args1 n end st1 w
+  enter end st1 a1 m1 args1 = enterMacro deep s t ls a1 m1 we id args1 n end st1 w
 
   abbrev refuse : ℕ → List ℕ → List ℕ → Walked
-  refuse k a1 m1 = walked (stop k w) p a1 m1
+  refuse k a1 m1 = walked (stop k w) ls a1 m1
+
+  -- the arguments with the names of the macro's parameters
+  abbrev bound : List ExprValue → List ℕ
+  bound xs = bindNames n s (after (macroAt t id) 1) (filledArgs (replicate 64 0) 0 xs)
+
+  bound-params : (xs : List ExprValue) (k : ℕ) → Each (SoundX (e .section) k) xs → length xs ≡ n → length (m .params) ≡ n → ParamsIn (bound xs) 0 (scope.bindParams (m .params) xs [])
+  bound-params xs k sound many same =
+      let macro = parts s t (e .section) holds id m is in
+      let at : after (getD t (3072 + id) 0) 1 ≡ getD t (3072 + id) 0 + 1 = after-is (getD t (3072 + id) 0) 1 (omega (arith, macro .body-inside, given .short)) (omega arith) in
+      rw (macro-place s t (e .section) holds id m is, at, ← same)
+      (bound-in s (getD t (3072 + id) 0 + 1) (m .params) xs (filledArgs (replicate 64 0) 0 xs) (omega (arith, few)) (many ∙ sym same) (let l = filled-long xs (replicate 64 0) 0 in omega (arith, length-replicate {A = ℕ} 64 0))
+      (λ j l. macro .params .element j (omega (arith, macro .params .count))) (filled-in (e .section) k xs (replicate 64 0) 0 (length-replicate {A = ℕ} 64 0) (omega (arith, few)) sound))
 
   -- the arguments are resolved
   entered : (xs : List ExprValue) (u : State) → Reached (e .section) front tail marks rest spare st u → Each (SoundX (e .section) (count u)) xs → length xs ≡ n → Kept e u → Each (ExprFits e (count u)) xs → (c : Bool) → eqb (length (m .params)) n ≡ c
-      → Goes-on u (onArgs (passed (if c then WordArgs.Done next (W u) else WordArgs.No 26) (A u) (M u) (filledArgs (replicate 64 0) 0 xs)) enter refuse) (on e (require c macroArguments e u) (λ _. enterOf deep id m xs))
+      → Goes-on u (onArgs (passed (if c then WordArgs.Done next (W u) else WordArgs.No 26) (A u) (M u) (bound xs)) enter refuse) (on e (require c macroArguments e u) (λ _. enterOf deep id m xs))
   unfolding if_then_else_ onArgs on require
   entered xs u r sound many kept fits true q =
       let same = eqb-true (length (m .params)) n q in
       let l = r .later in
-      enters .follows we p marks b u ordinal
+      enters .follows we p ls marks b u ordinal
       (record {
         between = record {
           given = given;
-          params = h .between .params;
-          standing = standing-later s t e front tail rest we spare p marks b st u (h .between .standing) r;
+          standing = standing-later s t e front tail rest we spare p ls marks b st u (h .between .standing) r;
           kept = kept;
           placed = h .between .placed ∙ sym (l .placed);
         };
         opens = h .opens;
         begun = l .begun ∙ h .begun;
       })
-      (W st) begun-word id m (filledArgs (replicate 64 0) 0 xs) xs n next is (sym same) (many ∙ sym same)
-      (filled-in (e .section) (count u) xs (replicate 64 0) 0 (length-replicate {A = ℕ} 64 0) (omega (arith, few)) sound) sound fits
+      (W st) begun-word id m (bound xs) xs n next is (sym same) (many ∙ sym same) (bound-params xs (count u) sound many same) sound fits
   entered xs u r sound many kept fits false q =
-      Follows.stops macroArguments ordinal p (A u) (M u) (rw (r .later .begun, h .begun)) (rw begun-word (unfold refusalNumber in refl))
+      Follows.stops macroArguments ordinal ls (A u) (M u) (rw (r .later .begun, h .begun)) (rw begun-word (unfold refusalNumber in refl))
 
   count-test : (xs : List ExprValue) → length xs ≡ n → eqb (length (m .params)) (length xs) ≡ eqb (length (m .params)) n
   count-test xs q = rw q
@@ -147,7 +160,7 @@ module _ (s t : List ℕ) (e : Env) (front tail rest : List ℕ) (spare : ℕ) (
       let l : m1 ≡ M u = cc in
       let g = r .goes xs u refl in
       rw (i0, i1, c, f, l, counted-is u, count-test xs (g .1 .1))
-      (follows-after s t e front tail rest spare we (framed-later s t e front tail rest we spare (levelOf deep) p marks b st u (h .between .standing) (g .0))
+      (follows-after s t e front tail rest spare we (framed-later s t e front tail rest we spare p ls marks b st u (h .between .standing) (g .0))
       (entered xs u (g .0) (g .1 .0) (g .1 .1) (k .1) (k .2 .0) (eqb (length (m .params)) n) refl))
   resolved-args (passed (WordArgs.Done end st1) a1 m1 args1) (stopped q i j) r k = let z = r .same in let y : _≡_ {A = ℕ} 0 1 = cc in absurd (omega arith)
   resolved-args (passed (WordArgs.No l) a1 m1 args1) (done xs u) r k = let z = r .same in let y : _≡_ {A = ℕ} 0 1 = cc in absurd (omega arith)
@@ -155,9 +168,9 @@ module _ (s t : List ℕ) (e : Env) (front tail rest : List ℕ) (spare : ℕ) (
       let z = r .same in
       let y : l ≡ refusalNumber q = cc in
       let g = r .stops q i j refl in
-      Follows.stops q ordinal p a1 m1 (rw (g .0, g .1, h .begun)) (rw (begun-word, y))
+      Follows.stops q ordinal ls a1 m1 (rw (g .0, g .1, h .begun)) (rw (begun-word, y))
 
-  pub macro-statement-follows : Goes-on st (macroStatement (enterMacro deep s t) s t p (A st) (M st) we pos id n w) (d.macroStatement (enterOf deep) id (some m) args e st)
+  pub macro-statement-follows : Goes-on st (macroStatement (enterMacro deep s t) s t p ls (A st) (M st) we pos id n w) (d.macroStatement (enterOf deep) id (some m) args e st)
   unfolding macroStatement macroArgs d.macroStatement
   macro-statement-follows =
       rw (after-is pos 4 (omega (arith, given .short)) (omega arith))
@@ -216,14 +229,14 @@ not-macro k i h l q = go (eqb k 4) (rw (word-nonzero k i, word-kind k i h, l) at
     go false z = unfold if_then_else_ in (let y : _≡_ {A = ℕ} 0 1 = cc in absurd (omega arith))
 
 module _ (s t : List ℕ) (e : Env) (front tail rest : List ℕ) (spare : ℕ) (room : Spare spare tail) (limits : WithinLimits (e .section)) (deep : ℕ) (enters : EnterFollows s t e front tail rest spare deep)
-    (we : WordEnv) (p marks : List ℕ) (b : Beside) (st : State) (ordinal : ℕ) (h : Begun s t e front tail rest spare deep we p marks b st ordinal)
+    (we : WordEnv) (p ls marks : List ℕ) (b : Beside) (st : State) (ordinal : ℕ) (h : Begun s t e front tail rest spare we p ls marks b st ordinal)
     (pos : ℕ) (args : Args) (next : ℕ) (reads : argsOf (exprWithin (le16 s 2) 32) (getD s (pos + 3) 0) (drop (pos + 4) s) ≡ parsed args (drop next s)) (known : le16 s (pos + 1) < le16 s 2) (few : getD s (pos + 3) 0 < 9) (starts : pos + 4 ≤ length s) (inside : next ≤ length s) (within : ArgsWithin args) where
   abbrev name : ℕ
   name = le16 s (pos + 1)
 
   abbrev Calls : Called → Outcome (Unit {0}) → Type 0
-  Calls c o = Follows s t e front tail rest we spare (levelOf deep) p marks b st next
-      (callNamed (enterMacro deep s t) c s t p (acts (e .section) front tail marks rest st) (temps (e .section) front tail marks rest st) we pos (getD s (pos + 3) 0) (walkOf b (word (e .section) front tail marks rest st))) o
+  Calls c o = Follows s t e front tail rest we spare p ls marks b st next
+      (callNamed (enterMacro deep s t) c s t p ls (acts (e .section) front tail marks rest st) (temps (e .section) front tail marks rest st) we pos (getD s (pos + 3) 0) (walkOf b (word (e .section) front tail marks rest st))) o
 
   by-kind : (k : SymbolKind) (i : ℕ) → find name (globals (e .section)) ≡ some (record { kind = k; id = i }) → eqb (symbolOf (1 + symbolNumber k + 8 * i) .kind) 2 ≡ true
       → Calls (symbolOf (1 + symbolNumber k + 8 * i)) (d.symbolStatement (enterOf deep) args (some (record { kind = k; id = i })) e st)
@@ -236,7 +249,7 @@ module _ (s t : List ℕ) (e : Env) (front tail rest : List ℕ) (spare : ℕ) (
       let m = macro-is (e .section) name i q in
       unfold symbolOf symbolNumber isSymbol if_then_else_ callNamed d.symbolStatement on base-opens in
       rw (word-nonzero 5 i, word-kind 5 i (omega arith), word-place 5 i (omega arith), m .1)
-      (macro-statement-follows s t e front tail rest spare room limits deep enters we p marks b st ordinal h i (m .0) (m .1) pos args next reads few starts inside within)
+      (macro-statement-follows s t e front tail rest spare room limits deep enters we p ls marks b st ordinal h i (m .0) (m .1) pos args next reads few starts inside within)
   by-kind SymbolKind.Other i q c = absurd (not-macro 6 i (omega arith) refl (unfold symbolNumber in c))
 
   by-symbol : (o : Option Symbol) → find name (globals (e .section)) ≡ o → eqb (symbolOf (symbolWord o) .kind) 2 ≡ true → Calls (symbolOf (symbolWord o)) (d.symbolStatement (enterOf deep) args o e st)
@@ -250,8 +263,8 @@ module _ (s t : List ℕ) (e : Env) (front tail rest : List ℕ) (spare : ℕ) (
   by-name true c = let y : _≡_ {A = ℕ} 0 1 = cc in absurd (omega arith)
   by-name false c = by-symbol (find name (globals (e .section))) refl c
 
-  pub macro-call-follows : eqb (calledOf s t name .kind) 2 ≡ true → Follows s t e front tail rest we spare (levelOf deep) p marks b st next
-      (callStatement (enterMacro deep s t) s t p (acts (e .section) front tail marks rest st) (temps (e .section) front tail marks rest st) we pos (walkOf b (word (e .section) front tail marks rest st))) (d.callStatement (enterOf deep) name args e st)
+  pub macro-call-follows : eqb (calledOf s t name .kind) 2 ≡ true → Follows s t e front tail rest we spare p ls marks b st next
+      (callStatement (enterMacro deep s t) s t p ls (acts (e .section) front tail marks rest st) (temps (e .section) front tail marks rest st) we pos (walkOf b (word (e .section) front tail marks rest st))) (d.callStatement (enterOf deep) name args e st)
   unfolding callStatement calledOf d.callStatement on
   macro-call-follows c =
       let holds = h .between .given .holds in
@@ -260,14 +273,14 @@ module _ (s t : List ℕ) (e : Env) (front tail rest : List ℕ) (spare : ℕ) (
 
 -- The statement at its position.
 module _ (s t : List ℕ) (e : Env) (front tail rest : List ℕ) (spare : ℕ) (room : Spare spare tail) (limits : WithinLimits (e .section)) (deep : ℕ) (enters : EnterFollows s t e front tail rest spare deep)
-    (we : WordEnv) (p marks : List ℕ) (b : Beside) (st : State) (ordinal : ℕ) (h : Begun s t e front tail rest spare deep we p marks b st ordinal) where
+    (we : WordEnv) (p ls marks : List ℕ) (b : Beside) (st : State) (ordinal : ℕ) (h : Begun s t e front tail rest spare we p ls marks b st ordinal) where
   args-within : (x : Statement) (name : ℕ) (xs : Args) → x ≡ Statement.Call name xs → StatementWithin x → ArgsWithin xs
   unfolding StatementWithin
   args-within x name xs q k = let l : StatementWithin (Statement.Call name xs) = subst (λ (y : Statement). StatementWithin y) q k in l .1
 
   abbrev Calling : ℕ → Statement → ℕ → Type 0
-  Calling pos x next = Follows s t e front tail rest we spare (levelOf deep) p marks b st next
-      (callStatement (enterMacro deep s t) s t p (acts (e .section) front tail marks rest st) (temps (e .section) front tail marks rest st) we pos (walkOf b (word (e .section) front tail marks rest st))) (d.resolveStatement (enterOf deep) x e st)
+  Calling pos x next = Follows s t e front tail rest we spare p ls marks b st next
+      (callStatement (enterMacro deep s t) s t p ls (acts (e .section) front tail marks rest st) (temps (e .section) front tail marks rest st) we pos (walkOf b (word (e .section) front tail marks rest st))) (d.resolveStatement (enterOf deep) x e st)
 
   call-read : (pos : ℕ) (x : Statement) (next : ℕ) → CallStatementAt s (le16 s 2) pos x (drop next s) → pos + 4 ≤ length s → next ≤ length s → StatementWithin x → eqb (calledOf s t (le16 s (pos + 1)) .kind) 2 ≡ true → Calling pos x next
   call-read pos x next i starts inside within c =
@@ -275,9 +288,9 @@ module _ (s t : List ℕ) (e : Env) (front tail rest : List ℕ) (spare : ℕ) (
       subst (λ (n : ℕ). Calling pos x n) (sym k) (subst (λ (y : Statement). Calling pos y (i .args-end)) (sym (i .is)) calls)
     where
       calls : Calling pos (Statement.Call (le16 s (pos + 1)) (i .args)) (i .args-end)
-      calls = unfold d.resolveStatement in macro-call-follows s t e front tail rest spare room limits deep enters we p marks b st ordinal h pos (i .args) (i .args-end) (i .args-reads) (i .name-below) (i .count-below) starts (i .args-inside) (args-within x (le16 s (pos + 1)) (i .args) (i .is) within) c
+      calls = unfold d.resolveStatement in macro-call-follows s t e front tail rest spare room limits deep enters we p ls marks b st ordinal h pos (i .args) (i .args-end) (i .args-reads) (i .name-below) (i .count-below) starts (i .args-inside) (args-within x (le16 s (pos + 1)) (i .args) (i .is) within) c
 
   pub macro-statement : (pos : ℕ) (x : Statement) (next : ℕ) → statement (le16 s 2) (drop pos s) ≡ parsed x (drop next s) → pos + 4 ≤ length s → next ≤ length s → StatementWithin x → getD s pos 0 ≡ 7 → eqb (calledOf s t (le16 s (pos + 1)) .kind) 2 ≡ true
-      → Follows s t e front tail rest we spare (levelOf deep) p marks b st next
-      (callStatement (enterMacro deep s t) s t p (acts (e .section) front tail marks rest st) (temps (e .section) front tail marks rest st) we pos (walkOf b (word (e .section) front tail marks rest st))) (d.resolveStatement (enterOf deep) x e st)
+      → Follows s t e front tail rest we spare p ls marks b st next
+      (callStatement (enterMacro deep s t) s t p ls (acts (e .section) front tail marks rest st) (temps (e .section) front tail marks rest st) we pos (walkOf b (word (e .section) front tail marks rest st))) (d.resolveStatement (enterOf deep) x e st)
   macro-statement pos x next reads starts inside within code c = call-read pos x next (call-statement-at s (le16 s 2) pos x (drop next s) code reads) starts inside within c

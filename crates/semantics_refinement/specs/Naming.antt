@@ -20,7 +20,7 @@ use Rattle.refinement.specs.Encoding.{encV, actionsIn, Sound}
 use Rattle.refinement.specs.Seen.{seenTmp, outcome}
 use Rattle.meaning.specs.Scopes.{namedTmp}
 use Rattle.walking.specs.declared.walk.Step.{Step}
-use Rattle.walking.specs.Walks.{stepped, Walked, walked, besideP, readThen}
+use Rattle.walking.specs.Walks.{stepped, Walked, walked, besideL, readThen}
 use Rattle.expression_refinement.specs.Encodings.{Small, tmps, count}
 use Rattle.expression_refinement.specs.Answers.{acts, temps, word, Halts}
 use Rattle.semantics_refinement.specs.Views.{Beside}
@@ -29,8 +29,8 @@ use Rattle.semantics_refinement.specs.Locals.{hungMarks, declared, Decla
 use Rattle.semantics_refinement.specs.Standing.{Standing, Framed, Steps}
 use Rattle.semantics_refinement.specs.Stepping.{export-more, steps-stop, steps-then}
 
-module _ (s t : List ℕ) (e : Env) (p front tail marks rest : List ℕ) (we : WordEnv) (given : Given s t e front tail rest we) (spare : ℕ) (b : Beside)
-    (from : State) (stand : Standing s t e front tail rest we spare p marks b from) (name : ℕ) (known : name < 1024) (size : Option ℕ) (small : Small size) where
+module _ (s t : List ℕ) (e : Env) (p front tail marks rest : List ℕ) (we : WordEnv) (given : Given s t e front tail rest we) (spare : ℕ) (b : Beside) (ls : List ℕ)
+    (from : State) (stand : Standing s t e front tail rest we spare p ls marks b from) (name : ℕ) (known : name < 1024) (size : Option ℕ) (small : Small size) where
   few : we .scope < 8192
   few = omega (arith, stand .own, stand .scopes, stand .counted)
 
@@ -48,8 +48,8 @@ module _ (s t : List ℕ) (e : Env) (p front tail marks rest : List ℕ) (we : W
     pub sound : Sound (e .section) (count u) v
     pub actions : u .actions ≡ from .actions
     pub begun : u .sizing .begun ≡ from .sizing .begun
-    pub stands : Standing s t e front tail rest we spare p marks1 b u
-    pub framed : (level : ℕ) → Framed s t e front tail rest we spare level p marks b from p marks1 b u
+    pub stands : Standing s t e front tail rest we spare p ls marks1 b u
+    pub framed : Framed s t e front tail rest we spare ls marks b from ls marks1 b u
 
   names-declared : (v : Value) → Declares v after1 → Names v after1
   names-declared v g = record {
@@ -72,8 +72,7 @@ module _ (s t : List ℕ) (e : Env) (p front tail marks rest : List ℕ) (we : W
       marked = declared-below s t e p front tail marks rest we given few spare from (stand .stood) (stand .scoped) name known size small (g .undeclared) (g .limited) (g .room) (b .scopes) (stand .own) (stand .marked);
       opened = stand .opened;
     };
-    framed = λ level. record {
-      slots = λ i h. refl;
+    framed = record {
       labels = omega arith;
       oldLabels = λ j h. refl;
       otherLabels = λ j h k. refl;
@@ -109,34 +108,34 @@ module _ (s t : List ℕ) (e : Env) (p front tail marks rest : List ℕ) (we : W
   abbrev pub naming : Listed Read
   naming = namedTmp t (temps (e .section) front tail marks rest from) we name (orNone size) (word (e .section) front tail marks rest from)
 
-  module _ (placing level next begun : ℕ) (begun-is : begun ≡ orNone (from .sizing .begun)) where
+  module _ (placing next begun : ℕ) (begun-is : begun ≡ orNone (from .sizing .begun)) where
     abbrev After : State → Walked → Outcome (Unit {0}) → Type 0
-    After u x o = Steps s t e front tail rest we spare placing level p marks1 b u next x o
+    After u x o = Steps s t e front tail rest we spare placing p ls marks1 b u next x o
 
-    steps-declared : (v : Value) (u : State) (x : Walked) (o : Outcome (Unit {0})) → Names v u → (begun ≡ orNone (u .sizing .begun) → After u x o) → Steps s t e front tail rest we spare placing level p marks b from next x o
+    steps-declared : (v : Value) (u : State) (x : Walked) (o : Outcome (Unit {0})) → Names v u → (begun ≡ orNone (u .sizing .begun) → After u x o) → Steps s t e front tail rest we spare placing p ls marks b from next x o
     steps-declared v u x o g f =
-        steps-then s t e front tail rest we spare 0 placing placing level p marks b from p marks1 b u next x o (g .framed level) (g .begun) (omega arith) (ap labelsPlaced (g .actions) ∙ omega arith) (omega arith) (f (begun-is ∙ ap orNone (sym (g .begun))))
+        steps-then s t e front tail rest we spare 0 placing placing p ls marks b from ls marks1 b u next x o (g .framed) (g .begun) (omega arith) (ap labelsPlaced (g .actions) ∙ omega arith) (omega arith) (f (begun-is ∙ ap orNone (sym (g .begun))))
 
     -- on with what was declared
     pub steps-named : {R : Type 0} (wrap : R → Walked) (f : WordValue → WordState → List ℕ → R) (g : ℕ → List ℕ → R) (k : Value → walks.Walk (Unit {0})) → ((n : ℕ) (m : List ℕ) → (a : List ℕ) × (q : List ℕ) × (c : List ℕ) × (wrap (g n m) ≡ walked (Step.Stop n begun) q a c))
         → ((v : Value) (u : State) → Names v u → begun ≡ orNone (u .sizing .begun) → After u (wrap (f (encV v) (word (e .section) front tail marks1 rest u) (temps (e .section) front tail marks1 rest u))) (k v e u))
-        → Steps s t e front tail rest we spare placing level p marks b from next (wrap (onTmp naming f g)) (on e (scope.namedTmp name size e from) k)
+        → Steps s t e front tail rest we spare placing p ls marks b from next (wrap (onTmp naming f g)) (on e (scope.namedTmp name size e from) k)
     steps-named wrap f g k stops i = go named
       where
-        go : Named naming (scope.namedTmp name size e from) → Steps s t e front tail rest we spare placing level p marks b from next (wrap (onTmp naming f g)) (on e (scope.namedTmp name size e from) k)
+        go : Named naming (scope.namedTmp name size e from) → Steps s t e front tail rest we spare placing p ls marks b from next (wrap (onTmp naming f g)) (on e (scope.namedTmp name size e from) k)
         go (made v u q h j) = rw (q, h) (unfold on onTmp in steps-declared v u _ _ j (i v u j))
-        go (refused r ordinal errors m q h halts) = let z = stops (refusalNumber r) m in rw (q, h) (unfold on onTmp in steps-stop s t e front tail rest we spare placing level p marks b from next _ r ordinal errors (refusalNumber r) begun (z .1) (z .0) (z .2) halts refl begun-is (z .3))
+        go (refused r ordinal errors m q h halts) = let z = stops (refusalNumber r) m in rw (q, h) (unfold on onTmp in steps-stop s t e front tail rest we spare placing p ls marks b from next _ r ordinal errors (refusalNumber r) begun (z .1) (z .0) (z .2) halts refl begun-is (z .3))
 
   -- the statement that declares a local
-  pub steps-local : (level next : ℕ)
-      → Steps s t e front tail rest we spare 0 level p marks b from next
-      (besideP p (thenL (thenL naming (λ r u. listed (readThen next (walkOf b (word (e .section) front tail marks rest from)) r) u)) (λ r u. stepped r (acts (e .section) front tail marks rest from) u)))
+  pub steps-local : (next : ℕ)
+      → Steps s t e front tail rest we spare 0 p ls marks b from next
+      (besideL ls (thenL (thenL naming (λ r u. listed (readThen next (walkOf b (word (e .section) front tail marks rest from)) r) u)) (λ r u. stepped r (acts (e .section) front tail marks rest from) u)))
       (on e (scope.namedTmp name size e from) λ _. λ e1 st1. done tt st1)
-  steps-local level next = go named
+  steps-local next = go named
     where
-      go : Named naming (scope.namedTmp name size e from) → Steps s t e front tail rest we spare 0 level p marks b from next
-          (besideP p (thenL (thenL naming (λ r u. listed (readThen next (walkOf b (word (e .section) front tail marks rest from)) r) u)) (λ r u. stepped r (acts (e .section) front tail marks rest from) u)))
+      go : Named naming (scope.namedTmp name size e from) → Steps s t e front tail rest we spare 0 p ls marks b from next
+          (besideL ls (thenL (thenL naming (λ r u. listed (readThen next (walkOf b (word (e .section) front tail marks rest from)) r) u)) (λ r u. stepped r (acts (e .section) front tail marks rest from) u)))
           (on e (scope.namedTmp name size e from) λ _. λ e1 st1. done tt st1)
-      go (made v u q h j) = rw (q, h) (unfold on thenL readThen besideP in Steps.goes u p marks1 b refl
-          (ap (λ (y : List SemanticAction). walked (Step.Next next (walkOf b (word (e .section) front tail marks1 rest u))) p (actionsIn front tail y) (temps (e .section) front tail marks1 rest u)) (sym (j .actions))) (j .stands) (j .framed level) (omega arith) (ap labelsPlaced (j .actions) ∙ omega arith))
-      go (refused r ordinal errors m q h halts) = rw (q, h) (unfold on thenL readThen besideP in Steps.stops r p (acts (e .section) front tail marks rest from) m (rw (halts .0, halts .1)) refl)
+      go (made v u q h j) = rw (q, h) (unfold on thenL readThen besideL in Steps.goes u ls marks1 b refl
+          (ap (λ (y : List SemanticAction). walked (Step.Next next (walkOf b (word (e .section) front tail marks1 rest u))) ls (actionsIn front tail y) (temps (e .section) front tail marks1 rest u)) (sym (j .actions))) (j .stands) (j .framed) (omega arith) (ap labelsPlaced (j .actions) ∙ omega arith))
+      go (refused r ordinal errors m q h halts) = rw (q, h) (unfold on thenL readThen besideL in Steps.stops r ls (acts (e .section) front tail marks rest from) m (rw (halts .0, halts .1)) refl)

@@ -57,36 +57,36 @@ locals-none t m name scope n h f = rw (ne-eqb scope 0 (λ q. omega arith)) (none
 
 -- Labels.
 
-none-found : (q : List ℕ) (key k i : ℕ) → ((j : ℕ) → i ≤ j → j < i + k → eqb (getD q (1088 + j) 0 % 4294967296) key ≡ false) → findLabel k i q key ≡ i + k
+none-found : (q : List ℕ) (key k i : ℕ) → ((j : ℕ) → i ≤ j → j < i + k → eqb (getD q j 0 % 4294967296) key ≡ false) → findLabel k i q key ≡ i + k
 unfolding findLabel if_then_else_
 none-found q key zero i h = omega arith
 none-found q key (suc k) i h = rw (h i (omega arith) (omega arith)) (none-found q key k (suc i) (λ j a b. h j (omega arith) (omega arith)) ∙ omega arith)
 
-found-longer : (p q : List ℕ) (key k n i : ℕ) → ((j : ℕ) → i ≤ j → j < i + n → getD q (1088 + j) 0 ≡ getD p (1088 + j) 0) → ((j : ℕ) → i + n ≤ j → j < i + n + k → eqb (getD q (1088 + j) 0 % 4294967296) key ≡ false)
-    → findLabel (n + k) i q key ≡ (if ltb (findLabel n i p key) (i + n) then findLabel n i p key else i + n + k)
+found-longer : (ls q : List ℕ) (key k n i : ℕ) → ((j : ℕ) → i ≤ j → j < i + n → getD q j 0 ≡ getD ls j 0) → ((j : ℕ) → i + n ≤ j → j < i + n + k → eqb (getD q j 0 % 4294967296) key ≡ false)
+    → findLabel (n + k) i q key ≡ (if ltb (findLabel n i ls key) (i + n) then findLabel n i ls key else i + n + k)
 unfolding findLabel
-found-longer p q key k zero i h f = let z : i + 0 ≡ i = omega arith in let y : 0 + k ≡ k = omega arith in rw (z, y, le-ltb i i (omega arith)) (unfold if_then_else_ in none-found q key k i (λ j a b. f j (omega arith) (omega arith)))
-found-longer p q key k (suc n) i h f =
+found-longer ls q key k zero i h f = let z : i + 0 ≡ i = omega arith in let y : 0 + k ≡ k = omega arith in rw (z, y, le-ltb i i (omega arith)) (unfold if_then_else_ in none-found q key k i (λ j a b. f j (omega arith) (omega arith)))
+found-longer ls q key k (suc n) i h f =
     let z : suc n + k ≡ suc (n + k) = omega arith in
-    rw (z, h i (omega arith) (omega arith)) (go (eqb (getD p (1088 + i) 0 % 4294967296) key) (found-longer p q key k n (suc i) (λ j a b. h j (omega arith) (omega arith)) (λ j a b. f j (omega arith) (omega arith))))
+    rw (z, h i (omega arith) (omega arith)) (go (eqb (getD ls i 0 % 4294967296) key) (found-longer ls q key k n (suc i) (λ j a b. h j (omega arith) (omega arith)) (λ j a b. f j (omega arith) (omega arith))))
   where
-    go : (b : Bool) → findLabel (n + k) (suc i) q key ≡ (if ltb (findLabel n (suc i) p key) (suc i + n) then findLabel n (suc i) p key else suc i + n + k)
-        → (if b then i else findLabel (n + k) (suc i) q key) ≡ (if ltb (if b then i else findLabel n (suc i) p key) (i + suc n) then (if b then i else findLabel n (suc i) p key) else i + suc n + k)
+    go : (b : Bool) → findLabel (n + k) (suc i) q key ≡ (if ltb (findLabel n (suc i) ls key) (suc i + n) then findLabel n (suc i) ls key else suc i + n + k)
+        → (if b then i else findLabel (n + k) (suc i) q key) ≡ (if ltb (if b then i else findLabel n (suc i) ls key) (i + suc n) then (if b then i else findLabel n (suc i) ls key) else i + suc n + k)
     go true g = unfold if_then_else_ in rw (lt-ltb i (i + suc n) (omega arith))
     go false g = unfold if_then_else_ in (let z : suc i + n ≡ i + suc n = omega arith in rw z at g)
 
-key-not : (q : List ℕ) (j name scope : ℕ) → scope < 65536 → labelScope q j ≢ scope → eqb (getD q (1088 + j) 0 % 4294967296) (labelKey name scope) ≡ false
+key-not : (q : List ℕ) (j name scope : ℕ) → scope < 65536 → labelScope q j ≢ scope → eqb (getD q j 0 % 4294967296) (labelKey name scope) ≡ false
 unfolding labelScope labelKey
-key-not q j name scope h k = ne-eqb (getD q (1088 + j) 0 % 4294967296) (name % 65536 + scope % 65536 * 65536) (λ z. k (rw z (omega arith)))
+key-not q j name scope h k = ne-eqb (getD q j 0 % 4294967296) (name % 65536 + scope % 65536 * 65536) (λ z. k (rw z (omega arith)))
 
 -- more labels
-pub labels-longer : (p q : List ℕ) (scope n m : ℕ) (labels : List (ℕ × Label)) → scope < 65536 → n ≤ m → ((j : ℕ) → j < n → getD q (1088 + j) 0 ≡ getD p (1088 + j) 0) → ((j : ℕ) → n ≤ j → j < m → labelScope q j ≢ scope)
-    → LabelsIn p scope n labels → LabelsIn q scope m labels
-labels-longer p q scope n m labels small l h f g = record {
+pub labels-longer : (ls q : List ℕ) (scope n m : ℕ) (labels : List (ℕ × Label)) → scope < 65536 → n ≤ m → ((j : ℕ) → j < n → getD q j 0 ≡ getD ls j 0) → ((j : ℕ) → n ≤ j → j < m → labelScope q j ≢ scope)
+    → LabelsIn ls scope n labels → LabelsIn q scope m labels
+labels-longer ls q scope n m labels small l h f g = record {
   found = λ name k.
       let z : n + (m - n) ≡ m = omega arith in
       subst (λ (i : ℕ). findLabel i 0 q (labelKey name scope) ≡ idOr i (find name labels)) z
-      (found-longer p q (labelKey name scope) (m - n) n 0 (λ j a b. h j (omega arith)) (λ j a b. key-not q j name scope small (f j (omega arith) (omega arith))) ∙ rw (g .found name k) (as-before (find name labels) (g .below name)));
+      (found-longer ls q (labelKey name scope) (m - n) n 0 (λ j a b. h j (omega arith)) (λ j a b. key-not q j name scope small (f j (omega arith) (omega arith))) ∙ rw (g .found name k) (as-before (find name labels) (g .below name)));
   below = λ name x k. (let i = g .below name x k in omega arith);
   placed = λ name x k i. rw (h (x .id) (g .below name x i)) (g .placed name x k i);
 }

@@ -24,7 +24,7 @@ use Rattle.section_refinement.specs.Inversion.{unimplemented-at, export-at, loc
 use Rattle.refinement.specs.Seen.{outcome}
 use Rattle.expression.specs.Answers.{after}
 use Rattle.meaning.specs.Scopes.{namedTmp}
-use Rattle.walking.specs.Walks.{Stepped, stepped, besideP, readThen}
+use Rattle.walking.specs.Walks.{Stepped, stepped, besideL, readThen}
 use Rattle.semantics.specs.Simple.{unimplemented, exportStatement, localStatement, localAssignment, build}
 use Rattle.assignments.specs.Stores.{storeStatement}
 use Rattle.assignments.specs.Copies.{copyStatement}
@@ -45,8 +45,8 @@ use Rattle.semantics_refinement.specs.Naming.{steps-local}
 use Rattle.semantics_refinement.specs.Targets.{assignment-steps, copy-steps}
 use Rattle.semantics_refinement.specs.Ends.{starts, unimplemented-ends, local-ends, build-ends}
 
-module _ (s t : List ℕ) (e : Env) (p front tail marks rest : List ℕ) (we : WordEnv) (given : Given s t e front tail rest we) (spare : ℕ) (room : Spare spare tail) (b : Beside) (level : ℕ)
-    (from : State) (stand : Standing s t e front tail rest we spare p marks b from) where
+module _ (s t : List ℕ) (e : Env) (p front tail marks rest : List ℕ) (we : WordEnv) (given : Given s t e front tail rest we) (spare : ℕ) (room : Spare spare tail) (b : Beside) (ls : List ℕ)
+    (from : State) (stand : Standing s t e front tail rest we spare p ls marks b from) where
   abbrev A : List ℕ
   A = acts (e .section) front tail marks rest from
 
@@ -57,10 +57,10 @@ module _ (s t : List ℕ) (e : Env) (p front tail marks rest : List ℕ) (we : W
   W = word (e .section) front tail marks rest from
 
   abbrev Ends : ℕ → Stepped → Outcome (Unit {0}) → Type 0
-  Ends next x o = Steps s t e front tail rest we spare 0 level p marks b from next (besideP p x) o
+  Ends next x o = Steps s t e front tail rest we spare 0 p ls marks b from next (besideL ls x) o
 
   -- an export is beside the words
-  standing-export : (y : Export) (u : State) → SoundExport (e .section) (count u) y → Standing s t e front tail rest we spare p marks b u → Standing s t e front tail rest we spare p marks (withExported y b) (withExport y u)
+  standing-export : (y : Export) (u : State) → SoundExport (e .section) (count u) y → Standing s t e front tail rest we spare p ls marks b u → Standing s t e front tail rest we spare p ls marks (withExported y b) (withExport y u)
   standing-export y u g h = let f = h .stood in record {
     stood = record { actions = f .actions; temporaries = f .temporaries; marked = f .marked; sizes = f .sizes; errors = f .errors; sound = f .sound; params = f .params; mapping = f .mapping };
     scoped = record { params = h .scoped .params; counted = h .scoped .counted; locals = h .scoped .locals };
@@ -78,9 +78,8 @@ module _ (s t : List ℕ) (e : Env) (p front tail marks rest : List ℕ) (we : W
     opened = h .opened;
   }
 
-  framed-export : (y : Export) (u : State) → Framed s t e front tail rest we spare level p marks b from p marks b u → Framed s t e front tail rest we spare level p marks b from p marks (withExported y b) (withExport y u)
+  framed-export : (y : Export) (u : State) → Framed s t e front tail rest we spare ls marks b from ls marks b u → Framed s t e front tail rest we spare ls marks b from ls marks (withExported y b) (withExport y u)
   framed-export y u f = record {
-    slots = f .slots;
     labels = f .labels;
     oldLabels = f .oldLabels;
     otherLabels = f .otherLabels;
@@ -95,12 +94,12 @@ module _ (s t : List ℕ) (e : Env) (p front tail marks rest : List ℕ) (we : W
   unfolding on outcome
   exported next x (done y u) r =
       let j = r .goes y u refl in
-      Steps.goes (withExport y u) p marks (withExported y b) refl (seen-next _ x p (next, withExported y b) _ _ _ (r .same))
-      (standing-export y u (j .1) (standing-later s t e front tail rest we spare p marks b from u stand (j .0))) (framed-export y u (framed-later s t e front tail rest we spare level p marks b from u stand (j .0)))
+      Steps.goes (withExport y u) ls marks (withExported y b) refl (seen-next _ x ls (next, withExported y b) _ _ _ (r .same))
+      (standing-export y u (j .1) (standing-later s t e front tail rest we spare p ls marks b from u stand (j .0))) (framed-export y u (framed-later s t e front tail rest we spare p ls marks b from u stand (j .0)))
       (omega arith) (j .0 .later .placed ∙ omega arith)
   exported next x (stopped c ordinal errors) r =
-      let j = seen-stop (orNone (from .sizing .begun)) x p (refusalNumber c) (positive c) (r .same) in
-      steps-stop s t e front tail rest we spare 0 level p marks b from next _ c ordinal errors (refusalNumber c) (orNone (from .sizing .begun)) p (j .0) (j .1) (r .stops c ordinal errors refl) refl refl (j .2)
+      let j = seen-stop (orNone (from .sizing .begun)) x ls (refusalNumber c) (positive c) (r .same) in
+      steps-stop s t e front tail rest we spare 0 p ls marks b from next _ c ordinal errors (refusalNumber c) (orNone (from .sizing .begun)) ls (j .0) (j .1) (r .stops c ordinal errors refl) refl refl (j .2)
 
   module _ (enter : ℕ → Macro → List ExprValue → walks.Walk (Unit {0})) (pos : ℕ) (x : Statement) (next : ℕ) (reads : statement (le16 s 2) (drop pos s) ≡ parsed x (drop next s)) (inside : next ≤ length s) where
     abbrev Done : Stepped → Type 0
@@ -123,7 +122,7 @@ module _ (s t : List ℕ) (e : Env) (p front tail marks rest : List ℕ) (we : W
     unimplemented-case c =
         let i = unimplemented-at s (le16 s 2) pos x (drop next s) c reads in
         let q = behind 1 (omega arith) (unimplemented-ends s (le16 s 2) pos x next reads inside c) in
-        rw (i .is) (steps-goes s t e front tail rest we spare level p marks b from next _ _ _ stand refl (rw q at (unimplemented-is s t e front tail marks rest we given spare room b from (stand .stood) pos)))
+        rw (i .is) (steps-goes s t e front tail rest we spare p ls marks b from next _ _ _ stand refl (rw q at (unimplemented-is s t e front tail marks rest we given spare room b from (stand .stood) pos)))
 
     export-case : getD s pos 0 ≡ 1 → Done (exportStatement s t p A M we pos (walkOf b W))
     unfolding d.resolveStatement
@@ -140,7 +139,7 @@ module _ (s t : List ℕ) (e : Env) (p front tail marks rest : List ℕ) (we : W
         let q = behind 5 (omega arith) (local-ends s (le16 s 2) pos x next reads inside c) in
         rw (i .is, q)
         (subst (λ (z : ℕ). Ends next (thenL (thenL (namedTmp t M we (le16 s (pos + 1)) z W) (λ r u. listed (readThen next (walkOf b W) r) u)) (λ r u. stepped r A u)) (on e (scope.namedTmp (le16 s (pos + 1)) (absentAt s (pos + 3)) e from) λ _ e1 st1. done tt st1)) (absent-word s (pos + 3))
-        (steps-local s t e p front tail marks rest we given spare b from stand (le16 s (pos + 1)) (known (le16 s (pos + 1)) (i .name-below)) (absentAt s (pos + 3)) (small-or (absentAt s (pos + 3)) (i .size-below)) level next))
+        (steps-local s t e p front tail marks rest we given spare b ls from stand (le16 s (pos + 1)) (known (le16 s (pos + 1)) (i .name-below)) (absentAt s (pos + 3)) (small-or (absentAt s (pos + 3)) (i .size-below)) next))
 
     assignment-case : getD s pos 0 ≡ 3 → Done (localAssignment s t p A M we pos (walkOf b W))
     unfolding d.resolveStatement
@@ -148,21 +147,21 @@ module _ (s t : List ℕ) (e : Env) (p front tail marks rest : List ℕ) (we : W
         let i = local-assignment-at s (le16 s 2) pos x (drop next s) c reads in
         let q = drop-same s next (i .expr-end) inside (i .expr-inside) (i .rest) in
         let l = start in
-        rw (i .is) (moved (i .expr-end) _ _ q (assignment-steps s t e p front tail rest we given spare room b level marks from stand pos (omega arith) x (drop next s) i))
+        rw (i .is) (moved (i .expr-end) _ _ q (assignment-steps s t e p front tail rest we given spare room b ls marks from stand pos (omega arith) x (drop next s) i))
 
     build-case : getD s pos 0 ≡ 4 → Done (thenL (build s t A pos (walkOf b W)) (λ r c. stepped r c M))
     unfolding d.resolveStatement
     build-case c =
         let i = build-at s (le16 s 2) pos x (drop next s) c reads in
         let q = behind 3 (omega arith) (build-ends s (le16 s 2) pos x next reads inside c) in
-        rw (i .is) (steps-goes s t e front tail rest we spare level p marks b from next _ _ _ stand refl (rw q at (build-is s t e front tail marks rest we given spare room b from (stand .stood) pos (known (le16 s (pos + 1)) (i .name-below)))))
+        rw (i .is) (steps-goes s t e front tail rest we spare p ls marks b from next _ _ _ stand refl (rw q at (build-is s t e front tail marks rest we given spare room b from (stand .stood) pos (known (le16 s (pos + 1)) (i .name-below)))))
 
     copy-case : getD s pos 0 ≡ 5 → Done (copyStatement s t p A M we pos (walkOf b W))
     unfolding d.resolveStatement
     copy-case c =
         let i = copy-at s (le16 s 2) pos x (drop next s) c reads in
         let q = drop-same s next (i .to-end) inside (i .to-inside) (i .rest) in
-        rw (i .is) (moved (i .to-end) _ _ q (copy-steps s t e p front tail marks rest we given spare room b level from stand pos start x (drop next s) i))
+        rw (i .is) (moved (i .to-end) _ _ q (copy-steps s t e p front tail marks rest we given spare room b ls from stand pos start x (drop next s) i))
 
     store-case : getD s pos 0 ≡ 6 → Done (storeStatement s t p A M we pos (walkOf b W))
     unfolding d.resolveStatement
@@ -170,7 +169,7 @@ module _ (s t : List ℕ) (e : Env) (p front tail marks rest : List ℕ) (we : W
         let i = store-at s (le16 s 2) pos x (drop next s) c reads in
         let q = drop-same s next (i .value-end) inside (i .value-inside) (i .rest) in
         let l = start in
-        rw (i .is) (moved (i .value-end) _ _ q (steps-goes s t e front tail rest we spare level p marks b from (i .value-end) _ _ _ stand refl
+        rw (i .is) (moved (i .value-end) _ _ q (steps-goes s t e front tail rest we spare p ls marks b from (i .value-end) _ _ _ stand refl
         (store-statement-is s t e front tail marks rest we given spare room b p from pos (omega arith) x (drop next s) i (stand .stood) (stand .scoped))))
 
     -- the codes below 7

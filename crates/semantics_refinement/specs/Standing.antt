@@ -25,33 +25,32 @@ use Rattle.semantics_refinement.specs.Labels.{LabelsIn}
 
 -- the scope of the label with that number
 unfoldable pub labelScope : List ℕ → ℕ → ℕ
-labelScope p j = getD p (1088 + j) 0 % 4294967296 / 65536
+labelScope ls j = getD ls j 0 % 4294967296 / 65536
 
 module _ (s t : List ℕ) (e : Env) (front tail rest : List ℕ) (we : WordEnv) (spare : ℕ) where
-  pub record Standing (p marks : List ℕ) (b : Beside) (st : State) : Type 0 where
+  pub record Standing (p ls marks : List ℕ) (b : Beside) (st : State) : Type 0 where
     pub stood : Stood (e .section) tail marks rest spare st
     pub scoped : Scoped s t e p front tail marks rest we st
-    pub labelled : LabelsIn p (we .scope) (b .labels) (st .scope .labels)
+    pub labelled : LabelsIn ls (we .scope) (b .labels) (st .scope .labels)
     pub labels : b .labels ≡ st .nextLabel
     pub few : b .labels ≤ 256
     pub statements : b .statements ≡ st .statements
     pub export : ExportIs (st .export) (b .export)
     pub exportSound : EachOption (SoundExport (e .section) (count st)) (st .export)
-    pub long : length p ≡ 1344
+    pub long : length ls ≡ 256
     -- every macro call is a statement, and only a call opens a scope
     pub counted : b .statements ≤ 4096
     pub scopes : b .scopes ≤ b .statements
     pub own : we .scope ≤ b .scopes
     pub marked : (i : ℕ) → getD marks i 0 / 262144 ≤ b .scopes
-    pub opened : (j : ℕ) → j < b .labels → labelScope p j ≤ b .scopes
+    pub opened : (j : ℕ) → j < b .labels → labelScope ls j ≤ b .scopes
 
-  -- From p, marks, b and from to q, more, c and u: slots below a level stay, and so do labels and locals of other scopes;
-  -- what is new belongs to this scope or to one opened since.
-  pub record Framed (level : ℕ) (p marks : List ℕ) (b : Beside) (from : State) (q more : List ℕ) (c : Beside) (u : State) : Type 0 where
-    pub slots : (i : ℕ) → i < level → getD q i 0 ≡ getD p i 0
+  -- From ls, marks, b and from to q, more, c and u: labels and locals of other scopes stay; what is new belongs to this scope
+  -- or to one opened since.
+  pub record Framed (ls marks : List ℕ) (b : Beside) (from : State) (q more : List ℕ) (c : Beside) (u : State) : Type 0 where
     pub labels : b .labels ≤ c .labels
-    pub oldLabels : (j : ℕ) → j < b .labels → labelScope q j ≡ labelScope p j
-    pub otherLabels : (j : ℕ) → j < b .labels → labelScope p j ≢ we .scope → getD q (1088 + j) 0 ≡ getD p (1088 + j) 0
+    pub oldLabels : (j : ℕ) → j < b .labels → labelScope q j ≡ labelScope ls j
+    pub otherLabels : (j : ℕ) → j < b .labels → labelScope ls j ≢ we .scope → getD q j 0 ≡ getD ls j 0
     pub newLabels : (j : ℕ) → b .labels ≤ j → j < c .labels → (labelScope q j ≡ we .scope) ⊎ (b .scopes < labelScope q j)
     pub scopes : b .scopes ≤ c .scopes
     pub temporaries : count from ≤ count u
@@ -60,14 +59,14 @@ module _ (s t : List ℕ) (e : Env) (front tail rest : List ℕ) (we : WordEnv) 
 
   -- One statement that enters no macro, and that places so many labels: the words go on behind it, or they refuse at the
   -- statement that has begun, as the definition does.
-  pub data Steps (placing level : ℕ) (p marks : List ℕ) (b : Beside) (from : State) (next : ℕ) (x : Walked) (o : Outcome (Unit {0})) : Type 0 where
+  pub data Steps (placing : ℕ) (p ls marks : List ℕ) (b : Beside) (from : State) (next : ℕ) (x : Walked) (o : Outcome (Unit {0})) : Type 0 where
     goes : (u : State) (q more : List ℕ) (c : Beside) → o ≡ done tt u → x ≡ walked (Step.Next next (walkOf c (word (e .section) front tail more rest u))) q (acts (e .section) front tail more rest u) (temps (e .section) front tail more rest u)
-        → Standing q more c u → Framed level p marks b from q more c u → c .placed ≡ b .placed + placing → labelsPlaced (u .actions) ≡ labelsPlaced (from .actions) + placing → Steps placing level p marks b from next x o
+        → Standing p q more c u → Framed ls marks b from q more c u → c .placed ≡ b .placed + placing → labelsPlaced (u .actions) ≡ labelsPlaced (from .actions) + placing → Steps placing p ls marks b from next x o
     -- the definition's refusal is at that statement too: Halts of the answers below
-    stops : (r : Refusal) (q a m : List ℕ) → o ≡ stopped r (from .sizing .begun) 0 → x ≡ walked (Step.Stop (refusalNumber r) (orNone (from .sizing .begun))) q a m → Steps placing level p marks b from next x o
+    stops : (r : Refusal) (q a m : List ℕ) → o ≡ stopped r (from .sizing .begun) 0 → x ≡ walked (Step.Stop (refusalNumber r) (orNone (from .sizing .begun))) q a m → Steps placing p ls marks b from next x o
 
   -- Statements of any kind: as above, and a refusal has its ordinal and no errors.
-  pub data Follows (level : ℕ) (p marks : List ℕ) (b : Beside) (from : State) (next : ℕ) (x : Walked) (o : Outcome (Unit {0})) : Type 0 where
+  pub data Follows (p ls marks : List ℕ) (b : Beside) (from : State) (next : ℕ) (x : Walked) (o : Outcome (Unit {0})) : Type 0 where
     goes : (u : State) (q more : List ℕ) (c : Beside) → o ≡ done tt u → x ≡ walked (Step.Next next (walkOf c (word (e .section) front tail more rest u))) q (acts (e .section) front tail more rest u) (temps (e .section) front tail more rest u)
-        → Standing q more c u → Kept e u → c .placed ≡ labelsPlaced (u .actions) → Framed level p marks b from q more c u → Follows level p marks b from next x o
-    stops : (r : Refusal) (ordinal : ℕ) (q a m : List ℕ) → o ≡ stopped r (some ordinal) 0 → x ≡ walked (Step.Stop (refusalNumber r) ordinal) q a m → Follows level p marks b from next x o
+        → Standing p q more c u → Kept e u → c .placed ≡ labelsPlaced (u .actions) → Framed ls marks b from q more c u → Follows p ls marks b from next x o
+    stops : (r : Refusal) (ordinal : ℕ) (q a m : List ℕ) → o ≡ stopped r (some ordinal) 0 → x ≡ walked (Step.Stop (refusalNumber r) ordinal) q a m → Follows p ls marks b from next x o

@@ -34,7 +34,7 @@ use Rattle.expression.specs.declared.expr.Expr.{Expr}
 use Rattle.expression.specs.Answers.{resolved, onExpr}
 use Rattle.meaning.specs.Scopes.{namedTmp}
 use Rattle.expression.specs.Expressions.{resolveExpr}
-use Rattle.walking.specs.Walks.{Stepped, stepped, besideP, stop}
+use Rattle.walking.specs.Walks.{Stepped, stepped, besideL, stop}
 use Rattle.semantics.specs.Simple.{assign, localAssignment}
 use Rattle.assignments.specs.Copies.{copyInto, targetName, targetSize, afterTarget, newTarget, isWrong, isNew, resolveDst, copyTarget, copyStatement}
 use Rattle.expression_refinement.specs.Encodings.{encX, SoundX, Small, sound-more, x-more, tmps, count}
@@ -52,22 +52,22 @@ use Rattle.semantics_refinement.specs.Stepping.{steps-goes, steps-expr}
 use Rattle.semantics_refinement.specs.Locals.{hungMarks}
 use Rattle.semantics_refinement.specs.Naming.{Names, steps-named}
 
-module _ (s t : List ℕ) (e : Env) (p front tail rest : List ℕ) (we : WordEnv) (given : Given s t e front tail rest we) (spare : ℕ) (room : Spare spare tail) (b : Beside) (level : ℕ) where
+module _ (s t : List ℕ) (e : Env) (p front tail rest : List ℕ) (we : WordEnv) (given : Given s t e front tail rest we) (spare : ℕ) (room : Spare spare tail) (b : Beside) (ls : List ℕ) where
   abbrev Stands : List ℕ → State → Type 0
-  Stands marks st = Standing s t e front tail rest we spare p marks b st
+  Stands marks st = Standing s t e front tail rest we spare p ls marks b st
 
   abbrev Ends : List ℕ → State → ℕ → Stepped → Outcome (Unit {0}) → Type 0
-  Ends marks st next x o = Steps s t e front tail rest we spare 0 level p marks b st next (besideP p x) o
+  Ends marks st next x o = Steps s t e front tail rest we spare 0 p ls marks b st next (besideL ls x) o
 
   -- an expression's value, to what is given
   assign-steps : (marks : List ℕ) (st : State) → Stands marks st → (z : WordState) → z .sizing .begun ≡ orNone (st .sizing .begun) → (pos : ℕ) (x : PcodeExpr) (next : ℕ) → exprWithin (le16 s 2) 32 (drop pos s) ≡ parsed x (drop next s) → next ≤ length s → (to : Value) → Sound (e .section) (count st) to
       → Ends marks st next (assign s t p (acts (e .section) front tail marks rest st) (temps (e .section) front tail marks rest st) we pos (encV to) (word (e .section) front tail marks rest st) (walkOf b z)) (on e (expressions.resolveExpr x e st) λ y. d.readTo y to)
   unfolding assign
   assign-steps marks st stand z q pos x next reads inside to g =
-      steps-expr s t e front tail rest we spare (besideP p) 0 level p marks b st next (z .sizing .begun) stand q
+      steps-expr s t e front tail rest we spare (besideL ls) 0 p ls marks b st next (z .sizing .begun) stand q
       (resolveExpr 32 s t p we pos (acts (e .section) front tail marks rest st) (temps (e .section) front tail marks rest st) (word (e .section) front tail marks rest st)) (expressions.resolveExpr x e st) next _ _ (λ y. d.readTo y to)
-      (expression s t e front tail marks rest we given p spare room pos x next reads inside st (stand .stood) (stand .scoped)) (λ n a m. unfold besideP in refl)
-      λ y u r h stand1 q1. steps-goes s t e front tail rest we spare level p marks b u next (z .sizing .begun) _ (d.readTo y to e u) stand1 q1
+      (expression s t e front tail marks rest we given p spare room pos x next reads inside st (stand .stood) (stand .scoped)) (λ n a m. unfold besideL in refl)
+      λ y u r h stand1 q1. steps-goes s t e front tail rest we spare p ls marks b u next (z .sizing .begun) _ (d.readTo y to e u) stand1 q1
       (read-to s t e front tail marks rest we given spare room (walkOf b z) next u (r .stood) y to h (sound-more (e .section) (count st) (count u) (r .later .temporaries) to g))
 
   -- a local declared and assigned
@@ -88,8 +88,8 @@ module _ (s t : List ℕ) (e : Env) (p front tail rest : List ℕ) (we : WordEnv
         → Ends marks from next (onTmp (namedTmp t M we name (orNone size) W) (λ v st1 u. assign s t p A u we pos v st1 (walkOf b W)) (λ n u. stepped (stop n (walkOf b W)) A u))
         (on e (scope.namedTmp name size e from) λ to e1 st1. on e1 (expressions.resolveExpr x e1 st1) λ y. d.readTo y to)
     assigned-steps name known size small pos x next reads inside =
-        steps-named s t e p front tail marks rest we given spare b from stand name known size small 0 level next (W .sizing .begun) refl (besideP p)
-        (λ v st1 u. assign s t p A u we pos v st1 (walkOf b W)) (λ n u. stepped (stop n (walkOf b W)) A u) (λ to e1 st1. on e1 (expressions.resolveExpr x e1 st1) λ y. d.readTo y to) (λ n m. (A, p, m, unfold besideP in refl))
+        steps-named s t e p front tail marks rest we given spare b ls from stand name known size small 0 next (W .sizing .begun) refl (besideL ls)
+        (λ v st1 u. assign s t p A u we pos v st1 (walkOf b W)) (λ n u. stepped (stop n (walkOf b W)) A u) (λ to e1 st1. on e1 (expressions.resolveExpr x e1 st1) λ y. d.readTo y to) (λ n m. (A, ls, m, unfold besideL in refl))
         λ v u j q. subst (λ (y : List SemanticAction). Ends (marks1 name size) u next (assign s t p (actionsIn front tail y) (temps (e .section) front tail (marks1 name size) rest u) we pos (encV v) (word (e .section) front tail (marks1 name size) rest u) (walkOf b W)) (on e (expressions.resolveExpr x e u) λ y. d.readTo y v)) (j .actions)
         (assign-steps (marks1 name size) u (j .stands) W q pos x next reads inside v (j .sound))
 
@@ -162,11 +162,11 @@ module _ (s : List ℕ) (pos : ℕ) (to : PcodeExpr) (next : ℕ) (reads : exprW
   pub target-at : TargetAt s pos to next
   target-at = code-case (getD s pos 0) refl (at.expr-begun s (le16 s 2) 31 pos to (drop next s) reads .known)
 
-module _ (s t : List ℕ) (e : Env) (p front tail marks rest : List ℕ) (we : WordEnv) (given : Given s t e front tail rest we) (spare : ℕ) (room : Spare spare tail) (b : Beside) (level : ℕ) where
+module _ (s t : List ℕ) (e : Env) (p front tail marks rest : List ℕ) (we : WordEnv) (given : Given s t e front tail rest we) (spare : ℕ) (room : Spare spare tail) (b : Beside) (ls : List ℕ) where
   abbrev Copies : State → ℕ → Stepped → Outcome (Unit {0}) → Type 0
-  Copies st next x o = Ends s t e p front tail rest we given spare room b level marks st next x o
+  Copies st next x o = Ends s t e p front tail rest we given spare room b ls marks st next x o
 
-  module _ (st : State) (stand : Stands s t e p front tail rest we given spare room b level marks st) (z : WordState) (begun : z .sizing .begun ≡ orNone (st .sizing .begun)) (x : ExprValue) (sound : SoundX (e .section) (count st) x)
+  module _ (st : State) (stand : Stands s t e p front tail rest we given spare room b ls marks st) (z : WordState) (begun : z .sizing .begun ≡ orNone (st .sizing .begun)) (x : ExprValue) (sound : SoundX (e .section) (count st) x)
       (pos : ℕ) (to : PcodeExpr) (next : ℕ) (reads : exprWithin (le16 s 2) 32 (drop pos s) ≡ parsed to (drop next s)) (inside : next ≤ length s) where
     abbrev A2 : List ℕ
     A2 = acts (e .section) front tail marks rest st
@@ -187,10 +187,10 @@ module _ (s t : List ℕ) (e : Env) (p front tail marks rest : List ℕ) (we : W
     plain-target : Copies st next (onExpr (resolveExpr 32 s t p we pos A2 M2 W2) into refusing) (on e (on e (expressions.resolveExpr to e st) d.asDestination) (d.copyInto x))
     plain-target =
         rw (on-assoc e (expressions.resolveExpr to e st) d.asDestination (d.copyInto x))
-        (steps-expr s t e front tail rest we spare (besideP p) 0 level p marks b st next (z .sizing .begun) stand begun
+        (steps-expr s t e front tail rest we spare (besideL ls) 0 p ls marks b st next (z .sizing .begun) stand begun
         (resolveExpr 32 s t p we pos A2 M2 W2) (expressions.resolveExpr to e st) next into refusing (λ y e1 st1. on e1 (d.asDestination y e1 st1) (d.copyInto x))
-        (expression s t e front tail marks rest we given p spare room pos to next reads inside st (stand .stood) (stand .scoped)) (λ n a m. unfold besideP in refl)
-        λ y u r h stand1 q. steps-goes s t e front tail rest we spare level p marks b u next (z .sizing .begun) _ (on e (d.asDestination y e u) (d.copyInto x)) stand1 q
+        (expression s t e front tail marks rest we given p spare room pos to next reads inside st (stand .stood) (stand .scoped)) (λ n a m. unfold besideL in refl)
+        λ y u r h stand1 q. steps-goes s t e front tail rest we spare p ls marks b u next (z .sizing .begun) _ (on e (d.asDestination y e u) (d.copyInto x)) stand1 q
         (copy-into s t e front tail marks rest we given spare room (walkOf b z) next u (r .stood) x y (x-more (e .section) (count st) (count u) (r .later .temporaries) x sound) h))
 
     abbrev marks2 : ℕ → Option ℕ → List ℕ
@@ -202,17 +202,17 @@ module _ (s t : List ℕ) (e : Env) (p front tail marks rest : List ℕ) (we : W
         (on e (on e (scope.namedTmp name size e st) λ v e1 st1. done (d.Destination.Local v) st1) (d.copyInto x))
     new-target name known size small =
         rw (on-assoc e (scope.namedTmp name size e st) (λ v e1 st1. done (d.Destination.Local v) st1) (d.copyInto x))
-        (steps-named s t e p front tail marks rest we given spare b st stand name known size small 0 level next (z .sizing .begun) begun
-        (λ (r : Listed Expr). besideP p (onExpr (thenL r (λ r u. resolved r A2 u)) into refusing))
-        (λ v st1 u. listed (Expr.Value (WordExpr.Local v) next st1) u) (λ n u. listed (Expr.No n) u) (λ v e1 st1. on e1 (done (d.Destination.Local v) st1) (d.copyInto x)) (λ n m. (A2, p, m, unfold thenL onExpr besideP in refl))
+        (steps-named s t e p front tail marks rest we given spare b ls st stand name known size small 0 next (z .sizing .begun) begun
+        (λ (r : Listed Expr). besideL ls (onExpr (thenL r (λ r u. resolved r A2 u)) into refusing))
+        (λ v st1 u. listed (Expr.Value (WordExpr.Local v) next st1) u) (λ n u. listed (Expr.No n) u) (λ v e1 st1. on e1 (done (d.Destination.Local v) st1) (d.copyInto x)) (λ n m. (A2, ls, m, unfold thenL onExpr besideL in refl))
         λ v u j q. copied v u j q)
       where
-        copied : (v : Value) (u : State) (j : Names s t e p front tail marks rest we given spare b st stand name known size small v u) → z .sizing .begun ≡ orNone (u .sizing .begun)
-            → Steps s t e front tail rest we spare 0 level p (marks2 name size) b u next (besideP p (onExpr (thenL (listed (Expr.Value (WordExpr.Local (encV v)) next (word (e .section) front tail (marks2 name size) rest u)) (temps (e .section) front tail (marks2 name size) rest u)) (λ r u. resolved r A2 u)) into refusing)) (on e (done (d.Destination.Local v) u) (d.copyInto x))
+        copied : (v : Value) (u : State) (j : Names s t e p front tail marks rest we given spare b ls st stand name known size small v u) → z .sizing .begun ≡ orNone (u .sizing .begun)
+            → Steps s t e front tail rest we spare 0 p ls (marks2 name size) b u next (besideL ls (onExpr (thenL (listed (Expr.Value (WordExpr.Local (encV v)) next (word (e .section) front tail (marks2 name size) rest u)) (temps (e .section) front tail (marks2 name size) rest u)) (λ r u. resolved r A2 u)) into refusing)) (on e (done (d.Destination.Local v) u) (d.copyInto x))
         copied v u j q = unfold thenL onExpr in
-            subst (λ (y : List SemanticAction). Steps s t e front tail rest we spare 0 level p (marks2 name size) b u next (besideP p (copyInto s t (actionsIn front tail y) (temps (e .section) front tail (marks2 name size) rest u) we (encX x) (WordExpr.Local (encV v)) next (word (e .section) front tail (marks2 name size) rest u) (walkOf b z))) (on e (done (d.Destination.Local v) u) (d.copyInto x))) (j .actions)
-            (steps-goes s t e front tail rest we spare level p (marks2 name size) b u next (z .sizing .begun) _ (on e (done (d.Destination.Local v) u) (d.copyInto x)) (j .stands) q
-            (unfold encX d.asDestination in copy-into s t e front tail (marks2 name size) rest we given spare room (walkOf b z) next u (j .stands .stood) x (ExprValue.Local v) (x-more (e .section) (count st) (count u) (j .framed 0 .temporaries) x sound) (j .sound)))
+            subst (λ (y : List SemanticAction). Steps s t e front tail rest we spare 0 p ls (marks2 name size) b u next (besideL ls (copyInto s t (actionsIn front tail y) (temps (e .section) front tail (marks2 name size) rest u) we (encX x) (WordExpr.Local (encV v)) next (word (e .section) front tail (marks2 name size) rest u) (walkOf b z))) (on e (done (d.Destination.Local v) u) (d.copyInto x))) (j .actions)
+            (steps-goes s t e front tail rest we spare p ls (marks2 name size) b u next (z .sizing .begun) _ (on e (done (d.Destination.Local v) u) (d.copyInto x)) (j .stands) q
+            (unfold encX d.asDestination in copy-into s t e front tail (marks2 name size) rest we given spare room (walkOf b z) next u (j .stands .stood) x (ExprValue.Local v) (x-more (e .section) (count st) (count u) (j .framed .temporaries) x sound) (j .sound)))
 
     pub target-steps : Copies st next (copyTarget s t p A2 M2 we (encX x) pos W2 (walkOf b z)) (on e (d.resolveDst to e st) (d.copyInto x))
     unfolding copyTarget resolveDst d.resolveDst
@@ -236,13 +236,13 @@ module _ (s t : List ℕ) (e : Env) (p front tail marks rest : List ℕ) (we : W
             (unfold if_then_else_ in by name known size small (meaningOf (e .section) (innerMeaning (e .section) (st .scope) name) name))
 
   -- the source is resolved before the target
-  pub copy-steps : (from : State) → Stands s t e p front tail rest we given spare room b level marks from → (pos : ℕ) → pos + 1 ≤ length s → (x : Statement) (u : List ℕ) (i : CopyAt s (le16 s 2) pos x u)
+  pub copy-steps : (from : State) → Stands s t e p front tail rest we given spare room b ls marks from → (pos : ℕ) → pos + 1 ≤ length s → (x : Statement) (u : List ℕ) (i : CopyAt s (le16 s 2) pos x u)
       → Copies from (i .to-end) (copyStatement s t p (acts (e .section) front tail marks rest from) (temps (e .section) front tail marks rest from) we pos (walkOf b (word (e .section) front tail marks rest from)))
       (on e (expressions.resolveExpr (i .from) e from) λ y e1 st1. on e1 (d.resolveDst (i .to) e1 st1) (d.copyInto y))
   unfolding copyStatement
   copy-steps from stand pos l x u i =
       rw (after-is pos 1 (omega (arith, given .short)) (omega arith))
-      (steps-expr s t e front tail rest we spare (besideP p) 0 level p marks b from (i .to-end) (orNone (from .sizing .begun)) stand refl
+      (steps-expr s t e front tail rest we spare (besideL ls) 0 p ls marks b from (i .to-end) (orNone (from .sizing .begun)) stand refl
       (resolveExpr 32 s t p we (pos + 1) (acts (e .section) front tail marks rest from) (temps (e .section) front tail marks rest from) (word (e .section) front tail marks rest from)) (expressions.resolveExpr (i .from) e from) (i .from-end) _ _ (λ y e1 st1. on e1 (d.resolveDst (i .to) e1 st1) (d.copyInto y))
-      (expression s t e front tail marks rest we given p spare room (pos + 1) (i .from) (i .from-end) (i .from-reads) (i .from-inside) from (stand .stood) (stand .scoped)) (λ n a m. unfold besideP in refl)
+      (expression s t e front tail marks rest we given p spare room (pos + 1) (i .from) (i .from-end) (i .from-reads) (i .from-inside) from (stand .stood) (stand .scoped)) (λ n a m. unfold besideL in refl)
       λ y st r h stand1 q. target-steps st stand1 (word (e .section) front tail marks rest from) q y h (i .from-end) (i .to) (i .to-end) (i .to-reads) (i .to-inside))

@@ -38,7 +38,7 @@ use Rattle.refinement.specs.Seen.{Seen, no, yes, seenPush}
 use Rattle.meaning.specs.Slots.{slotAt, paramPlace, argAt, putArg}
 use Rattle.expression.specs.Expressions.{resolveArgs, resolveExpr}
 use Rattle.walking.specs.declared.walk.Walk.{Walk}
-use Rattle.walking.specs.Walks.{Stepped, besideP, pushedThen}
+use Rattle.walking.specs.Walks.{Stepped, besideL, pushedThen}
 use Rattle.semantics.specs.Calls.{writeInput, writeInputs, ArgsRead, argsRead, readArgs, pushUserOp, userOpRead, userOpArgs, stepArgs, userOpStatement}
 use Rattle.expression_refinement.specs.Encodings.{encX, SoundX, opAction, sound-more, x-more, each-more, each-last, placed-last, count, Stood}
 use Rattle.expression_refinement.specs.Answers.{acts, temps, word as stateWord, seenArgs, Reached, Refines, refines-at, refines-done, refines-stopped, refines-map, weaken, bind, bind-read, bind-args}
@@ -340,14 +340,14 @@ module _ (s t : List ℕ) (e : Env) (front tail marks rest : List ℕ) (we : Wor
         stays (argsRead (Pushed.Done st3) c u args1) n h = unfold seenArgsRead in (let z : _≡_ {A = ℕ} 0 1 = cc in absurd (omega arith))
         stays (argsRead (Pushed.No k) c u args1) n h = unfold seenArgsRead userOpRead stepArgs pushedThen in (let i : k ≡ n = cc in stop-seen k w c u ∙ rw i)
 
-filled-long : (xs : List ExprValue) (args : List ℕ) (i : ℕ) → length (filledArgs args i xs) ≡ length args
+pub filled-long : (xs : List ExprValue) (args : List ℕ) (i : ℕ) → length (filledArgs args i xs) ≡ length args
 unfolding filledArgs
 filled-long [] args i = refl
 filled-long (x ∷ xs) args i = filled-long xs (putArg args i (encX x)) (suc i) ∙ arg-length args i (encX x)
 
 -- a user op called with the arguments that stand at a position
-module _ (s t : List ℕ) (e : Env) (p front tail marks rest : List ℕ) (we : WordEnv) (given : Given s t e front tail rest we) (spare : ℕ) (room : Spare spare tail) (b : Beside) (level : ℕ)
-    (from : State) (stand : Standing s t e front tail rest we spare p marks b from)
+module _ (s t : List ℕ) (e : Env) (p front tail marks rest : List ℕ) (we : WordEnv) (given : Given s t e front tail rest we) (spare : ℕ) (room : Spare spare tail) (b : Beside) (ls : List ℕ)
+    (from : State) (stand : Standing s t e front tail rest we spare p ls marks b from)
     (pos n : ℕ) (args : Args) (next : ℕ) (reads : argsOf (exprWithin (le16 s 2) 32) n (drop (pos + 4) s) ≡ parsed args (drop next s)) (few : n < 9) (starts : pos + 4 ≤ length s) (inside : next ≤ length s) (id : ℕ) where
   abbrev A2 : List ℕ
   A2 = acts (e .section) front tail marks rest from
@@ -374,10 +374,10 @@ module _ (s t : List ℕ) (e : Env) (p front tail marks rest : List ℕ) (we : W
       rw (← l) (read-pushed s t e front tail marks rest we given spare room b W2 id next xs (omega arith) (filledArgs (replicate 64 0) 0 xs) (filled-long xs (replicate 64 0) 0 ∙ length-replicate {A = ℕ} 64 0)
       (filled-in (e .section) (count st) xs (replicate 64 0) 0 (length-replicate {A = ℕ} 64 0) (omega arith) k) st f k)
 
-  pub user-op-steps : Steps s t e front tail rest we spare 0 level p marks b from next (besideP p (userOpStatement s t p A2 M2 we pos id n (walkOf b W2))) (d.userOpStatement id args e from)
+  pub user-op-steps : Steps s t e front tail rest we spare 0 p ls marks b from next (besideL ls (userOpStatement s t p A2 M2 we pos id n (walkOf b W2))) (d.userOpStatement id args e from)
   unfolding userOpStatement d.userOpStatement
   user-op-steps =
-      steps-goes s t e front tail rest we spare level p marks b from next (W2 .sizing .begun) _ _ stand refl
+      steps-goes s t e front tail rest we spare p ls marks b from next (W2 .sizing .begun) _ _ stand refl
       (rw (after-is pos 4 (omega (arith, given .short)) (omega arith))
       (bind-args (e .section) front tail marks rest spare spare e from ArgsDone (seenStep (W2 .sizing .begun)) (λ (_ : Unit {0}). (next, b)) (λ n (_ : Unit {0}). Unit {0}) (λ xs e1 st1. on e1 (expressions.readAll xs e1 st1) λ vs. walks.opNoOutput Operation.PcodeOp id vs)
       (λ (vs : List ExprValue). (filledArgs (replicate 64 0) 0 vs, next)) (resolveArgs (resolveExpr 32 s t p we) n 0 (pos + 4) A2 M2 (replicate 64 0) W2) (expressions.resolveArgs args e from) _ _

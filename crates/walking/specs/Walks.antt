@@ -1,5 +1,5 @@
 -- An answer with the lists that a function was lent, and how it goes on with the walk. In all of these s is the stream, t the
--- section's table, p the words of the scopes, a the actions, m the temporaries.
+-- section's table, p the parameters of the scope, l the labels, a the actions, m the temporaries.
 use Prim.Native.Nat.{ℕ}
 use mathlib.Core.List.{List}
 use Rattle.pushing.specs.declared.push.State.{State}
@@ -13,7 +13,7 @@ use Rattle.walking.specs.declared.walk.Step.{Step}
 pub data Stepped : Type 0 where
   stepped : Step → List ℕ → List ℕ → Stepped
 
--- and before these the words of the scopes
+-- and before these the labels
 pub data Walked : Type 0 where
   walked : Step → List ℕ → List ℕ → List ℕ → Walked
 
@@ -23,14 +23,14 @@ stepPushed (pushed r a m) f = stepped (f r) a m
 unfoldable pub stepRead : ReadOut → (Read → Step) → Stepped
 stepRead (read r a m) f = stepped (f r) a m
 
--- where the words of the scopes stay
-unfoldable pub besideP : List ℕ → Stepped → Walked
-besideP p (stepped r a m) = walked r p a m
+-- where the labels stay
+unfoldable pub besideL : List ℕ → Stepped → Walked
+besideL l (stepped r a m) = walked r l a m
 
 -- on from where a step ended
 unfoldable pub onStep : Walked → (ℕ → Walk → List ℕ → List ℕ → List ℕ → Walked) → Walked
-onStep (walked (Step.Next next w) p a m) f = f next w p a m
-onStep (walked (Step.Stop refusal ordinal) p a m) f = walked (Step.Stop refusal ordinal) p a m
+onStep (walked (Step.Next next w) l a m) f = f next w l a m
+onStep (walked (Step.Stop refusal ordinal) l a m) f = walked (Step.Stop refusal ordinal) l a m
 
 abbrev pub withState : State → Walk → Walk
 withState st w = record { st = st; labels = w .labels; placed = w .placed; statements = w .statements; scopes = w .scopes; export = w .export }

@@ -3,58 +3,62 @@ use Rattle.resolution.proofs.walk_section.Statement.{statement}
 use Rattle.resolution.proofs.walk_section.Tie as tie
 use Rattle.resolution.proofs.walk_section.Reads as reads
 use Rattle.resolution.proofs.walk_section.Lts as lts
+use Rattle.bodies.proofs.statements.body.Reads as body-reads
 use Rattle.cells.proofs.get_u16.Reads as get-u16-reads
 use Rattle.cells.proofs.u16_at.Reads as u16-at-reads
 use Rattle.resolution.proofs.at_start.Reads as at-start-reads
 use Rattle.resolution.proofs.start_env.Reads as start-env-reads
-use Rattle.bodies.proofs.statements.body.Reads as body-reads
 use Rattle.resolution.proofs.FileLaws.{file-laws}
 
--- src/lib.rt:78:15
+-- src/lib.rt:83:15
 get-u16-requires : tie.Need-get-u16-requires
 get-u16-requires c κs = search (file-laws, needs)
 
--- src/lib.rt:78:15
+-- src/lib.rt:83:15
 cast-pos : tie.Need-cast-pos
 cast-pos c = search (file-laws, needs)
 
--- src/lib.rt:79:9
+-- src/lib.rt:84:9
 u16-at-requires : tie.Need-u16-at-requires
 u16-at-requires c κs = search (file-laws, needs)
 
--- src/lib.rt:80:19
+-- src/lib.rt:85:19
 get-u16-requires-2 : tie.Need-get-u16-requires-2
 get-u16-requires-2 c κs = search (file-laws, needs)
 
--- src/lib.rt:80:19
+-- src/lib.rt:85:19
 cast-ordinal : tie.Need-cast-ordinal
 cast-ordinal c = search (file-laws, needs)
 
--- src/lib.rt:81:9
+-- src/lib.rt:86:9
 start-env-requires : tie.Need-start-env-requires
 start-env-requires c κs = search (file-laws, needs)
 
--- src/lib.rt:82:9
+-- src/lib.rt:87:9
 at-start-requires : tie.Need-at-start-requires
 at-start-requires c κs = search (file-laws, needs)
 
--- src/lib.rt:83:43
+-- src/lib.rt:88:40
 slice-aggregate-body : tie.Need-slice-aggregate-body
 slice-aggregate-body c = search (file-laws, needs)
 
--- src/lib.rt:83:5
+-- src/lib.rt:88:44
+slice-aggregate-body-2 : tie.Need-slice-aggregate-body-2
+slice-aggregate-body-2 c = search (file-laws, needs)
+
+-- src/lib.rt:88:5
 body-requires : tie.Need-body-requires
 body-requires c κs = search (file-laws, needs)
 
--- src/lib.rt:74:1
+-- src/lib.rt:71:1
 same-length : tie.Need-same-length
 same-length c = search (file-laws, needs)
 
--- src/lib.rt:74:1
+-- src/lib.rt:71:1
 same-length-2 : tie.Need-same-length-2
 same-length-2 c = search (file-laws, needs)
 
--- src/lib.rt:74:1
+-- src/lib.rt:71:1
 returns : tie.Need-returns
 returns c = search (file-laws, needs)
 
@@ -70,6 +74,7 @@ walk-section-spec =
     start-env-requires
     at-start-requires
     slice-aggregate-body
+    slice-aggregate-body-2
     body-requires
     same-length
     same-length-2

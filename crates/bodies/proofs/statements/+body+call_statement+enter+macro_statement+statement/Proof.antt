@@ -22,18 +22,16 @@ use Rattle.bodies.proofs.statements.entered.Reads as entered-reads
 use Rattle.bodies.proofs.statements.first_ordinal.Reads as first-ordinal-reads
 use Rattle.bodies.proofs.statements.macro_env.Reads as macro-env-reads
 use Rattle.bodies.proofs.statements.other_statement.Reads as other-statement-reads
-use Rattle.bodies.proofs.statements.params_at.Reads as params-at-reads
 use Rattle.bodies.proofs.statements.returned.Reads as returned-reads
 use Rattle.cells.proofs.byte.Reads as byte-reads
 use Rattle.expression.proofs.expr.after.Reads as after-reads
 use Rattle.meaning.proofs.scope.u16_in.Reads as u16-in-reads
-use Rattle.semantics.proofs.calls.bind_params.Reads as bind-params-reads
 use Rattle.semantics.proofs.calls.called_of.Reads as called-of-reads
 use Rattle.semantics.proofs.calls.macro_args.Reads as macro-args-reads
 use Rattle.semantics.proofs.calls.macro_at.Reads as macro-at-reads
 use Rattle.semantics.proofs.calls.other_call.Reads as other-call-reads
-use Rattle.walking.proofs.walk.stop.Reads as stop-reads
 use Rattle.std.proofs.num.wrapping_add_u64.Reads as wrapping-add-u64-reads
+use Rattle.walking.proofs.walk.stop.Reads as stop-reads
 use Rattle.bodies.proofs.statements.+body+call_statement+enter+macro_statement+statement.{statement}
 use Rattle.bodies.proofs.statements.+body+call_statement+enter+macro_statement+statement.Tie.{close}
 use borrow.Author.Needs.{needs}
@@ -43,41 +41,41 @@ use Rattle.bodies.specs.Statements.{enterMacro, resolveStatement, resolv
 use Rattle.bodies.proofs.StatementLaws.{statement-laws, enter-body, body-next}
 use native.Mathlib.Omega.{arith}
 
-abbrev μ-body : Measures 5 body-kinds.ps ℕ
+abbrev μ-body : Measures 6 body-kinds.ps ℕ
 μ-body κs a = 5 * a .0 + 4
 
-abbrev μ-call-statement : Measures 5 call-statement-kinds.ps ℕ
+abbrev μ-call-statement : Measures 6 call-statement-kinds.ps ℕ
 μ-call-statement κs a = 5 * a .0 + 2
 
 abbrev μ-enter : Measures 6 enter-kinds.ps ℕ
 μ-enter κs a = 5 * a .0
 
-abbrev μ-macro-statement : Measures 5 macro-statement-kinds.ps ℕ
+abbrev μ-macro-statement : Measures 6 macro-statement-kinds.ps ℕ
 μ-macro-statement κs a = 5 * a .0 + 1
 
-abbrev μ-statement : Measures 5 statement-kinds.ps ℕ
+abbrev μ-statement : Measures 6 statement-kinds.ps ℕ
 μ-statement κs a = 5 * a .0 + 3
 
-abbrev body-at : ℕ → In 5 body-kinds.ps
-body-at t = and 5 body-kinds.ps (is 5 body-kinds.ps μ-body t) body.Pre
+abbrev body-at : ℕ → In 6 body-kinds.ps
+body-at t = and 6 body-kinds.ps (is 6 body-kinds.ps μ-body t) body.Pre
 
-abbrev body-below : ℕ → In 5 body-kinds.ps
-body-below t = and 5 body-kinds.ps (falls 5 body-kinds.ps _<_ μ-body t) body.Pre
+abbrev body-below : ℕ → In 6 body-kinds.ps
+body-below t = and 6 body-kinds.ps (falls 6 body-kinds.ps _<_ μ-body t) body.Pre
 
-abbrev call-statement-at : ℕ → In 5 call-statement-kinds.ps
+abbrev call-statement-at : ℕ → In 6 call-statement-kinds.ps
 call-statement-at t =
     and
-    5
+    6
     call-statement-kinds.ps
-    (is 5 call-statement-kinds.ps μ-call-statement t)
+    (is 6 call-statement-kinds.ps μ-call-statement t)
     call-statement.Pre
 
-abbrev call-statement-below : ℕ → In 5 call-statement-kinds.ps
+abbrev call-statement-below : ℕ → In 6 call-statement-kinds.ps
 call-statement-below t =
     and
-    5
+    6
     call-statement-kinds.ps
-    (falls 5 call-statement-kinds.ps _<_ μ-call-statement t)
+    (falls 6 call-statement-kinds.ps _<_ μ-call-statement t)
     call-statement.Pre
 
 abbrev enter-at : ℕ → In 6 enter-kinds.ps
@@ -86,38 +84,37 @@ enter-at t = and 6 enter-kinds.ps (is 6 enter-kinds.ps μ-enter t) enter.Pre
 abbrev enter-below : ℕ → In 6 enter-kinds.ps
 enter-below t = and 6 enter-kinds.ps (falls 6 enter-kinds.ps _<_ μ-enter t) enter.Pre
 
-abbrev macro-statement-at : ℕ → In 5 macro-statement-kinds.ps
+abbrev macro-statement-at : ℕ → In 6 macro-statement-kinds.ps
 macro-statement-at t =
     and
-    5
+    6
     macro-statement-kinds.ps
-    (is 5 macro-statement-kinds.ps μ-macro-statement t)
+    (is 6 macro-statement-kinds.ps μ-macro-statement t)
     macro-statement.Pre
 
-abbrev macro-statement-below : ℕ → In 5 macro-statement-kinds.ps
+abbrev macro-statement-below : ℕ → In 6 macro-statement-kinds.ps
 macro-statement-below t =
     and
-    5
+    6
     macro-statement-kinds.ps
-    (falls 5 macro-statement-kinds.ps _<_ μ-macro-statement t)
+    (falls 6 macro-statement-kinds.ps _<_ μ-macro-statement t)
     macro-statement.Pre
 
-abbrev statement-at : ℕ → In 5 statement-kinds.ps
-statement-at t = and 5 statement-kinds.ps (is 5 statement-kinds.ps μ-statement t) statement′.Pre
+abbrev statement-at : ℕ → In 6 statement-kinds.ps
+statement-at t = and 6 statement-kinds.ps (is 6 statement-kinds.ps μ-statement t) statement′.Pre
 
-abbrev statement-below : ℕ → In 5 statement-kinds.ps
+abbrev statement-below : ℕ → In 6 statement-kinds.ps
 statement-below t =
-    and 5 statement-kinds.ps (falls 5 statement-kinds.ps _<_ μ-statement t) statement′.Pre
+    and 6 statement-kinds.ps (falls 6 statement-kinds.ps _<_ μ-statement t) statement′.Pre
 
 abbrev body-Inv-loop : body-lts.InvT-loop
-body-Inv-loop deep s t p₀ a₀ m₀ e pos n ordinal at₀ w₀ i₀ p a m at w i =
-    (length p ≡ length p₀) × (length a ≡ length a₀) × (length m ≡ length m₀)
-    × (resolveAll (resolveStatement (enterMacro deep s t) s t e) (n - i) i ordinal at p a m w ≡ resolveBody deep s t p₀ a₀ m₀ e pos n ordinal w₀)
+body-Inv-loop deep s t p l₀ a₀ m₀ e pos n ordinal at₀ w₀ i₀ l a m at w i = (length l ≡ length l₀) × (length a ≡ length a₀) × (length m ≡ length m₀)
+    × (resolveAll (resolveStatement (enterMacro deep s t) s t p e) (n - i) i ordinal at l a m w ≡ resolveBody deep s t p l₀ a₀ m₀ e pos n ordinal w₀)
 
 abbrev body-μ-loop : body-lts.MeasureT-loop
-body-μ-loop deep s t p₀ a₀ m₀ e pos n ordinal at₀ w₀ i₀ p a m at w i = n - i
+body-μ-loop deep s t p l₀ a₀ m₀ e pos n ordinal at₀ w₀ i₀ l a m at w i = n - i
 
--- src/statements.rt:306:5
+-- src/statements.rt:302:5
 body-loop-holds : (t : ℕ) → body-lts.Need-loop-holds (
   wrapping-add-u64-reads.Asked,
   wrapping-add-u64-reads.Learnt,
@@ -126,7 +123,7 @@ body-loop-holds : (t : ℕ) → body-lts.Need-loop-holds (
 ) (body-at t) body.Post body-Inv-loop body-μ-loop
 body-loop-holds t c = search (statement-laws, needs)
 
--- src/statements.rt:307:13
+-- src/statements.rt:303:13
 body-wrapping-add-u64-requires : (t : ℕ) → body-lts.Need-wrapping-add-u64-requires (
   wrapping-add-u64-reads.Asked,
   wrapping-add-u64-reads.Learnt,
@@ -135,7 +132,7 @@ body-wrapping-add-u64-requires : (t : ℕ) → body-lts.Need-wrapping-add-u64-re
 ) (body-at t) body.Post body-Inv-loop body-μ-loop
 body-wrapping-add-u64-requires t c κs = search (statement-laws, needs)
 
--- src/statements.rt:308:15
+-- src/statements.rt:304:15
 body-statement-requires : (t : ℕ) → body-lts.Need-statement-requires (
   wrapping-add-u64-reads.Asked,
   wrapping-add-u64-reads.Learnt,
@@ -144,7 +141,7 @@ body-statement-requires : (t : ℕ) → body-lts.Need-statement-requires (
 ) (body-at t) body.Post body-Inv-loop body-μ-loop
 body-statement-requires t c κs = search (statement-laws, needs)
 
--- src/statements.rt:310:17
+-- src/statements.rt:306:17
 body-enum-known-refusal : (t : ℕ) → body-lts.Need-enum-known-refusal (
   wrapping-add-u64-reads.Asked,
   wrapping-add-u64-reads.Learnt,
@@ -153,7 +150,7 @@ body-enum-known-refusal : (t : ℕ) → body-lts.Need-enum-known-refusal (
 ) (body-at t) body.Post body-Inv-loop body-μ-loop
 body-enum-known-refusal t c = search (statement-laws, needs)
 
--- src/statements.rt:312:18
+-- src/statements.rt:308:18
 body-same-length : (t : ℕ) → body-lts.Need-same-length (
   wrapping-add-u64-reads.Asked,
   wrapping-add-u64-reads.Learnt,
@@ -162,7 +159,7 @@ body-same-length : (t : ℕ) → body-lts.Need-same-length (
 ) (body-at t) body.Post body-Inv-loop body-μ-loop
 body-same-length t c = search (statement-laws, needs)
 
--- src/statements.rt:312:18
+-- src/statements.rt:308:18
 body-same-length-2 : (t : ℕ) → body-lts.Need-same-length-2 (
   wrapping-add-u64-reads.Asked,
   wrapping-add-u64-reads.Learnt,
@@ -171,7 +168,7 @@ body-same-length-2 : (t : ℕ) → body-lts.Need-same-length-2 (
 ) (body-at t) body.Post body-Inv-loop body-μ-loop
 body-same-length-2 t c = search (statement-laws, needs)
 
--- src/statements.rt:312:18
+-- src/statements.rt:308:18
 body-same-length-3 : (t : ℕ) → body-lts.Need-same-length-3 (
   wrapping-add-u64-reads.Asked,
   wrapping-add-u64-reads.Learnt,
@@ -180,7 +177,7 @@ body-same-length-3 : (t : ℕ) → body-lts.Need-same-length-3 (
 ) (body-at t) body.Post body-Inv-loop body-μ-loop
 body-same-length-3 t c = search (statement-laws, needs)
 
--- src/statements.rt:312:18
+-- src/statements.rt:308:18
 body-returns : (t : ℕ) → body-lts.Need-returns (
   wrapping-add-u64-reads.Asked,
   wrapping-add-u64-reads.Learnt,
@@ -189,7 +186,7 @@ body-returns : (t : ℕ) → body-lts.Need-returns (
 ) (body-at t) body.Post body-Inv-loop body-μ-loop
 body-returns t c = search (statement-laws, needs)
 
--- src/statements.rt:316:26
+-- src/statements.rt:312:26
 body-enum-known-next : (t : ℕ) → body-lts.Need-enum-known-next (
   wrapping-add-u64-reads.Asked,
   wrapping-add-u64-reads.Learnt,
@@ -198,16 +195,16 @@ body-enum-known-next : (t : ℕ) → body-lts.Need-enum-known-next (
 ) (body-at t) body.Post body-Inv-loop body-μ-loop
 body-enum-known-next t c = search (statement-laws, needs)
 
--- src/statements.rt:306:9
+-- src/statements.rt:302:9
 body-add-i : (t : ℕ) → body-lts.Need-add-i (
   wrapping-add-u64-reads.Asked,
   wrapping-add-u64-reads.Learnt,
   statement-below t,
   statement′.Post,
 ) (body-at t) body.Post body-Inv-loop body-μ-loop
-body-add-i t c = omega (arith, c .before .before .before .before .before .before .before .before .before .before .before .before .before .before .loop-test .taken, c .before .before .before .before .before .before .before .before .before .before .before .before .before .before .before .before .before .before .before .before .before .fits)
+body-add-i t c = omega (arith, c .before .before .before .before .before .before .before .before .before .before .before .before .before .before .loop-test .taken, c .before .before .before .before .before .before .before .before .before .before .before .before .before .before .before .before .before .before .before .before .before .before .fits)
 
--- src/statements.rt:306:5
+-- src/statements.rt:302:5
 body-loop-less : (t : ℕ) → body-lts.Need-loop-less (
   wrapping-add-u64-reads.Asked,
   wrapping-add-u64-reads.Learnt,
@@ -216,16 +213,16 @@ body-loop-less : (t : ℕ) → body-lts.Need-loop-less (
 ) (body-at t) body.Post body-Inv-loop body-μ-loop
 body-loop-less t c = search (statement-laws, needs)
 
--- src/statements.rt:306:5
+-- src/statements.rt:302:5
 body-loop-again : (t : ℕ) → body-lts.Need-loop-again (
   wrapping-add-u64-reads.Asked,
   wrapping-add-u64-reads.Learnt,
   statement-below t,
   statement′.Post,
 ) (body-at t) body.Post body-Inv-loop body-μ-loop
-body-loop-again t c = (search (c .before .before .before .before .before .before .before .before .p .given, c .before .before .before .before .before .before .before .before .before .before .before .before .before .before .before .loop .inv .0, needs), search (c .before .before .before .before .before .before .a .given, c .before .before .before .before .before .before .before .before .before .before .before .before .before .before .before .loop .inv .1, needs), search (c .before .before .before .before .m .given, c .before .before .before .before .before .before .before .before .before .before .before .before .before .before .before .loop .inv .2, needs), body-next _ _ _ _ _ _ _ _ _ _ (c .before .before .before .before .before .before .before .before .before .before .before .before .before .before .before .loop .inv .3) (c .before .before .before .before .before .before .before .before .before .before .before .before .before .before .loop-test .taken) _ (c .before .before .before .before .before .before .before .before .before .before .before .before .before .wrapping-add-u64 .ensures) _ _ _ _ (c .before .before .before .before .before .before .before .before .before .statement .ensures) _ _ (search needs))
+body-loop-again t c = (search (c .before .before .before .before .before .before .before .before .l .given, c .before .before .before .before .before .before .before .before .before .before .before .before .before .before .before .loop .inv .0, needs), search (c .before .before .before .before .before .before .a .given, c .before .before .before .before .before .before .before .before .before .before .before .before .before .before .before .loop .inv .1, needs), search (c .before .before .before .before .m .given, c .before .before .before .before .before .before .before .before .before .before .before .before .before .before .before .loop .inv .2, needs), body-next _ _ _ _ _ _ _ _ _ _ (c .before .before .before .before .before .before .before .before .before .before .before .before .before .before .before .loop .inv .3) (c .before .before .before .before .before .before .before .before .before .before .before .before .before .before .loop-test .taken) _ (c .before .before .before .before .before .before .before .before .before .before .before .before .before .wrapping-add-u64 .ensures) _ _ _ _ (c .before .before .before .before .before .before .before .before .before .statement .ensures) _ _ (search needs))
 
--- src/statements.rt:289:1
+-- src/statements.rt:284:1
 body-same-length-4 : (t : ℕ) → body-lts.Need-same-length-4 (
   wrapping-add-u64-reads.Asked,
   wrapping-add-u64-reads.Learnt,
@@ -234,7 +231,7 @@ body-same-length-4 : (t : ℕ) → body-lts.Need-same-length-4 (
 ) (body-at t) body.Post body-Inv-loop body-μ-loop
 body-same-length-4 t c = search (statement-laws, needs)
 
--- src/statements.rt:289:1
+-- src/statements.rt:284:1
 body-same-length-5 : (t : ℕ) → body-lts.Need-same-length-5 (
   wrapping-add-u64-reads.Asked,
   wrapping-add-u64-reads.Learnt,
@@ -243,7 +240,7 @@ body-same-length-5 : (t : ℕ) → body-lts.Need-same-length-5 (
 ) (body-at t) body.Post body-Inv-loop body-μ-loop
 body-same-length-5 t c = search (statement-laws, needs)
 
--- src/statements.rt:289:1
+-- src/statements.rt:284:1
 body-same-length-6 : (t : ℕ) → body-lts.Need-same-length-6 (
   wrapping-add-u64-reads.Asked,
   wrapping-add-u64-reads.Learnt,
@@ -252,7 +249,7 @@ body-same-length-6 : (t : ℕ) → body-lts.Need-same-length-6 (
 ) (body-at t) body.Post body-Inv-loop body-μ-loop
 body-same-length-6 t c = search (statement-laws, needs)
 
--- src/statements.rt:289:1
+-- src/statements.rt:284:1
 body-returns-2 : (t : ℕ) → body-lts.Need-returns-2 (
   wrapping-add-u64-reads.Asked,
   wrapping-add-u64-reads.Learnt,
@@ -261,7 +258,7 @@ body-returns-2 : (t : ℕ) → body-lts.Need-returns-2 (
 ) (body-at t) body.Post body-Inv-loop body-μ-loop
 body-returns-2 t c = search (statement-laws, needs)
 
--- src/statements.rt:248:9
+-- src/statements.rt:242:9
 call-statement-byte-requires : (t : ℕ) → call-statement-lts.Need-byte-requires (
   byte-reads.Asked,
   byte-reads.Learnt,
@@ -276,7 +273,7 @@ call-statement-byte-requires : (t : ℕ) → call-statement-lts.Need-byte-requir
 ) (call-statement-at t) call-statement.Post
 call-statement-byte-requires t c κs = search (statement-laws, needs)
 
--- src/statements.rt:249:29
+-- src/statements.rt:243:29
 call-statement-u16-in-requires : (t : ℕ) → call-statement-lts.Need-u16-in-requires (
   byte-reads.Asked,
   byte-reads.Learnt,
@@ -291,7 +288,7 @@ call-statement-u16-in-requires : (t : ℕ) → call-statement-lts.Need-u16-in-re
 ) (call-statement-at t) call-statement.Post
 call-statement-u16-in-requires t c κs = search (statement-laws, needs)
 
--- src/statements.rt:249:9
+-- src/statements.rt:243:9
 call-statement-called-of-requires : (t : ℕ) → call-statement-lts.Need-called-of-requires (
   byte-reads.Asked,
   byte-reads.Learnt,
@@ -306,7 +303,7 @@ call-statement-called-of-requires : (t : ℕ) → call-statement-lts.Need-called
 ) (call-statement-at t) call-statement.Post
 call-statement-called-of-requires t c κs = search (statement-laws, needs)
 
--- src/statements.rt:251:9
+-- src/statements.rt:245:9
 call-statement-macro-statement-requires :
     (t : ℕ) → call-statement-lts.Need-macro-statement-requires (
       byte-reads.Asked,
@@ -322,7 +319,7 @@ call-statement-macro-statement-requires :
     ) (call-statement-at t) call-statement.Post
 call-statement-macro-statement-requires t c κs = search (statement-laws, needs)
 
--- src/statements.rt:251:9
+-- src/statements.rt:245:9
 call-statement-same-length : (t : ℕ) → call-statement-lts.Need-same-length (
   byte-reads.Asked,
   byte-reads.Learnt,
@@ -337,7 +334,7 @@ call-statement-same-length : (t : ℕ) → call-statement-lts.Need-same-length (
 ) (call-statement-at t) call-statement.Post
 call-statement-same-length t c = search (statement-laws, needs)
 
--- src/statements.rt:251:9
+-- src/statements.rt:245:9
 call-statement-same-length-2 : (t : ℕ) → call-statement-lts.Need-same-length-2 (
   byte-reads.Asked,
   byte-reads.Learnt,
@@ -352,7 +349,7 @@ call-statement-same-length-2 : (t : ℕ) → call-statement-lts.Need-same-length
 ) (call-statement-at t) call-statement.Post
 call-statement-same-length-2 t c = search (statement-laws, needs)
 
--- src/statements.rt:251:9
+-- src/statements.rt:245:9
 call-statement-same-length-3 : (t : ℕ) → call-statement-lts.Need-same-length-3 (
   byte-reads.Asked,
   byte-reads.Learnt,
@@ -367,7 +364,7 @@ call-statement-same-length-3 : (t : ℕ) → call-statement-lts.Need-same-length
 ) (call-statement-at t) call-statement.Post
 call-statement-same-length-3 t c = search (statement-laws, needs)
 
--- src/statements.rt:251:9
+-- src/statements.rt:245:9
 call-statement-returns : (t : ℕ) → call-statement-lts.Need-returns (
   byte-reads.Asked,
   byte-reads.Learnt,
@@ -382,7 +379,7 @@ call-statement-returns : (t : ℕ) → call-statement-lts.Need-returns (
 ) (call-statement-at t) call-statement.Post
 call-statement-returns t c = search (statement-laws, needs)
 
--- src/statements.rt:253:5
+-- src/statements.rt:247:5
 call-statement-other-call-requires : (t : ℕ) → call-statement-lts.Need-other-call-requires (
   byte-reads.Asked,
   byte-reads.Learnt,
@@ -397,7 +394,7 @@ call-statement-other-call-requires : (t : ℕ) → call-statement-lts.Need-other
 ) (call-statement-at t) call-statement.Post
 call-statement-other-call-requires t c κs = search (statement-laws, needs)
 
--- src/statements.rt:235:1
+-- src/statements.rt:228:1
 call-statement-same-length-4 : (t : ℕ) → call-statement-lts.Need-same-length-4 (
   byte-reads.Asked,
   byte-reads.Learnt,
@@ -412,7 +409,7 @@ call-statement-same-length-4 : (t : ℕ) → call-statement-lts.Need-same-length
 ) (call-statement-at t) call-statement.Post
 call-statement-same-length-4 t c = search (statement-laws, needs)
 
--- src/statements.rt:235:1
+-- src/statements.rt:228:1
 call-statement-same-length-5 : (t : ℕ) → call-statement-lts.Need-same-length-5 (
   byte-reads.Asked,
   byte-reads.Learnt,
@@ -427,22 +424,7 @@ call-statement-same-length-5 : (t : ℕ) → call-statement-lts.Need-same-length
 ) (call-statement-at t) call-statement.Post
 call-statement-same-length-5 t c = search (statement-laws, needs)
 
--- src/statements.rt:235:1
-call-statement-same-length-6 : (t : ℕ) → call-statement-lts.Need-same-length-6 (
-  byte-reads.Asked,
-  byte-reads.Learnt,
-  u16-in-reads.Asked,
-  u16-in-reads.Learnt,
-  called-of-reads.Asked,
-  called-of-reads.Learnt,
-  macro-statement-below t,
-  macro-statement.Post,
-  other-call-reads.Asked,
-  other-call-reads.Learnt,
-) (call-statement-at t) call-statement.Post
-call-statement-same-length-6 t c = search (statement-laws, needs)
-
--- src/statements.rt:235:1
+-- src/statements.rt:228:1
 call-statement-returns-2 : (t : ℕ) → call-statement-lts.Need-returns-2 (
   byte-reads.Asked,
   byte-reads.Learnt,
@@ -457,18 +439,12 @@ call-statement-returns-2 : (t : ℕ) → call-statement-lts.Need-returns-2 (
 ) (call-statement-at t) call-statement.Post
 call-statement-returns-2 t c = search (statement-laws, needs)
 
--- src/statements.rt:196:9
+-- src/statements.rt:190:9
 enter-stop-requires : (t : ℕ) → enter-lts.Need-stop-requires (
   stop-reads.Asked,
   stop-reads.Learnt,
   macro-at-reads.Asked,
   macro-at-reads.Learnt,
-  params-at-reads.Asked,
-  params-at-reads.Learnt,
-  after-reads.Asked,
-  after-reads.Learnt,
-  bind-params-reads.Asked,
-  bind-params-reads.Learnt,
   wrapping-add-u64-reads.Asked,
   wrapping-add-u64-reads.Learnt,
   body-at-reads.Asked,
@@ -479,6 +455,8 @@ enter-stop-requires : (t : ℕ) → enter-lts.Need-stop-requires (
   macro-env-reads.Learnt,
   first-ordinal-reads.Asked,
   first-ordinal-reads.Learnt,
+  after-reads.Asked,
+  after-reads.Learnt,
   entered-reads.Asked,
   entered-reads.Learnt,
   body-below t,
@@ -488,18 +466,12 @@ enter-stop-requires : (t : ℕ) → enter-lts.Need-stop-requires (
 ) (enter-at t) enter.Post
 enter-stop-requires t c κs = search (statement-laws, needs)
 
--- src/statements.rt:196:9
+-- src/statements.rt:190:9
 enter-returns : (t : ℕ) → enter-lts.Need-returns (
   stop-reads.Asked,
   stop-reads.Learnt,
   macro-at-reads.Asked,
   macro-at-reads.Learnt,
-  params-at-reads.Asked,
-  params-at-reads.Learnt,
-  after-reads.Asked,
-  after-reads.Learnt,
-  bind-params-reads.Asked,
-  bind-params-reads.Learnt,
   wrapping-add-u64-reads.Asked,
   wrapping-add-u64-reads.Learnt,
   body-at-reads.Asked,
@@ -510,6 +482,8 @@ enter-returns : (t : ℕ) → enter-lts.Need-returns (
   macro-env-reads.Learnt,
   first-ordinal-reads.Asked,
   first-ordinal-reads.Learnt,
+  after-reads.Asked,
+  after-reads.Learnt,
   entered-reads.Asked,
   entered-reads.Learnt,
   body-below t,
@@ -519,18 +493,12 @@ enter-returns : (t : ℕ) → enter-lts.Need-returns (
 ) (enter-at t) enter.Post
 enter-returns t c = search (statement-laws, needs)
 
--- src/statements.rt:198:9
+-- src/statements.rt:192:9
 enter-macro-at-requires : (t : ℕ) → enter-lts.Need-macro-at-requires (
   stop-reads.Asked,
   stop-reads.Learnt,
   macro-at-reads.Asked,
   macro-at-reads.Learnt,
-  params-at-reads.Asked,
-  params-at-reads.Learnt,
-  after-reads.Asked,
-  after-reads.Learnt,
-  bind-params-reads.Asked,
-  bind-params-reads.Learnt,
   wrapping-add-u64-reads.Asked,
   wrapping-add-u64-reads.Learnt,
   body-at-reads.Asked,
@@ -541,6 +509,8 @@ enter-macro-at-requires : (t : ℕ) → enter-lts.Need-macro-at-requires (
   macro-env-reads.Learnt,
   first-ordinal-reads.Asked,
   first-ordinal-reads.Learnt,
+  after-reads.Asked,
+  after-reads.Learnt,
   entered-reads.Asked,
   entered-reads.Learnt,
   body-below t,
@@ -550,111 +520,12 @@ enter-macro-at-requires : (t : ℕ) → enter-lts.Need-macro-at-requires (
 ) (enter-at t) enter.Post
 enter-macro-at-requires t c κs = search (statement-laws, needs)
 
--- src/statements.rt:199:9
-enter-params-at-requires : (t : ℕ) → enter-lts.Need-params-at-requires (
-  stop-reads.Asked,
-  stop-reads.Learnt,
-  macro-at-reads.Asked,
-  macro-at-reads.Learnt,
-  params-at-reads.Asked,
-  params-at-reads.Learnt,
-  after-reads.Asked,
-  after-reads.Learnt,
-  bind-params-reads.Asked,
-  bind-params-reads.Learnt,
-  wrapping-add-u64-reads.Asked,
-  wrapping-add-u64-reads.Learnt,
-  body-at-reads.Asked,
-  body-at-reads.Learnt,
-  u16-in-reads.Asked,
-  u16-in-reads.Learnt,
-  macro-env-reads.Asked,
-  macro-env-reads.Learnt,
-  first-ordinal-reads.Asked,
-  first-ordinal-reads.Learnt,
-  entered-reads.Asked,
-  entered-reads.Learnt,
-  body-below t,
-  body.Post,
-  returned-reads.Asked,
-  returned-reads.Learnt,
-) (enter-at t) enter.Post
-enter-params-at-requires t c κs = search (statement-laws, needs)
-
--- src/statements.rt:200:37
-enter-after-requires : (t : ℕ) → enter-lts.Need-after-requires (
-  stop-reads.Asked,
-  stop-reads.Learnt,
-  macro-at-reads.Asked,
-  macro-at-reads.Learnt,
-  params-at-reads.Asked,
-  params-at-reads.Learnt,
-  after-reads.Asked,
-  after-reads.Learnt,
-  bind-params-reads.Asked,
-  bind-params-reads.Learnt,
-  wrapping-add-u64-reads.Asked,
-  wrapping-add-u64-reads.Learnt,
-  body-at-reads.Asked,
-  body-at-reads.Learnt,
-  u16-in-reads.Asked,
-  u16-in-reads.Learnt,
-  macro-env-reads.Asked,
-  macro-env-reads.Learnt,
-  first-ordinal-reads.Asked,
-  first-ordinal-reads.Learnt,
-  entered-reads.Asked,
-  entered-reads.Learnt,
-  body-below t,
-  body.Post,
-  returned-reads.Asked,
-  returned-reads.Learnt,
-) (enter-at t) enter.Post
-enter-after-requires t c κs = search (statement-laws, needs)
-
--- src/statements.rt:200:5
-enter-bind-params-requires : (t : ℕ) → enter-lts.Need-bind-params-requires (
-  stop-reads.Asked,
-  stop-reads.Learnt,
-  macro-at-reads.Asked,
-  macro-at-reads.Learnt,
-  params-at-reads.Asked,
-  params-at-reads.Learnt,
-  after-reads.Asked,
-  after-reads.Learnt,
-  bind-params-reads.Asked,
-  bind-params-reads.Learnt,
-  wrapping-add-u64-reads.Asked,
-  wrapping-add-u64-reads.Learnt,
-  body-at-reads.Asked,
-  body-at-reads.Learnt,
-  u16-in-reads.Asked,
-  u16-in-reads.Learnt,
-  macro-env-reads.Asked,
-  macro-env-reads.Learnt,
-  first-ordinal-reads.Asked,
-  first-ordinal-reads.Learnt,
-  entered-reads.Asked,
-  entered-reads.Learnt,
-  body-below t,
-  body.Post,
-  returned-reads.Asked,
-  returned-reads.Learnt,
-) (enter-at t) enter.Post
-enter-bind-params-requires t c κs = search (statement-laws, needs)
-
--- src/statements.rt:201:9
+-- src/statements.rt:193:9
 enter-wrapping-add-u64-requires : (t : ℕ) → enter-lts.Need-wrapping-add-u64-requires (
   stop-reads.Asked,
   stop-reads.Learnt,
   macro-at-reads.Asked,
   macro-at-reads.Learnt,
-  params-at-reads.Asked,
-  params-at-reads.Learnt,
-  after-reads.Asked,
-  after-reads.Learnt,
-  bind-params-reads.Asked,
-  bind-params-reads.Learnt,
   wrapping-add-u64-reads.Asked,
   wrapping-add-u64-reads.Learnt,
   body-at-reads.Asked,
@@ -665,6 +536,8 @@ enter-wrapping-add-u64-requires : (t : ℕ) → enter-lts.Need-wrapping-add-u64-
   macro-env-reads.Learnt,
   first-ordinal-reads.Asked,
   first-ordinal-reads.Learnt,
+  after-reads.Asked,
+  after-reads.Learnt,
   entered-reads.Asked,
   entered-reads.Learnt,
   body-below t,
@@ -674,18 +547,12 @@ enter-wrapping-add-u64-requires : (t : ℕ) → enter-lts.Need-wrapping-add-u64-
 ) (enter-at t) enter.Post
 enter-wrapping-add-u64-requires t c κs = search (statement-laws, needs)
 
--- src/statements.rt:202:9
+-- src/statements.rt:194:9
 enter-body-at-requires : (t : ℕ) → enter-lts.Need-body-at-requires (
   stop-reads.Asked,
   stop-reads.Learnt,
   macro-at-reads.Asked,
   macro-at-reads.Learnt,
-  params-at-reads.Asked,
-  params-at-reads.Learnt,
-  after-reads.Asked,
-  after-reads.Learnt,
-  bind-params-reads.Asked,
-  bind-params-reads.Learnt,
   wrapping-add-u64-reads.Asked,
   wrapping-add-u64-reads.Learnt,
   body-at-reads.Asked,
@@ -696,6 +563,8 @@ enter-body-at-requires : (t : ℕ) → enter-lts.Need-body-at-requires (
   macro-env-reads.Learnt,
   first-ordinal-reads.Asked,
   first-ordinal-reads.Learnt,
+  after-reads.Asked,
+  after-reads.Learnt,
   entered-reads.Asked,
   entered-reads.Learnt,
   body-below t,
@@ -705,18 +574,12 @@ enter-body-at-requires : (t : ℕ) → enter-lts.Need-body-at-requires (
 ) (enter-at t) enter.Post
 enter-body-at-requires t c κs = search (statement-laws, needs)
 
--- src/statements.rt:203:9
+-- src/statements.rt:195:9
 enter-u16-in-requires : (t : ℕ) → enter-lts.Need-u16-in-requires (
   stop-reads.Asked,
   stop-reads.Learnt,
   macro-at-reads.Asked,
   macro-at-reads.Learnt,
-  params-at-reads.Asked,
-  params-at-reads.Learnt,
-  after-reads.Asked,
-  after-reads.Learnt,
-  bind-params-reads.Asked,
-  bind-params-reads.Learnt,
   wrapping-add-u64-reads.Asked,
   wrapping-add-u64-reads.Learnt,
   body-at-reads.Asked,
@@ -727,6 +590,8 @@ enter-u16-in-requires : (t : ℕ) → enter-lts.Need-u16-in-requires (
   macro-env-reads.Learnt,
   first-ordinal-reads.Asked,
   first-ordinal-reads.Learnt,
+  after-reads.Asked,
+  after-reads.Learnt,
   entered-reads.Asked,
   entered-reads.Learnt,
   body-below t,
@@ -736,18 +601,12 @@ enter-u16-in-requires : (t : ℕ) → enter-lts.Need-u16-in-requires (
 ) (enter-at t) enter.Post
 enter-u16-in-requires t c κs = search (statement-laws, needs)
 
--- src/statements.rt:204:9
+-- src/statements.rt:196:9
 enter-macro-env-requires : (t : ℕ) → enter-lts.Need-macro-env-requires (
   stop-reads.Asked,
   stop-reads.Learnt,
   macro-at-reads.Asked,
   macro-at-reads.Learnt,
-  params-at-reads.Asked,
-  params-at-reads.Learnt,
-  after-reads.Asked,
-  after-reads.Learnt,
-  bind-params-reads.Asked,
-  bind-params-reads.Learnt,
   wrapping-add-u64-reads.Asked,
   wrapping-add-u64-reads.Learnt,
   body-at-reads.Asked,
@@ -758,6 +617,8 @@ enter-macro-env-requires : (t : ℕ) → enter-lts.Need-macro-env-requires (
   macro-env-reads.Learnt,
   first-ordinal-reads.Asked,
   first-ordinal-reads.Learnt,
+  after-reads.Asked,
+  after-reads.Learnt,
   entered-reads.Asked,
   entered-reads.Learnt,
   body-below t,
@@ -767,18 +628,12 @@ enter-macro-env-requires : (t : ℕ) → enter-lts.Need-macro-env-requires (
 ) (enter-at t) enter.Post
 enter-macro-env-requires t c κs = search (statement-laws, needs)
 
--- src/statements.rt:205:9
+-- src/statements.rt:197:9
 enter-first-ordinal-requires : (t : ℕ) → enter-lts.Need-first-ordinal-requires (
   stop-reads.Asked,
   stop-reads.Learnt,
   macro-at-reads.Asked,
   macro-at-reads.Learnt,
-  params-at-reads.Asked,
-  params-at-reads.Learnt,
-  after-reads.Asked,
-  after-reads.Learnt,
-  bind-params-reads.Asked,
-  bind-params-reads.Learnt,
   wrapping-add-u64-reads.Asked,
   wrapping-add-u64-reads.Learnt,
   body-at-reads.Asked,
@@ -789,6 +644,8 @@ enter-first-ordinal-requires : (t : ℕ) → enter-lts.Need-first-ordinal-requir
   macro-env-reads.Learnt,
   first-ordinal-reads.Asked,
   first-ordinal-reads.Learnt,
+  after-reads.Asked,
+  after-reads.Learnt,
   entered-reads.Asked,
   entered-reads.Learnt,
   body-below t,
@@ -798,18 +655,12 @@ enter-first-ordinal-requires : (t : ℕ) → enter-lts.Need-first-ordinal-requir
 ) (enter-at t) enter.Post
 enter-first-ordinal-requires t c κs = search (statement-laws, needs)
 
--- src/statements.rt:206:17
+-- src/statements.rt:198:17
 enter-sub-below : (t : ℕ) → enter-lts.Need-sub-below (
   stop-reads.Asked,
   stop-reads.Learnt,
   macro-at-reads.Asked,
   macro-at-reads.Learnt,
-  params-at-reads.Asked,
-  params-at-reads.Learnt,
-  after-reads.Asked,
-  after-reads.Learnt,
-  bind-params-reads.Asked,
-  bind-params-reads.Learnt,
   wrapping-add-u64-reads.Asked,
   wrapping-add-u64-reads.Learnt,
   body-at-reads.Asked,
@@ -820,6 +671,8 @@ enter-sub-below : (t : ℕ) → enter-lts.Need-sub-below (
   macro-env-reads.Learnt,
   first-ordinal-reads.Asked,
   first-ordinal-reads.Learnt,
+  after-reads.Asked,
+  after-reads.Learnt,
   entered-reads.Asked,
   entered-reads.Learnt,
   body-below t,
@@ -829,18 +682,12 @@ enter-sub-below : (t : ℕ) → enter-lts.Need-sub-below (
 ) (enter-at t) enter.Post
 enter-sub-below t c = search (statement-laws, needs)
 
--- src/statements.rt:207:9
-enter-after-requires-2 : (t : ℕ) → enter-lts.Need-after-requires-2 (
+-- src/statements.rt:199:9
+enter-after-requires : (t : ℕ) → enter-lts.Need-after-requires (
   stop-reads.Asked,
   stop-reads.Learnt,
   macro-at-reads.Asked,
   macro-at-reads.Learnt,
-  params-at-reads.Asked,
-  params-at-reads.Learnt,
-  after-reads.Asked,
-  after-reads.Learnt,
-  bind-params-reads.Asked,
-  bind-params-reads.Learnt,
   wrapping-add-u64-reads.Asked,
   wrapping-add-u64-reads.Learnt,
   body-at-reads.Asked,
@@ -851,6 +698,8 @@ enter-after-requires-2 : (t : ℕ) → enter-lts.Need-after-requires-2 (
   macro-env-reads.Learnt,
   first-ordinal-reads.Asked,
   first-ordinal-reads.Learnt,
+  after-reads.Asked,
+  after-reads.Learnt,
   entered-reads.Asked,
   entered-reads.Learnt,
   body-below t,
@@ -858,20 +707,14 @@ enter-after-requires-2 : (t : ℕ) → enter-lts.Need-after-requires-2 (
   returned-reads.Asked,
   returned-reads.Learnt,
 ) (enter-at t) enter.Post
-enter-after-requires-2 t c κs = search (statement-laws, needs)
+enter-after-requires t c κs = search (statement-laws, needs)
 
--- src/statements.rt:208:9
+-- src/statements.rt:200:9
 enter-entered-requires : (t : ℕ) → enter-lts.Need-entered-requires (
   stop-reads.Asked,
   stop-reads.Learnt,
   macro-at-reads.Asked,
   macro-at-reads.Learnt,
-  params-at-reads.Asked,
-  params-at-reads.Learnt,
-  after-reads.Asked,
-  after-reads.Learnt,
-  bind-params-reads.Asked,
-  bind-params-reads.Learnt,
   wrapping-add-u64-reads.Asked,
   wrapping-add-u64-reads.Learnt,
   body-at-reads.Asked,
@@ -882,6 +725,8 @@ enter-entered-requires : (t : ℕ) → enter-lts.Need-entered-requires (
   macro-env-reads.Learnt,
   first-ordinal-reads.Asked,
   first-ordinal-reads.Learnt,
+  after-reads.Asked,
+  after-reads.Learnt,
   entered-reads.Asked,
   entered-reads.Learnt,
   body-below t,
@@ -891,18 +736,12 @@ enter-entered-requires : (t : ℕ) → enter-lts.Need-entered-requires (
 ) (enter-at t) enter.Post
 enter-entered-requires t c κs = search (statement-laws, needs)
 
--- src/statements.rt:209:9
+-- src/statements.rt:201:9
 enter-body-requires : (t : ℕ) → enter-lts.Need-body-requires (
   stop-reads.Asked,
   stop-reads.Learnt,
   macro-at-reads.Asked,
   macro-at-reads.Learnt,
-  params-at-reads.Asked,
-  params-at-reads.Learnt,
-  after-reads.Asked,
-  after-reads.Learnt,
-  bind-params-reads.Asked,
-  bind-params-reads.Learnt,
   wrapping-add-u64-reads.Asked,
   wrapping-add-u64-reads.Learnt,
   body-at-reads.Asked,
@@ -913,6 +752,8 @@ enter-body-requires : (t : ℕ) → enter-lts.Need-body-requires (
   macro-env-reads.Learnt,
   first-ordinal-reads.Asked,
   first-ordinal-reads.Learnt,
+  after-reads.Asked,
+  after-reads.Learnt,
   entered-reads.Asked,
   entered-reads.Learnt,
   body-below t,
@@ -920,20 +761,14 @@ enter-body-requires : (t : ℕ) → enter-lts.Need-body-requires (
   returned-reads.Asked,
   returned-reads.Learnt,
 ) (enter-at t) enter.Post
-enter-body-requires t c κs = search (c .before .before .before .before .before .before .before .before .before .before .before .before .before .before .before .before .before .if1 .left, c .before .before .before .before .before .before .before .before .before .before .before .before .before .before .before .before .before .before .before .before .before .before .before .before .pre, needs)
+enter-body-requires t c κs = search (c .before .before .before .before .before .before .before .before .before .before .before .if1 .left, c .before .before .before .before .before .before .before .before .before .before .before .before .before .before .before .before .before .before .pre, needs)
 
--- src/statements.rt:210:5
+-- src/statements.rt:202:5
 enter-returned-requires : (t : ℕ) → enter-lts.Need-returned-requires (
   stop-reads.Asked,
   stop-reads.Learnt,
   macro-at-reads.Asked,
   macro-at-reads.Learnt,
-  params-at-reads.Asked,
-  params-at-reads.Learnt,
-  after-reads.Asked,
-  after-reads.Learnt,
-  bind-params-reads.Asked,
-  bind-params-reads.Learnt,
   wrapping-add-u64-reads.Asked,
   wrapping-add-u64-reads.Learnt,
   body-at-reads.Asked,
@@ -944,6 +779,8 @@ enter-returned-requires : (t : ℕ) → enter-lts.Need-returned-requires (
   macro-env-reads.Learnt,
   first-ordinal-reads.Asked,
   first-ordinal-reads.Learnt,
+  after-reads.Asked,
+  after-reads.Learnt,
   entered-reads.Asked,
   entered-reads.Learnt,
   body-below t,
@@ -953,18 +790,12 @@ enter-returned-requires : (t : ℕ) → enter-lts.Need-returned-requires (
 ) (enter-at t) enter.Post
 enter-returned-requires t c κs = search (statement-laws, needs)
 
--- src/statements.rt:178:1
+-- src/statements.rt:172:1
 enter-same-length : (t : ℕ) → enter-lts.Need-same-length (
   stop-reads.Asked,
   stop-reads.Learnt,
   macro-at-reads.Asked,
   macro-at-reads.Learnt,
-  params-at-reads.Asked,
-  params-at-reads.Learnt,
-  after-reads.Asked,
-  after-reads.Learnt,
-  bind-params-reads.Asked,
-  bind-params-reads.Learnt,
   wrapping-add-u64-reads.Asked,
   wrapping-add-u64-reads.Learnt,
   body-at-reads.Asked,
@@ -975,6 +806,8 @@ enter-same-length : (t : ℕ) → enter-lts.Need-same-length (
   macro-env-reads.Learnt,
   first-ordinal-reads.Asked,
   first-ordinal-reads.Learnt,
+  after-reads.Asked,
+  after-reads.Learnt,
   entered-reads.Asked,
   entered-reads.Learnt,
   body-below t,
@@ -982,20 +815,14 @@ enter-same-length : (t : ℕ) → enter-lts.Need-same-length (
   returned-reads.Asked,
   returned-reads.Learnt,
 ) (enter-at t) enter.Post
-enter-same-length t c = search (c .before .before .before .before .before .before .p2 .given, c .before .before .before .before .before .before .before .before .before .before .before .before .before .before .before .before .before .before .before .p .given, needs)
+enter-same-length t c = search (statement-laws, needs)
 
--- src/statements.rt:178:1
+-- src/statements.rt:172:1
 enter-same-length-2 : (t : ℕ) → enter-lts.Need-same-length-2 (
   stop-reads.Asked,
   stop-reads.Learnt,
   macro-at-reads.Asked,
   macro-at-reads.Learnt,
-  params-at-reads.Asked,
-  params-at-reads.Learnt,
-  after-reads.Asked,
-  after-reads.Learnt,
-  bind-params-reads.Asked,
-  bind-params-reads.Learnt,
   wrapping-add-u64-reads.Asked,
   wrapping-add-u64-reads.Learnt,
   body-at-reads.Asked,
@@ -1006,6 +833,8 @@ enter-same-length-2 : (t : ℕ) → enter-lts.Need-same-length-2 (
   macro-env-reads.Learnt,
   first-ordinal-reads.Asked,
   first-ordinal-reads.Learnt,
+  after-reads.Asked,
+  after-reads.Learnt,
   entered-reads.Asked,
   entered-reads.Learnt,
   body-below t,
@@ -1015,18 +844,12 @@ enter-same-length-2 : (t : ℕ) → enter-lts.Need-same-length-2 (
 ) (enter-at t) enter.Post
 enter-same-length-2 t c = search (statement-laws, needs)
 
--- src/statements.rt:178:1
+-- src/statements.rt:172:1
 enter-same-length-3 : (t : ℕ) → enter-lts.Need-same-length-3 (
   stop-reads.Asked,
   stop-reads.Learnt,
   macro-at-reads.Asked,
   macro-at-reads.Learnt,
-  params-at-reads.Asked,
-  params-at-reads.Learnt,
-  after-reads.Asked,
-  after-reads.Learnt,
-  bind-params-reads.Asked,
-  bind-params-reads.Learnt,
   wrapping-add-u64-reads.Asked,
   wrapping-add-u64-reads.Learnt,
   body-at-reads.Asked,
@@ -1037,6 +860,8 @@ enter-same-length-3 : (t : ℕ) → enter-lts.Need-same-length-3 (
   macro-env-reads.Learnt,
   first-ordinal-reads.Asked,
   first-ordinal-reads.Learnt,
+  after-reads.Asked,
+  after-reads.Learnt,
   entered-reads.Asked,
   entered-reads.Learnt,
   body-below t,
@@ -1046,18 +871,12 @@ enter-same-length-3 : (t : ℕ) → enter-lts.Need-same-length-3 (
 ) (enter-at t) enter.Post
 enter-same-length-3 t c = search (statement-laws, needs)
 
--- src/statements.rt:178:1
+-- src/statements.rt:172:1
 enter-returns-2 : (t : ℕ) → enter-lts.Need-returns-2 (
   stop-reads.Asked,
   stop-reads.Learnt,
   macro-at-reads.Asked,
   macro-at-reads.Learnt,
-  params-at-reads.Asked,
-  params-at-reads.Learnt,
-  after-reads.Asked,
-  after-reads.Learnt,
-  bind-params-reads.Asked,
-  bind-params-reads.Learnt,
   wrapping-add-u64-reads.Asked,
   wrapping-add-u64-reads.Learnt,
   body-at-reads.Asked,
@@ -1068,6 +887,8 @@ enter-returns-2 : (t : ℕ) → enter-lts.Need-returns-2 (
   macro-env-reads.Learnt,
   first-ordinal-reads.Asked,
   first-ordinal-reads.Learnt,
+  after-reads.Asked,
+  after-reads.Learnt,
   entered-reads.Asked,
   entered-reads.Learnt,
   body-below t,
@@ -1075,9 +896,9 @@ enter-returns-2 : (t : ℕ) → enter-lts.Need-returns-2 (
   returned-reads.Asked,
   returned-reads.Learnt,
 ) (enter-at t) enter.Post
-enter-returns-2 t c = enter-body _ _ _ _ _ _ _ _ _ _ _ _ _ _ _ _ _ _ _ _ _ _ _ _ _ _ _ _ _ (c .before .before .before .before .before .before .before .before .before .before .before .before .before .before .before .before .before .before .before .before .before .before .before .before .before .if1 .left) (c .before .before .before .before .before .before .before .before .before .before .before .before .before .before .before .before .before .before .before .before .before .before .before .before .macro-at .ensures) (c .before .before .before .before .before .before .before .before .before .before .before .before .before .before .before .before .before .before .before .before .before .before .before .params-at .ensures) (c .before .before .before .before .before .before .before .before .before .before .before .before .before .before .before .before .before .before .before .before .before .after .ensures) (c .before .before .before .before .before .before .before .before .before .before .before .before .before .before .before .before .before .before .before .before .bind-params .ensures) (c .before .before .before .before .before .before .before .before .before .before .before .before .before .before .before .before .before .wrapping-add-u64 .ensures) (c .before .before .before .before .before .before .before .before .before .before .before .before .before .before .before .before .body-at .ensures) (c .before .before .before .before .before .before .before .before .before .before .before .before .before .before .before .u16-in .ensures) (c .before .before .before .before .before .before .before .before .before .before .before .before .before .before .macro-env .ensures) (c .before .before .before .before .before .before .before .before .before .before .before .before .before .first-ordinal .ensures) (c .before .before .before .before .before .before .before .before .before .before .before .before .after2 .ensures) (c .before .before .before .before .before .before .before .before .before .before .before .entered .ensures) (c .before .before .before .before .before .before .before .body .ensures) (c .returned .ensures)
+enter-returns-2 t c = enter-body _ _ _ _ _ _ _ _ _ _ _ _ _ _ _ _ _ _ _ _ _ _ _ _ _ _ (c .before .before .before .before .before .before .before .before .before .before .before .before .before .before .before .before .before .before .before .if1 .left) (c .before .before .before .before .before .before .before .before .before .before .before .before .before .before .before .before .before .before .macro-at .ensures) (c .before .before .before .before .before .before .before .before .before .before .before .before .before .before .before .before .before .wrapping-add-u64 .ensures) (c .before .before .before .before .before .before .before .before .before .before .before .before .before .before .before .before .body-at .ensures) (c .before .before .before .before .before .before .before .before .before .before .before .before .before .before .before .u16-in .ensures) (c .before .before .before .before .before .before .before .before .before .before .before .before .before .before .macro-env .ensures) (c .before .before .before .before .before .before .before .before .before .before .before .before .before .first-ordinal .ensures) (c .before .before .before .before .before .before .before .before .before .before .before .before .after .ensures) (c .before .before .before .before .before .before .before .before .before .before .before .entered .ensures) (c .before .before .before .before .before .before .before .body .ensures) (c .returned .ensures)
 
--- src/statements.rt:229:37
+-- src/statements.rt:222:37
 macro-statement-slice-aggregate-macro-args :
     (t : ℕ) → macro-statement-lts.Need-slice-aggregate-macro-args (
       macro-args-reads.Asked,
@@ -1089,7 +910,7 @@ macro-statement-slice-aggregate-macro-args :
     ) (macro-statement-at t) macro-statement.Post
 macro-statement-slice-aggregate-macro-args t c = search (statement-laws, needs)
 
--- src/statements.rt:229:11
+-- src/statements.rt:222:11
 macro-statement-macro-args-requires : (t : ℕ) → macro-statement-lts.Need-macro-args-requires (
   macro-args-reads.Asked,
   macro-args-reads.Learnt,
@@ -1100,7 +921,7 @@ macro-statement-macro-args-requires : (t : ℕ) → macro-statement-lts.Need-mac
 ) (macro-statement-at t) macro-statement.Post
 macro-statement-macro-args-requires t c κs = search (statement-laws, needs)
 
--- src/statements.rt:230:18
+-- src/statements.rt:223:18
 macro-statement-enum-known-k : (t : ℕ) → macro-statement-lts.Need-enum-known-k (
   macro-args-reads.Asked,
   macro-args-reads.Learnt,
@@ -1111,7 +932,7 @@ macro-statement-enum-known-k : (t : ℕ) → macro-statement-lts.Need-enum-known
 ) (macro-statement-at t) macro-statement.Post
 macro-statement-enum-known-k t c = search (statement-laws, needs)
 
--- src/statements.rt:230:24
+-- src/statements.rt:223:24
 macro-statement-stop-requires : (t : ℕ) → macro-statement-lts.Need-stop-requires (
   macro-args-reads.Asked,
   macro-args-reads.Learnt,
@@ -1122,7 +943,7 @@ macro-statement-stop-requires : (t : ℕ) → macro-statement-lts.Need-stop-requ
 ) (macro-statement-at t) macro-statement.Post
 macro-statement-stop-requires t c κs = search (statement-laws, needs)
 
--- src/statements.rt:231:22
+-- src/statements.rt:224:22
 macro-statement-enum-known-next : (t : ℕ) → macro-statement-lts.Need-enum-known-next (
   macro-args-reads.Asked,
   macro-args-reads.Learnt,
@@ -1133,7 +954,7 @@ macro-statement-enum-known-next : (t : ℕ) → macro-statement-lts.Need-enum-kn
 ) (macro-statement-at t) macro-statement.Post
 macro-statement-enum-known-next t c = search (statement-laws, needs)
 
--- src/statements.rt:231:70
+-- src/statements.rt:224:70
 macro-statement-slice-aggregate-enter : (t : ℕ) → macro-statement-lts.Need-slice-aggregate-enter (
   macro-args-reads.Asked,
   macro-args-reads.Learnt,
@@ -1144,7 +965,7 @@ macro-statement-slice-aggregate-enter : (t : ℕ) → macro-statement-lts.Need-s
 ) (macro-statement-at t) macro-statement.Post
 macro-statement-slice-aggregate-enter t c = search (statement-laws, needs)
 
--- src/statements.rt:231:36
+-- src/statements.rt:224:36
 macro-statement-enter-requires : (t : ℕ) → macro-statement-lts.Need-enter-requires (
   macro-args-reads.Asked,
   macro-args-reads.Learnt,
@@ -1155,7 +976,7 @@ macro-statement-enter-requires : (t : ℕ) → macro-statement-lts.Need-enter-re
 ) (macro-statement-at t) macro-statement.Post
 macro-statement-enter-requires t c κs = search (statement-laws, needs)
 
--- src/statements.rt:213:1
+-- src/statements.rt:205:1
 macro-statement-same-length : (t : ℕ) → macro-statement-lts.Need-same-length (
   macro-args-reads.Asked,
   macro-args-reads.Learnt,
@@ -1166,7 +987,7 @@ macro-statement-same-length : (t : ℕ) → macro-statement-lts.Need-same-length
 ) (macro-statement-at t) macro-statement.Post
 macro-statement-same-length t c = search (statement-laws, needs)
 
--- src/statements.rt:213:1
+-- src/statements.rt:205:1
 macro-statement-same-length-2 : (t : ℕ) → macro-statement-lts.Need-same-length-2 (
   macro-args-reads.Asked,
   macro-args-reads.Learnt,
@@ -1177,18 +998,7 @@ macro-statement-same-length-2 : (t : ℕ) → macro-statement-lts.Need-same-leng
 ) (macro-statement-at t) macro-statement.Post
 macro-statement-same-length-2 t c = search (statement-laws, needs)
 
--- src/statements.rt:213:1
-macro-statement-same-length-3 : (t : ℕ) → macro-statement-lts.Need-same-length-3 (
-  macro-args-reads.Asked,
-  macro-args-reads.Learnt,
-  stop-reads.Asked,
-  stop-reads.Learnt,
-  enter-below t,
-  enter.Post,
-) (macro-statement-at t) macro-statement.Post
-macro-statement-same-length-3 t c = search (statement-laws, needs)
-
--- src/statements.rt:213:1
+-- src/statements.rt:205:1
 macro-statement-returns : (t : ℕ) → macro-statement-lts.Need-returns (
   macro-args-reads.Asked,
   macro-args-reads.Learnt,
@@ -1199,7 +1009,18 @@ macro-statement-returns : (t : ℕ) → macro-statement-lts.Need-returns (
 ) (macro-statement-at t) macro-statement.Post
 macro-statement-returns t c = search (statement-laws, needs)
 
--- src/statements.rt:213:1
+-- src/statements.rt:205:1
+macro-statement-same-length-3 : (t : ℕ) → macro-statement-lts.Need-same-length-3 (
+  macro-args-reads.Asked,
+  macro-args-reads.Learnt,
+  stop-reads.Asked,
+  stop-reads.Learnt,
+  enter-below t,
+  enter.Post,
+) (macro-statement-at t) macro-statement.Post
+macro-statement-same-length-3 t c = search (statement-laws, needs)
+
+-- src/statements.rt:205:1
 macro-statement-same-length-4 : (t : ℕ) → macro-statement-lts.Need-same-length-4 (
   macro-args-reads.Asked,
   macro-args-reads.Learnt,
@@ -1210,7 +1031,7 @@ macro-statement-same-length-4 : (t : ℕ) → macro-statement-lts.Need-same-leng
 ) (macro-statement-at t) macro-statement.Post
 macro-statement-same-length-4 t c = search (statement-laws, needs)
 
--- src/statements.rt:213:1
+-- src/statements.rt:205:1
 macro-statement-same-length-5 : (t : ℕ) → macro-statement-lts.Need-same-length-5 (
   macro-args-reads.Asked,
   macro-args-reads.Learnt,
@@ -1221,18 +1042,7 @@ macro-statement-same-length-5 : (t : ℕ) → macro-statement-lts.Need-same-leng
 ) (macro-statement-at t) macro-statement.Post
 macro-statement-same-length-5 t c = search (statement-laws, needs)
 
--- src/statements.rt:213:1
-macro-statement-same-length-6 : (t : ℕ) → macro-statement-lts.Need-same-length-6 (
-  macro-args-reads.Asked,
-  macro-args-reads.Learnt,
-  stop-reads.Asked,
-  stop-reads.Learnt,
-  enter-below t,
-  enter.Post,
-) (macro-statement-at t) macro-statement.Post
-macro-statement-same-length-6 t c = search (statement-laws, needs)
-
--- src/statements.rt:213:1
+-- src/statements.rt:205:1
 macro-statement-returns-2 : (t : ℕ) → macro-statement-lts.Need-returns-2 (
   macro-args-reads.Asked,
   macro-args-reads.Learnt,
@@ -1243,7 +1053,7 @@ macro-statement-returns-2 : (t : ℕ) → macro-statement-lts.Need-returns-2 (
 ) (macro-statement-at t) macro-statement.Post
 macro-statement-returns-2 t c = search (statement-laws, needs)
 
--- src/statements.rt:270:11
+-- src/statements.rt:265:11
 statement-begin-requires : (t : ℕ) → statement-lts.Need-begin-requires (
   begin-reads.Asked,
   begin-reads.Learnt,
@@ -1256,7 +1066,7 @@ statement-begin-requires : (t : ℕ) → statement-lts.Need-begin-requires (
 ) (statement-at t) statement′.Post
 statement-begin-requires t c κs = search (statement-laws, needs)
 
--- src/statements.rt:272:13
+-- src/statements.rt:267:13
 statement-enum-known-refusal : (t : ℕ) → statement-lts.Need-enum-known-refusal (
   begin-reads.Asked,
   begin-reads.Learnt,
@@ -1269,7 +1079,7 @@ statement-enum-known-refusal : (t : ℕ) → statement-lts.Need-enum-known-refus
 ) (statement-at t) statement′.Post
 statement-enum-known-refusal t c = search (statement-laws, needs)
 
--- src/statements.rt:278:34
+-- src/statements.rt:273:34
 statement-enum-known-b : (t : ℕ) → statement-lts.Need-enum-known-b (
   begin-reads.Asked,
   begin-reads.Learnt,
@@ -1282,7 +1092,7 @@ statement-enum-known-b : (t : ℕ) → statement-lts.Need-enum-known-b (
 ) (statement-at t) statement′.Post
 statement-enum-known-b t c = search (statement-laws, needs)
 
--- src/statements.rt:279:17
+-- src/statements.rt:274:17
 statement-byte-requires : (t : ℕ) → statement-lts.Need-byte-requires (
   begin-reads.Asked,
   begin-reads.Learnt,
@@ -1295,7 +1105,7 @@ statement-byte-requires : (t : ℕ) → statement-lts.Need-byte-requires (
 ) (statement-at t) statement′.Post
 statement-byte-requires t c κs = search (statement-laws, needs)
 
--- src/statements.rt:281:17
+-- src/statements.rt:276:17
 statement-call-statement-requires : (t : ℕ) → statement-lts.Need-call-statement-requires (
   begin-reads.Asked,
   begin-reads.Learnt,
@@ -1308,7 +1118,7 @@ statement-call-statement-requires : (t : ℕ) → statement-lts.Need-call-statem
 ) (statement-at t) statement′.Post
 statement-call-statement-requires t c κs = search (statement-laws, needs)
 
--- src/statements.rt:281:17
+-- src/statements.rt:276:17
 statement-same-length : (t : ℕ) → statement-lts.Need-same-length (
   begin-reads.Asked,
   begin-reads.Learnt,
@@ -1321,7 +1131,7 @@ statement-same-length : (t : ℕ) → statement-lts.Need-same-length (
 ) (statement-at t) statement′.Post
 statement-same-length t c = search (statement-laws, needs)
 
--- src/statements.rt:281:17
+-- src/statements.rt:276:17
 statement-same-length-2 : (t : ℕ) → statement-lts.Need-same-length-2 (
   begin-reads.Asked,
   begin-reads.Learnt,
@@ -1334,7 +1144,7 @@ statement-same-length-2 : (t : ℕ) → statement-lts.Need-same-length-2 (
 ) (statement-at t) statement′.Post
 statement-same-length-2 t c = search (statement-laws, needs)
 
--- src/statements.rt:281:17
+-- src/statements.rt:276:17
 statement-same-length-3 : (t : ℕ) → statement-lts.Need-same-length-3 (
   begin-reads.Asked,
   begin-reads.Learnt,
@@ -1347,7 +1157,7 @@ statement-same-length-3 : (t : ℕ) → statement-lts.Need-same-length-3 (
 ) (statement-at t) statement′.Post
 statement-same-length-3 t c = search (statement-laws, needs)
 
--- src/statements.rt:281:17
+-- src/statements.rt:276:17
 statement-returns : (t : ℕ) → statement-lts.Need-returns (
   begin-reads.Asked,
   begin-reads.Learnt,
@@ -1360,7 +1170,7 @@ statement-returns : (t : ℕ) → statement-lts.Need-returns (
 ) (statement-at t) statement′.Post
 statement-returns t c = search (statement-laws, needs)
 
--- src/statements.rt:283:13
+-- src/statements.rt:278:13
 statement-other-statement-requires : (t : ℕ) → statement-lts.Need-other-statement-requires (
   begin-reads.Asked,
   begin-reads.Learnt,
@@ -1373,7 +1183,7 @@ statement-other-statement-requires : (t : ℕ) → statement-lts.Need-other-stat
 ) (statement-at t) statement′.Post
 statement-other-statement-requires t c κs = search (statement-laws, needs)
 
--- src/statements.rt:256:1
+-- src/statements.rt:250:1
 statement-returns-2 : (t : ℕ) → statement-lts.Need-returns-2 (
   begin-reads.Asked,
   begin-reads.Learnt,
@@ -1386,7 +1196,7 @@ statement-returns-2 : (t : ℕ) → statement-lts.Need-returns-2 (
 ) (statement-at t) statement′.Post
 statement-returns-2 t c = search (statement-laws, needs)
 
--- src/statements.rt:256:1
+-- src/statements.rt:250:1
 statement-same-length-4 : (t : ℕ) → statement-lts.Need-same-length-4 (
   begin-reads.Asked,
   begin-reads.Learnt,
@@ -1399,7 +1209,7 @@ statement-same-length-4 : (t : ℕ) → statement-lts.Need-same-length-4 (
 ) (statement-at t) statement′.Post
 statement-same-length-4 t c = search (statement-laws, needs)
 
--- src/statements.rt:256:1
+-- src/statements.rt:250:1
 statement-same-length-5 : (t : ℕ) → statement-lts.Need-same-length-5 (
   begin-reads.Asked,
   begin-reads.Learnt,
@@ -1412,7 +1222,7 @@ statement-same-length-5 : (t : ℕ) → statement-lts.Need-same-length-5 (
 ) (statement-at t) statement′.Post
 statement-same-length-5 t c = search (statement-laws, needs)
 
--- src/statements.rt:256:1
+-- src/statements.rt:250:1
 statement-same-length-6 : (t : ℕ) → statement-lts.Need-same-length-6 (
   begin-reads.Asked,
   begin-reads.Learnt,
@@ -1425,7 +1235,7 @@ statement-same-length-6 : (t : ℕ) → statement-lts.Need-same-length-6 (
 ) (statement-at t) statement′.Post
 statement-same-length-6 t c = search (statement-laws, needs)
 
--- src/statements.rt:256:1
+-- src/statements.rt:250:1
 statement-returns-3 : (t : ℕ) → statement-lts.Need-returns-3 (
   begin-reads.Asked,
   begin-reads.Learnt,
@@ -1491,19 +1301,12 @@ pub +body+call-statement+enter+macro-statement+statement-spec : {M : Type 1} →
     (call-statement-other-call-requires t)
     (call-statement-same-length-4 t)
     (call-statement-same-length-5 t)
-    (call-statement-same-length-6 t)
     (call-statement-returns-2 t))
     (λ t. enter-lts.spec (
       stop-reads.Asked,
       stop-reads.Learnt,
       macro-at-reads.Asked,
       macro-at-reads.Learnt,
-      params-at-reads.Asked,
-      params-at-reads.Learnt,
-      after-reads.Asked,
-      after-reads.Learnt,
-      bind-params-reads.Asked,
-      bind-params-reads.Learnt,
       wrapping-add-u64-reads.Asked,
       wrapping-add-u64-reads.Learnt,
       body-at-reads.Asked,
@@ -1514,6 +1317,8 @@ pub +body+call-statement+enter+macro-statement+statement-spec : {M : Type 1} →
       macro-env-reads.Learnt,
       first-ordinal-reads.Asked,
       first-ordinal-reads.Learnt,
+      after-reads.Asked,
+      after-reads.Learnt,
       entered-reads.Asked,
       entered-reads.Learnt,
       body-below t,
@@ -1526,16 +1331,13 @@ pub +body+call-statement+enter+macro-statement+statement-spec : {M : Type 1} →
     (enter-stop-requires t)
     (enter-returns t)
     (enter-macro-at-requires t)
-    (enter-params-at-requires t)
-    (enter-after-requires t)
-    (enter-bind-params-requires t)
     (enter-wrapping-add-u64-requires t)
     (enter-body-at-requires t)
     (enter-u16-in-requires t)
     (enter-macro-env-requires t)
     (enter-first-ordinal-requires t)
     (enter-sub-below t)
-    (enter-after-requires-2 t)
+    (enter-after-requires t)
     (enter-entered-requires t)
     (enter-body-requires t)
     (enter-returned-requires t)
@@ -1562,11 +1364,10 @@ pub +body+call-statement+enter+macro-statement+statement-spec : {M : Type 1} →
     (macro-statement-enter-requires t)
     (macro-statement-same-length t)
     (macro-statement-same-length-2 t)
-    (macro-statement-same-length-3 t)
     (macro-statement-returns t)
+    (macro-statement-same-length-3 t)
     (macro-statement-same-length-4 t)
     (macro-statement-same-length-5 t)
-    (macro-statement-same-length-6 t)
     (macro-statement-returns-2 t))
     λ t. statement-lts.spec (
       begin-reads.Asked,

@@ -3,7 +3,7 @@ use Rattle.jumps.proofs.labels.get_or_insert_label.Statement.{statement
 use Rattle.jumps.proofs.labels.get_or_insert_label.Tie as tie
 use Rattle.jumps.proofs.labels.get_or_insert_label.Reads as reads
 use Rattle.jumps.proofs.labels.get_or_insert_label.Lts as lts
-use Rattle.pcode.proofs.value.put.Reads as put-reads
+use Rattle.jumps.proofs.labels.put_label.Reads as put-label-reads
 use Rattle.jumps.proofs.labels.find_label.Reads as find-label-reads
 use Rattle.jumps.proofs.labels.key.Reads as key-reads
 use Rattle.jumps.proofs.LabelLaws.{label-laws}
@@ -33,8 +33,8 @@ returns-2 : tie.Need-returns-2
 returns-2 c = search (label-laws, needs)
 
 -- src/labels.rt:48:5
-put-requires : tie.Need-put-requires
-put-requires c κs = search needs
+put-label-requires : tie.Need-put-label-requires
+put-label-requires c κs = search needs
 
 -- src/labels.rt:37:1
 same-length-3 : tie.Need-same-length-3
@@ -54,6 +54,6 @@ get-or-insert-label-spec =
     returns
     same-length-2
     returns-2
-    put-requires
+    put-label-requires
     same-length-3
     returns-3)

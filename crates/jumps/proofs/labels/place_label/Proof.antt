@@ -3,14 +3,14 @@ use Rattle.jumps.proofs.labels.place_label.Statement.{statement}
 use Rattle.jumps.proofs.labels.place_label.Tie as tie
 use Rattle.jumps.proofs.labels.place_label.Reads as reads
 use Rattle.jumps.proofs.labels.place_label.Lts as lts
-use Rattle.pcode.proofs.value.get.Reads as get-reads
-use Rattle.pcode.proofs.value.put.Reads as put-reads
+use Rattle.jumps.proofs.labels.label_at.Reads as label-at-reads
+use Rattle.jumps.proofs.labels.put_label.Reads as put-label-reads
 use Rattle.jumps.proofs.labels.key.Reads as key-reads
 use Rattle.jumps.proofs.LabelLaws.{label-laws}
 
 -- src/labels.rt:55:22
-get-requires : tie.Need-get-requires
-get-requires c κs = search needs
+label-at-requires : tie.Need-label-at-requires
+label-at-requires c κs = search needs
 
 -- src/labels.rt:56:9
 same-length : tie.Need-same-length
@@ -25,12 +25,12 @@ key-requires : tie.Need-key-requires
 key-requires c κs = search needs
 
 -- src/labels.rt:58:31
-add-put : tie.Need-add-put
-add-put c = search needs
+add-put-label : tie.Need-add-put-label
+add-put-label c = search needs
 
 -- src/labels.rt:58:5
-put-requires : tie.Need-put-requires
-put-requires c κs = search needs
+put-label-requires : tie.Need-put-label-requires
+put-label-requires c κs = search needs
 
 -- src/labels.rt:52:1
 same-length-2 : tie.Need-same-length-2
@@ -44,11 +44,11 @@ pub place-label-spec : {M : Type 1} → statement M
 place-label-spec =
     tie.close
     (tie.spec
-    get-requires
+    label-at-requires
     same-length
     returns
     key-requires
-    add-put
-    put-requires
+    add-put-label
+    put-label-requires
     same-length-2
     returns-2)
