@@ -1,5 +1,6 @@
 // Copies: the target is a local, a place in RAM or a range of bits, which keeps the bits around it.
 use crate::stores::store;
+use cells::u16_in;
 use expression::expr::Expr;
 use expression::expr::after;
 use expression::expr::resolve_expr;
@@ -13,7 +14,6 @@ use meaning::scope::Meaning;
 use meaning::scope::named_tmp;
 use meaning::scope::plain_local;
 use meaning::scope::resolve_ident;
-use meaning::scope::u16_in;
 use pcode::sizes::size_of;
 use pcode::value::Value;
 use pcode::value::absent;
@@ -46,7 +46,7 @@ fn mask_but(from: u64, bits: u64) -> u64
 // The bits of the value shifted to their place, and merged with the rest.
 fn merge_bits(
     s: &[u8],
-    t: &[u16],
+    t: &[u16; 3344],
     a: &mut [u64],
     m: &mut [u64],
     e: Env,
@@ -66,7 +66,7 @@ fn merge_bits(
 
 fn extend_bits(
     s: &[u8],
-    t: &[u16],
+    t: &[u16; 3344],
     a: &mut [u64],
     m: &mut [u64],
     e: Env,
@@ -98,7 +98,7 @@ fn extend_bits(
 
 fn insert_in(
     s: &[u8],
-    t: &[u16],
+    t: &[u16; 3344],
     a: &mut [u64],
     m: &mut [u64],
     e: Env,
@@ -120,7 +120,7 @@ fn insert_in(
 
 fn insert_bits(
     s: &[u8],
-    t: &[u16],
+    t: &[u16; 3344],
     a: &mut [u64],
     m: &mut [u64],
     e: Env,
@@ -156,7 +156,7 @@ fn insert_bits(
 // The bits of the target that stay, in a temporary; then those of the value.
 fn keep_bits(
     s: &[u8],
-    t: &[u16],
+    t: &[u16; 3344],
     a: &mut [u64],
     m: &mut [u64],
     e: Env,
@@ -191,7 +191,7 @@ fn keep_bits(
 
 fn write_bits(
     s: &[u8],
-    t: &[u16],
+    t: &[u16; 3344],
     a: &mut [u64],
     m: &mut [u64],
     e: Env,
@@ -215,7 +215,7 @@ fn write_bits(
 
 fn copy_bits(
     s: &[u8],
-    t: &[u16],
+    t: &[u16; 3344],
     a: &mut [u64],
     m: &mut [u64],
     e: Env,
@@ -235,7 +235,7 @@ fn copy_bits(
 
 fn copy_bytes(
     s: &[u8],
-    t: &[u16],
+    t: &[u16; 3344],
     a: &mut [u64],
     m: &mut [u64],
     e: Env,
@@ -255,7 +255,7 @@ fn copy_bytes(
 
 fn copy_range(
     s: &[u8],
-    t: &[u16],
+    t: &[u16; 3344],
     a: &mut [u64],
     m: &mut [u64],
     e: Env,
@@ -275,7 +275,7 @@ fn copy_range(
 
 fn copy_ram(
     s: &[u8],
-    t: &[u16],
+    t: &[u16; 3344],
     a: &mut [u64],
     m: &mut [u64],
     e: Env,
@@ -296,7 +296,7 @@ fn copy_ram(
 
 fn copy_into(
     s: &[u8],
-    t: &[u16],
+    t: &[u16; 3344],
     a: &mut [u64],
     m: &mut [u64],
     e: Env,
@@ -366,7 +366,15 @@ fn after_target(s: &[u8], pos: usize) -> usize
     after(pos, 6)
 }
 
-fn new_target(s: &[u8], t: &[u16], m: &mut [u64], e: Env, pos: usize, name: u64, st: State) -> Expr
+fn new_target(
+    s: &[u8],
+    t: &[u16; 3344],
+    m: &mut [u64],
+    e: Env,
+    pos: usize,
+    name: u64,
+    st: State,
+) -> Expr
     ensures { λ r. ⌜ listed r (now (m .exit)) ≡ newTarget (now (s .entry)) (now (t .entry)) (now (m .entry)) e pos name st ⌝ }
 {
     let size = target_size(s, pos);
@@ -390,7 +398,7 @@ fn is_wrong(r: Meaning) -> bool
     }
 }
 
-fn is_new(s: &[u8], t: &[u16], p: &[u64], m: &[u64], e: Env, st: State, name: u64) -> bool
+fn is_new(s: &[u8], t: &[u16; 3344], p: &[u64], m: &[u64], e: Env, st: State, name: u64) -> bool
     ensures { λ r. ⌜ r ≡ isNew (now (s .entry)) (now (t .entry)) (now (p .entry)) (now (m .entry)) e st name ⌝ }
 {
     if name == 65535 {
@@ -402,7 +410,7 @@ fn is_new(s: &[u8], t: &[u16], p: &[u64], m: &[u64], e: Env, st: State, name: u6
 // A bare name as target: its number as a plain local, 1 where it means nothing or a wrong thing, else 0.
 fn plain_target(
     s: &[u8],
-    t: &[u16],
+    t: &[u16; 3344],
     p: &[u64],
     m: &[u64],
     e: Env,
@@ -424,7 +432,7 @@ fn plain_target(
 // An unknown or disallowed name as target becomes a temporary.
 fn resolve_dst(
     s: &[u8],
-    t: &[u16],
+    t: &[u16; 3344],
     p: &[u64],
     a: &mut [u64],
     m: &mut [u64],
@@ -454,7 +462,7 @@ fn resolve_dst(
 
 fn copy_target(
     s: &[u8],
-    t: &[u16],
+    t: &[u16; 3344],
     p: &[u64],
     a: &mut [u64],
     m: &mut [u64],
@@ -478,7 +486,7 @@ fn copy_target(
 
 pub fn copy_statement(
     s: &[u8],
-    t: &[u16],
+    t: &[u16; 3344],
     p: &[u64],
     a: &mut [u64],
     m: &mut [u64],

@@ -1,4 +1,5 @@
 // Stores: the value is read before the pointer.
+use cells::u16_in;
 use expression::address::resolve_address;
 use expression::expr::Expr;
 use expression::expr::Operand;
@@ -9,7 +10,6 @@ use expression::expr::skip_expr;
 use meaning::read::set_stated;
 use meaning::read::take_stated;
 use meaning::scope::ExprValue;
-use meaning::scope::u16_in;
 use pcode::value::Value;
 use pcode::value::absent;
 use pcode::value::no_output;
@@ -27,7 +27,7 @@ ghost use Rattle.assignments.specs.Stores.{store, storeRegister, storeAt
 
 pub fn store(
     s: &[u8],
-    t: &[u16],
+    t: &[u16; 3344],
     a: &mut [u64],
     m: &mut [u64],
     e: Env,
@@ -50,7 +50,7 @@ pub fn store(
 
 fn store_register(
     s: &[u8],
-    t: &[u16],
+    t: &[u16; 3344],
     a: &mut [u64],
     m: &mut [u64],
     pointer: Value,
@@ -72,7 +72,7 @@ fn store_register(
 
 fn store_at(
     s: &[u8],
-    t: &[u16],
+    t: &[u16; 3344],
     a: &mut [u64],
     m: &mut [u64],
     e: Env,
@@ -104,7 +104,7 @@ fn store_at(
 
 fn store_in(
     s: &[u8],
-    t: &[u16],
+    t: &[u16; 3344],
     a: &mut [u64],
     m: &mut [u64],
     e: Env,
@@ -131,7 +131,7 @@ fn store_in(
 
 fn store_pointer(
     s: &[u8],
-    t: &[u16],
+    t: &[u16; 3344],
     p: &[u64],
     a: &mut [u64],
     m: &mut [u64],
@@ -156,7 +156,7 @@ fn store_pointer(
 
 pub fn store_statement(
     s: &[u8],
-    t: &[u16],
+    t: &[u16; 3344],
     p: &[u64],
     a: &mut [u64],
     m: &mut [u64],

@@ -1,12 +1,12 @@
 // Statements and macro bodies, which resolve each other: a macro call one level deeper.
 use assignments::copies::copy_statement;
 use assignments::stores::store_statement;
+use cells::u16_in;
 use expression::expr::after;
 use jumps::branches::branch;
 use jumps::branches::cond_branch;
 use jumps::branches::label_statement;
 use meaning::args::Args;
-use meaning::scope::u16_in;
 use pcode::sizes::Sizing;
 use pushing::push::Env;
 use pushing::push::State;
@@ -29,7 +29,7 @@ ghost use Rattle.bodies.specs.Statements.{simple, otherStatement, begun,
 fn simple(
     code: u64,
     s: &[u8],
-    t: &[u16],
+    t: &[u16; 3344],
     p: &[u64],
     a: &mut [u64],
     m: &mut [u64],
@@ -54,7 +54,7 @@ fn simple(
 fn other_statement(
     code: u64,
     s: &[u8],
-    t: &[u16],
+    t: &[u16; 3344],
     p: &[u64],
     l: &mut [u64],
     a: &mut [u64],
@@ -163,7 +163,7 @@ fn body_at(at: usize, n: u64) -> usize
 }
 
 // The ordinal of the first statement of macro number `id`.
-fn first_ordinal(t: &[u16], id: u64) -> u64
+fn first_ordinal(t: &[u16; 3344], id: u64) -> u64
     ensures { λ r. ⌜ r ≡ firstOrdinal (now (t .entry)) id ⌝ }
 {
     cells::get_u16(t, 3200 + (id % 128) as usize) as u64
@@ -172,7 +172,7 @@ fn first_ordinal(t: &[u16], id: u64) -> u64
 fn enter(
     deep: u64,
     s: &[u8],
-    t: &[u16],
+    t: &[u16; 3344],
     l: &mut [u64],
     a: &mut [u64],
     m: &mut [u64],
@@ -205,7 +205,7 @@ fn enter(
 fn macro_statement(
     deep: u64,
     s: &[u8],
-    t: &[u16],
+    t: &[u16; 3344],
     p: &[u64],
     l: &mut [u64],
     a: &mut [u64],
@@ -228,7 +228,7 @@ fn macro_statement(
 fn call_statement(
     deep: u64,
     s: &[u8],
-    t: &[u16],
+    t: &[u16; 3344],
     p: &[u64],
     l: &mut [u64],
     a: &mut [u64],
@@ -250,7 +250,7 @@ fn call_statement(
 fn statement(
     deep: u64,
     s: &[u8],
-    t: &[u16],
+    t: &[u16; 3344],
     p: &[u64],
     l: &mut [u64],
     a: &mut [u64],
@@ -284,7 +284,7 @@ fn statement(
 pub fn body(
     deep: u64,
     s: &[u8],
-    t: &[u16],
+    t: &[u16; 3344],
     p: &[u64],
     l: &mut [u64],
     a: &mut [u64],

@@ -14,19 +14,12 @@ pub struct Counts {
     pub pointer: u64,
 }
 
-fn table_counts(s: &[u8], t: &[u16]) -> Counts
+fn table_counts(s: &[u8], t: &[u16; 3344]) -> Counts
     ensures { λ r. ⌜ r ≡ tableCounts (now (s .entry)) (now (t .entry)) ⌝ }
 {
     let subtables = cells::u16_at(s, 20);
     let pointer = pointer_size(s, t);
     Counts { subtables, pointer }
-}
-
-// The same, where the table is an array.
-fn array_counts(s: &[u8], t: &[u16; 3344]) -> Counts
-    ensures { λ r. ⌜ r ≡ tableCounts (now (s .entry)) (now (t .entry)) ⌝ }
-{
-    table_counts(s, t)
 }
 
 fn stream_counts(s: &[u8]) -> Counts
@@ -40,7 +33,7 @@ fn stream_counts(s: &[u8]) -> Counts
             pointer: 0,
         };
     }
-    array_counts(s, &t)
+    table_counts(s, &t)
 }
 
 // The stream is the first n bytes.

@@ -21,7 +21,7 @@ pub struct Fixed {
 }
 
 // The known size, else the fallback, else an error.
-pub fn fix_size(s: &[u8], t: &[u16], m: &[u64], v: Value, ptr: u64, z: Sizing) -> Fixed
+pub fn fix_size(s: &[u8], t: &[u16; 3344], m: &[u64], v: Value, ptr: u64, z: Sizing) -> Fixed
     ensures { λ r. ⌜ r ≡ fixSize (now (s .entry)) (now (t .entry)) (now (m .entry)) v ptr z ⌝ }
 {
     let known = size_of(s, t, m, v);
@@ -42,7 +42,7 @@ pub fn fix_size(s: &[u8], t: &[u16], m: &[u64], v: Value, ptr: u64, z: Sizing) -
 
 fn fix_operand(
     s: &[u8],
-    t: &[u16],
+    t: &[u16; 3344],
     a: &mut [u64],
     m: &[u64],
     at: usize,
@@ -60,7 +60,7 @@ fn fix_operand(
 
 fn fix_inputs(
     s: &[u8],
-    t: &[u16],
+    t: &[u16; 3344],
     a: &mut [u64],
     m: &[u64],
     at: usize,
@@ -79,7 +79,7 @@ fn fix_inputs(
 
 fn fix_output(
     s: &[u8],
-    t: &[u16],
+    t: &[u16; 3344],
     a: &mut [u64],
     m: &[u64],
     at: usize,
@@ -96,7 +96,7 @@ fn fix_output(
 
 fn fix_operands(
     s: &[u8],
-    t: &[u16],
+    t: &[u16; 3344],
     a: &mut [u64],
     m: &[u64],
     at: usize,
@@ -153,7 +153,7 @@ pub struct Finished {
 
 fn finish_op(
     s: &[u8],
-    t: &[u16],
+    t: &[u16; 3344],
     a: &mut [u64],
     m: &[u64],
     at: usize,
@@ -177,7 +177,7 @@ fn finish_op(
 
 pub fn finish_actions(
     s: &[u8],
-    t: &[u16],
+    t: &[u16; 3344],
     a: &mut [u64],
     m: &[u64],
     base: usize,

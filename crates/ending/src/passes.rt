@@ -7,7 +7,7 @@ ghost use Rattle.ending.specs.Passes.{backwardPass, forwardPass};
 
 pub fn backward_pass(
     s: &[u8],
-    t: &[u16],
+    t: &[u16; 3344],
     a: &mut [u64],
     m: &mut [u64],
     base: usize,
@@ -22,7 +22,7 @@ pub fn backward_pass(
 
 pub fn forward_pass(
     s: &[u8],
-    t: &[u16],
+    t: &[u16; 3344],
     a: &mut [u64],
     m: &mut [u64],
     base: usize,

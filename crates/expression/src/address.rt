@@ -44,13 +44,13 @@ pub enum Space {
     No(u64),
 }
 
-fn kind_of_space(s: &[u8], t: &[u16], i: u64) -> Space
+fn kind_of_space(s: &[u8], t: &[u16; 3344], i: u64) -> Space
     ensures { λ r. ⌜ r ≡ kindOfSpace (now (s .entry)) (now (t .entry)) i ⌝ }
 {
     Space::Kind(cells::byte(s, entry(t, 0, i % 65536 * 5), 2))
 }
 
-fn named_space(s: &[u8], t: &[u16], name: u64) -> Space
+fn named_space(s: &[u8], t: &[u16; 3344], name: u64) -> Space
     ensures { λ r. ⌜ r ≡ namedSpace (now (s .entry)) (now (t .entry)) name ⌝ }
 {
     let g = global(t, name);
@@ -64,7 +64,7 @@ fn named_space(s: &[u8], t: &[u16], name: u64) -> Space
 }
 
 // The named space, else the default one.
-fn resolve_space(s: &[u8], t: &[u16], name: u64) -> Space
+fn resolve_space(s: &[u8], t: &[u16; 3344], name: u64) -> Space
     ensures { λ r. ⌜ r ≡ resolveSpace (now (s .entry)) (now (t .entry)) name ⌝ }
 {
     if name != 65535 {
@@ -106,7 +106,7 @@ fn reference(r: Read, kind: u64, size: u64, next: usize) -> Expr
 
 fn address_in(
     s: &[u8],
-    t: &[u16],
+    t: &[u16; 3344],
     a: &mut [u64],
     m: &mut [u64],
     e: Env,
@@ -127,7 +127,7 @@ fn address_in(
 // In the const space a local or a constant is itself.
 pub fn resolve_address(
     s: &[u8],
-    t: &[u16],
+    t: &[u16; 3344],
     a: &mut [u64],
     m: &mut [u64],
     e: Env,

@@ -50,7 +50,7 @@ fn symbol_of(g: u64) -> Callee
     Callee { kind: 3, number: 0 }
 }
 
-fn inbuilt_or(f: Inbuilt, t: &[u16], name: u64, n: u64) -> Callee
+fn inbuilt_or(f: Inbuilt, t: &[u16; 3344], name: u64, n: u64) -> Callee
     ensures { λ r. ⌜ r ≡ inbuiltOr f (global (now (t .entry)) name) n ⌝ }
 {
     if f.arguments == 0 {
@@ -68,7 +68,7 @@ fn inbuilt_or(f: Inbuilt, t: &[u16], name: u64, n: u64) -> Callee
     }
 }
 
-pub fn callee_of(s: &[u8], t: &[u16], name: u64, n: u64) -> Callee
+pub fn callee_of(s: &[u8], t: &[u16; 3344], name: u64, n: u64) -> Callee
     ensures { λ r. ⌜ r ≡ calleeOf (now (s .entry)) (now (t .entry)) name n ⌝ }
 {
     let at = cells::get_u16(t, (name % 1024) as usize) as usize;
@@ -77,7 +77,7 @@ pub fn callee_of(s: &[u8], t: &[u16], name: u64, n: u64) -> Callee
 
 fn pass_arg(
     s: &[u8],
-    t: &[u16],
+    t: &[u16; 3344],
     a: &mut [u64],
     m: &mut [u64],
     x: ExprValue,
@@ -109,7 +109,7 @@ fn pass_arg(
 // The arguments from the third on, each followed by its Arg.
 fn pass_args(
     s: &[u8],
-    t: &[u16],
+    t: &[u16; 3344],
     a: &mut [u64],
     m: &mut [u64],
     args: &[u64],
@@ -150,7 +150,7 @@ pub fn applied(op: u64, number: u64, count: u64, a: Value, b: Value, next: usize
 
 fn user_op_two(
     s: &[u8],
-    t: &[u16],
+    t: &[u16; 3344],
     a: &mut [u64],
     m: &mut [u64],
     args: &[u64],
@@ -170,7 +170,7 @@ fn user_op_two(
 
 fn user_op_some(
     s: &[u8],
-    t: &[u16],
+    t: &[u16; 3344],
     a: &mut [u64],
     m: &mut [u64],
     args: &[u64],
@@ -196,7 +196,7 @@ fn user_op_some(
 // A user op of n arguments that are resolved.
 pub fn call_user_op(
     s: &[u8],
-    t: &[u16],
+    t: &[u16; 3344],
     a: &mut [u64],
     m: &mut [u64],
     args: &[u64],
@@ -249,7 +249,7 @@ fn subpiece_of(s: &[u8], pos: usize, n: u64, r: Read) -> Expr
 
 pub fn subpiece(
     s: &[u8],
-    t: &[u16],
+    t: &[u16; 3344],
     p: &[u64],
     a: &mut [u64],
     m: &mut [u64],

@@ -5,6 +5,7 @@ use crate::calls::call_user_op;
 use crate::calls::callee_of;
 use crate::calls::subpiece;
 use crate::slices::slice_bits;
+use cells::u16_in;
 use meaning::args::Args;
 use meaning::args::put_arg;
 use meaning::read::constant;
@@ -13,7 +14,6 @@ use meaning::scope::ExprValue;
 use meaning::scope::Meaning;
 use meaning::scope::plain_local;
 use meaning::scope::resolve_ident;
-use meaning::scope::u16_in;
 use pcode::value::Value;
 use pcode::value::absent;
 use pcode::value::local;
@@ -89,7 +89,15 @@ fn local_address(x: ExprValue, size: u64, next: usize, st: State) -> Expr
     }
 }
 
-fn address_of(s: &[u8], t: &[u16], p: &[u64], m: &[u64], pos: usize, e: Env, st: State) -> Expr
+fn address_of(
+    s: &[u8],
+    t: &[u16; 3344],
+    p: &[u64],
+    m: &[u64],
+    pos: usize,
+    e: Env,
+    st: State,
+) -> Expr
     ensures { λ r. ⌜ r ≡ addressOf (now (s .entry)) (now (t .entry)) (now (p .entry)) (now (m .entry)) pos e st ⌝ }
 {
     match resolve_ident(s, t, p, m, e, st, u16_in(s, pos, 3)) {
@@ -99,7 +107,7 @@ fn address_of(s: &[u8], t: &[u16], p: &[u64], m: &[u64], pos: usize, e: Env, st:
 }
 
 // The name at a position. A plain local needs no `Meaning`.
-fn name_at(s: &[u8], t: &[u16], p: &[u64], m: &[u64], pos: usize, e: Env, st: State) -> Expr
+fn name_at(s: &[u8], t: &[u16; 3344], p: &[u64], m: &[u64], pos: usize, e: Env, st: State) -> Expr
     ensures { λ r. ⌜ r ≡ atom 0 (now (s .entry)) (now (t .entry)) (now (p .entry)) (now (m .entry)) pos e st ⌝ }
 {
     let name = u16_in(s, pos, 1);
@@ -115,7 +123,16 @@ fn name_at(s: &[u8], t: &[u16], p: &[u64], m: &[u64], pos: usize, e: Env, st: St
 }
 
 // A name, an integer or the address of a local.
-fn atom(code: u64, s: &[u8], t: &[u16], p: &[u64], m: &[u64], pos: usize, e: Env, st: State) -> Expr
+fn atom(
+    code: u64,
+    s: &[u8],
+    t: &[u16; 3344],
+    p: &[u64],
+    m: &[u64],
+    pos: usize,
+    e: Env,
+    st: State,
+) -> Expr
     ensures { λ r. ⌜ r ≡ atom code (now (s .entry)) (now (t .entry)) (now (p .entry)) (now (m .entry)) pos e st ⌝ }
 {
     match code {
@@ -222,7 +239,7 @@ fn part_at(code: u64) -> usize
 fn with_part(
     code: u64,
     s: &[u8],
-    t: &[u16],
+    t: &[u16; 3344],
     a: &mut [u64],
     m: &mut [u64],
     pos: usize,
@@ -255,7 +272,7 @@ fn with_part(
 fn plain_at(
     deep: u64,
     s: &[u8],
-    t: &[u16],
+    t: &[u16; 3344],
     p: &[u64],
     m: &[u64],
     pos: usize,
@@ -297,7 +314,7 @@ fn plain_operand(q: u64, s: &[u8], pos: usize, st: State) -> Operand
 pub fn expr_value(
     deep: u64,
     s: &[u8],
-    t: &[u16],
+    t: &[u16; 3344],
     p: &[u64],
     pos: usize,
     e: Env,
@@ -322,7 +339,7 @@ fn part(
     deep: u64,
     code: u64,
     s: &[u8],
-    t: &[u16],
+    t: &[u16; 3344],
     p: &[u64],
     pos: usize,
     e: Env,
@@ -341,7 +358,7 @@ fn part(
 fn resolve_op(
     deep: u64,
     s: &[u8],
-    t: &[u16],
+    t: &[u16; 3344],
     p: &[u64],
     pos: usize,
     e: Env,
@@ -367,7 +384,7 @@ fn resolve_op(
 fn call_inbuilt(
     deep: u64,
     s: &[u8],
-    t: &[u16],
+    t: &[u16; 3344],
     p: &[u64],
     pos: usize,
     op: u64,
@@ -398,7 +415,7 @@ fn call_inbuilt(
 pub fn resolve_args(
     deep: u64,
     s: &[u8],
-    t: &[u16],
+    t: &[u16; 3344],
     p: &[u64],
     pos: usize,
     n: u64,
@@ -428,7 +445,7 @@ pub fn resolve_args(
 fn user_op(
     deep: u64,
     s: &[u8],
-    t: &[u16],
+    t: &[u16; 3344],
     p: &[u64],
     pos: usize,
     id: u64,
@@ -450,7 +467,7 @@ fn user_op(
 fn resolve_call(
     deep: u64,
     s: &[u8],
-    t: &[u16],
+    t: &[u16; 3344],
     p: &[u64],
     pos: usize,
     e: Env,
@@ -475,7 +492,7 @@ fn resolve_call(
 pub fn resolve_expr(
     deep: u64,
     s: &[u8],
-    t: &[u16],
+    t: &[u16; 3344],
     p: &[u64],
     pos: usize,
     e: Env,

@@ -37,7 +37,7 @@ fn unbound_then(r: Read, next: usize) -> Expr
 
 fn slice_read(
     s: &[u8],
-    t: &[u16],
+    t: &[u16; 3344],
     a: &mut [u64],
     m: &mut [u64],
     e: Env,
@@ -111,7 +111,7 @@ fn slice_range(
 
 pub fn slice_bits(
     s: &[u8],
-    t: &[u16],
+    t: &[u16; 3344],
     a: &mut [u64],
     m: &mut [u64],
     e: Env,

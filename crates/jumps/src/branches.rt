@@ -3,6 +3,7 @@ use crate::labels::Label;
 use crate::labels::get_or_insert_label;
 use crate::labels::labelled;
 use crate::labels::resolve_label;
+use cells::u16_in;
 use expression::expr::Operand;
 use expression::expr::after;
 use expression::expr::expr_value;
@@ -11,7 +12,6 @@ use meaning::read::read_operand;
 use meaning::scope::ExprValue;
 use meaning::scope::Meaning;
 use meaning::scope::resolve_ident;
-use meaning::scope::u16_in;
 use pcode::value::Value;
 use pcode::value::absent;
 use pcode::value::no_output;
@@ -29,7 +29,7 @@ ghost use Rattle.jumps.specs.Branches.{pushLabel, labelStatement, branch
 
 fn push_label(
     s: &[u8],
-    t: &[u16],
+    t: &[u16; 3344],
     a: &mut [u64],
     m: &mut [u64],
     e: Env,
@@ -62,7 +62,7 @@ fn push_label(
 
 pub fn label_statement(
     s: &[u8],
-    t: &[u16],
+    t: &[u16; 3344],
     l: &mut [u64],
     a: &mut [u64],
     m: &mut [u64],
@@ -80,7 +80,7 @@ pub fn label_statement(
 
 fn branch_to(
     s: &[u8],
-    t: &[u16],
+    t: &[u16; 3344],
     a: &mut [u64],
     m: &mut [u64],
     e: Env,
@@ -102,7 +102,7 @@ fn branch_to(
 
 fn branch_label(
     s: &[u8],
-    t: &[u16],
+    t: &[u16; 3344],
     a: &mut [u64],
     m: &mut [u64],
     e: Env,
@@ -124,7 +124,7 @@ fn branch_label(
 
 fn label_branch(
     s: &[u8],
-    t: &[u16],
+    t: &[u16; 3344],
     l: &mut [u64],
     a: &mut [u64],
     m: &mut [u64],
@@ -143,7 +143,15 @@ fn label_branch(
 }
 
 // What a jump goes to: a name, or an integer with a size.
-fn jump_value(s: &[u8], t: &[u16], p: &[u64], m: &[u64], pos: usize, e: Env, st: State) -> Meaning
+fn jump_value(
+    s: &[u8],
+    t: &[u16; 3344],
+    p: &[u64],
+    m: &[u64],
+    pos: usize,
+    e: Env,
+    st: State,
+) -> Meaning
     ensures { λ r. ⌜ r ≡ jumpValue (now (s .entry)) (now (t .entry)) (now (p .entry)) (now (m .entry)) pos e st ⌝ }
 {
     if cells::byte(s, pos, 0) == 0 {
@@ -181,7 +189,7 @@ fn direct_address(v: Value, pointer: u64) -> Value
 
 fn direct(
     s: &[u8],
-    t: &[u16],
+    t: &[u16; 3344],
     a: &mut [u64],
     m: &mut [u64],
     e: Env,
@@ -212,7 +220,7 @@ fn direct(
 
 fn indirect(
     s: &[u8],
-    t: &[u16],
+    t: &[u16; 3344],
     a: &mut [u64],
     m: &mut [u64],
     e: Env,
@@ -233,7 +241,7 @@ fn indirect(
 fn jump_to(
     code: u64,
     s: &[u8],
-    t: &[u16],
+    t: &[u16; 3344],
     a: &mut [u64],
     m: &mut [u64],
     e: Env,
@@ -253,7 +261,7 @@ fn jump_to(
 
 fn jump(
     s: &[u8],
-    t: &[u16],
+    t: &[u16; 3344],
     p: &[u64],
     a: &mut [u64],
     m: &mut [u64],
@@ -275,7 +283,7 @@ fn jump(
 
 fn resolve_branch(
     s: &[u8],
-    t: &[u16],
+    t: &[u16; 3344],
     p: &[u64],
     l: &mut [u64],
     a: &mut [u64],
@@ -296,7 +304,7 @@ fn resolve_branch(
 
 pub fn branch(
     s: &[u8],
-    t: &[u16],
+    t: &[u16; 3344],
     p: &[u64],
     l: &mut [u64],
     a: &mut [u64],
@@ -312,7 +320,7 @@ pub fn branch(
 
 pub fn cond_branch(
     s: &[u8],
-    t: &[u16],
+    t: &[u16; 3344],
     p: &[u64],
     l: &mut [u64],
     a: &mut [u64],

@@ -6,13 +6,13 @@ use crate::values::size;
 use crate::values::subtable;
 use crate::values::value;
 
-fn input(s: &[u8], t: &[u16], temporaries: &[u64], a: &[u64], i: usize) {
+fn input(s: &[u8], t: &[u16; 3344], temporaries: &[u64], a: &[u64], i: usize) {
     let at = 6 + i % 8 * 2;
     value(s, t, temporaries, cells::get(a, at), cells::get(a, at + 1));
 }
 
 // The output and an equals sign.
-fn output(s: &[u8], t: &[u16], temporaries: &[u64], a: &[u64]) {
+fn output(s: &[u8], t: &[u16; 3344], temporaries: &[u64], a: &[u64]) {
     value(s, t, temporaries, cells::get(a, 4), cells::get(a, 5));
     text(b" = ");
 }
@@ -25,7 +25,7 @@ fn output_there(a: &[u64]) -> bool {
     cells::get(a, 5) != 255
 }
 
-fn maybe_output(s: &[u8], t: &[u16], temporaries: &[u64], a: &[u64]) {
+fn maybe_output(s: &[u8], t: &[u16; 3344], temporaries: &[u64], a: &[u64]) {
     if output_there(a) {
         output(s, t, temporaries, a);
     }
@@ -46,7 +46,7 @@ fn separator(i: u64, first: &[u8]) {
     text(b", ");
 }
 
-fn inputs(s: &[u8], t: &[u16], temporaries: &[u64], a: &[u64], first: &[u8]) {
+fn inputs(s: &[u8], t: &[u16; 3344], temporaries: &[u64], a: &[u64], first: &[u8]) {
     let n = cells::get(a, 3) % 9;
     for i in 0..n {
         separator(i, first);
@@ -54,26 +54,26 @@ fn inputs(s: &[u8], t: &[u16], temporaries: &[u64], a: &[u64], first: &[u8]) {
     }
 }
 
-fn plain(s: &[u8], t: &[u16], temporaries: &[u64], a: &[u64]) {
+fn plain(s: &[u8], t: &[u16; 3344], temporaries: &[u64], a: &[u64]) {
     maybe_output(s, t, temporaries, a);
     operation_name(cells::get(a, 1));
     inputs(s, t, temporaries, a, b" ");
 }
 
 // A pointer in round brackets, behind the space that it points into.
-fn pointer(s: &[u8], t: &[u16], temporaries: &[u64], a: &[u64], space: &[u8]) {
+fn pointer(s: &[u8], t: &[u16; 3344], temporaries: &[u64], a: &[u64], space: &[u8]) {
     text(space);
     input(s, t, temporaries, a, 0);
     text(b")");
 }
 
-fn load(s: &[u8], t: &[u16], temporaries: &[u64], a: &[u64]) {
+fn load(s: &[u8], t: &[u16; 3344], temporaries: &[u64], a: &[u64]) {
     output(s, t, temporaries, a);
     operation_name(58);
     pointer(s, t, temporaries, a, b" ram(");
 }
 
-fn store(s: &[u8], t: &[u16], temporaries: &[u64], a: &[u64]) {
+fn store(s: &[u8], t: &[u16; 3344], temporaries: &[u64], a: &[u64]) {
     operation_name(59);
     pointer(s, t, temporaries, a, b" ram(");
     text(b", ");
@@ -97,7 +97,7 @@ fn branch_name(a: &[u64]) {
     text(b" ");
 }
 
-fn condition(s: &[u8], t: &[u16], temporaries: &[u64], a: &[u64]) {
+fn condition(s: &[u8], t: &[u16; 3344], temporaries: &[u64], a: &[u64]) {
     if is_conditional(a) {
         text(b", ");
         input(s, t, temporaries, a, 0);
@@ -112,7 +112,7 @@ fn hint(n: u64) {
     }
 }
 
-fn branch(s: &[u8], t: &[u16], temporaries: &[u64], a: &[u64]) {
+fn branch(s: &[u8], t: &[u16; 3344], temporaries: &[u64], a: &[u64]) {
     branch_name(a);
     hint(cells::get(a, 2));
     input(s, t, temporaries, a, 1);
@@ -125,14 +125,14 @@ fn label(n: u64) {
     text(b">");
 }
 
-fn label_branch(s: &[u8], t: &[u16], temporaries: &[u64], a: &[u64]) {
+fn label_branch(s: &[u8], t: &[u16; 3344], temporaries: &[u64], a: &[u64]) {
     branch_name(a);
     label(cells::get(a, 2));
     condition(s, t, temporaries, a);
 }
 
 // A user op by its name.
-fn user_op(s: &[u8], t: &[u16], temporaries: &[u64], a: &[u64]) {
+fn user_op(s: &[u8], t: &[u16; 3344], temporaries: &[u64], a: &[u64]) {
     maybe_output(s, t, temporaries, a);
     operation_name(63);
     text(b" ");
@@ -141,14 +141,14 @@ fn user_op(s: &[u8], t: &[u16], temporaries: &[u64], a: &[u64]) {
 }
 
 // An operand of the user op that follows.
-fn arg(s: &[u8], t: &[u16], temporaries: &[u64], a: &[u64]) {
+fn arg(s: &[u8], t: &[u16; 3344], temporaries: &[u64], a: &[u64]) {
     operation_name(64);
     text(b" ");
     number(cells::get(a, 2));
     inputs(s, t, temporaries, a, b", ");
 }
 
-fn operation(s: &[u8], t: &[u16], temporaries: &[u64], a: &[u64]) {
+fn operation(s: &[u8], t: &[u16; 3344], temporaries: &[u64], a: &[u64]) {
     match cells::get(a, 1) {
         58 => load(s, t, temporaries, a),
         59 => store(s, t, temporaries, a),
@@ -160,21 +160,21 @@ fn operation(s: &[u8], t: &[u16], temporaries: &[u64], a: &[u64]) {
     }
 }
 
-fn address_of(s: &[u8], t: &[u16], temporaries: &[u64], a: &[u64]) {
+fn address_of(s: &[u8], t: &[u16; 3344], temporaries: &[u64], a: &[u64]) {
     output(s, t, temporaries, a);
     text(b"ADDRESS_OF ");
     input(s, t, temporaries, a, 0);
 }
 
 // A register access has a size beside its pointer's.
-fn load_register(s: &[u8], t: &[u16], temporaries: &[u64], a: &[u64]) {
+fn load_register(s: &[u8], t: &[u16; 3344], temporaries: &[u64], a: &[u64]) {
     output(s, t, temporaries, a);
     operation_name(58);
     pointer(s, t, temporaries, a, b" register(");
     size(cells::get(a, 2));
 }
 
-fn store_register(s: &[u8], t: &[u16], temporaries: &[u64], a: &[u64]) {
+fn store_register(s: &[u8], t: &[u16; 3344], temporaries: &[u64], a: &[u64]) {
     operation_name(59);
     pointer(s, t, temporaries, a, b" register(");
     size(cells::get(a, 2));
@@ -182,12 +182,12 @@ fn store_register(s: &[u8], t: &[u16], temporaries: &[u64], a: &[u64]) {
     input(s, t, temporaries, a, 1);
 }
 
-fn build(s: &[u8], t: &[u16], a: &[u64]) {
+fn build(s: &[u8], t: &[u16; 3344], a: &[u64]) {
     text(b"BUILD ");
     subtable(s, t, cells::get(a, 2));
 }
 
-fn kind(s: &[u8], t: &[u16], temporaries: &[u64], a: &[u64]) {
+fn kind(s: &[u8], t: &[u16; 3344], temporaries: &[u64], a: &[u64]) {
     match cells::get(a, 0) {
         0 => operation(s, t, temporaries, a),
         1 => address_of(s, t, temporaries, a),
@@ -206,7 +206,7 @@ fn is_label(a: &[u64]) -> bool {
 }
 
 // An action of 24 words.
-fn action(s: &[u8], t: &[u16], temporaries: &[u64], a: &[u64]) {
+fn action(s: &[u8], t: &[u16; 3344], temporaries: &[u64], a: &[u64]) {
     if is_label(a) {
         label(cells::get(a, 2));
         text(b"\n");
@@ -217,7 +217,7 @@ fn action(s: &[u8], t: &[u16], temporaries: &[u64], a: &[u64]) {
     text(b"\n");
 }
 
-fn action_in(s: &[u8], t: &[u16], temporaries: &[u64], list: &[u64], i: usize) {
+fn action_in(s: &[u8], t: &[u16; 3344], temporaries: &[u64], list: &[u64], i: usize) {
     if i < list.len() / 24 {
         let from = 24 * i;
         let to = 24 * i + 24;
@@ -225,7 +225,7 @@ fn action_in(s: &[u8], t: &[u16], temporaries: &[u64], list: &[u64], i: usize) {
     }
 }
 
-pub(crate) fn actions(s: &[u8], t: &[u16], temporaries: &[u64], list: &[u64], n: u64) {
+pub(crate) fn actions(s: &[u8], t: &[u16; 3344], temporaries: &[u64], list: &[u64], n: u64) {
     for i in 0..n {
         action_in(s, t, temporaries, list, i as usize);
     }

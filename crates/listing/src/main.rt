@@ -36,7 +36,7 @@ fn export_space(r: Answer) {
     text(b" ");
 }
 
-fn export(s: &[u8], t: &[u16], temporaries: &[u64], r: Answer) {
+fn export(s: &[u8], t: &[u16; 3344], temporaries: &[u64], r: Answer) {
     if r.kind == 0 {
         return;
     }
@@ -67,7 +67,7 @@ fn closing(r: Answer, passes: bool) {
     verdict(passes);
 }
 
-fn accepted(s: &[u8], t: &[u16], list: &[u64], temporaries: &[u64], r: Checked) {
+fn accepted(s: &[u8], t: &[u16; 3344], list: &[u64], temporaries: &[u64], r: Checked) {
     let a = r.answer;
     actions(s, t, temporaries, list, a.actions);
     export(s, t, temporaries, a);
@@ -75,7 +75,7 @@ fn accepted(s: &[u8], t: &[u16], list: &[u64], temporaries: &[u64], r: Checked) 
 }
 
 // The section of a stream and its table.
-fn list_section(s: &[u8], t: &[u16], list: &[u64], temporaries: &[u64], r: Checked) {
+fn list_section(s: &[u8], t: &[u16; 3344], list: &[u64], temporaries: &[u64], r: Checked) {
     let a = r.answer;
     if a.refusal != 0 {
         refusal_at(s, t, a);

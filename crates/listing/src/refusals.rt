@@ -101,7 +101,7 @@ pub(crate) fn refusal(r: Answer) {
 }
 
 // The same, and the statement of the ordinal, if there is one.
-pub(crate) fn refusal_at(s: &[u8], t: &[u16], r: Answer) {
+pub(crate) fn refusal_at(s: &[u8], t: &[u16; 3344], r: Answer) {
     refusal(r);
     if r.ordinal != 65535 {
         statement(s, t, r.ordinal);

@@ -40,7 +40,7 @@ fn since(ordinal: u64, first: u64) -> u64 {
 }
 
 // The last macro whose body begins at the ordinal or before.
-fn macro_of(s: &[u8], t: &[u16], ordinal: u64) -> usize {
+fn macro_of(s: &[u8], t: &[u16; 3344], ordinal: u64) -> usize {
     let n = cells::u16_at(s, 14) as usize;
     let mut last: usize = 0;
     for i in 0..n {
@@ -49,7 +49,7 @@ fn macro_of(s: &[u8], t: &[u16], ordinal: u64) -> usize {
     last
 }
 
-fn later(t: &[u16], i: usize, ordinal: u64, last: usize) -> usize {
+fn later(t: &[u16; 3344], i: usize, ordinal: u64, last: usize) -> usize {
     if cells::get_u16(t, 3200 + i % 128) as u64 <= ordinal {
         return i;
     }
@@ -62,11 +62,11 @@ fn body_at(s: &[u8], at: u16) -> usize {
 }
 
 // The name that stands at a place.
-fn macro_name(s: &[u8], t: &[u16], at: usize) {
+fn macro_name(s: &[u8], t: &[u16; 3344], at: usize) {
     name(spellings::names::name(s, t, cells::u16_at(s, at)));
 }
 
-fn in_macro(s: &[u8], t: &[u16], ordinal: u64) {
+fn in_macro(s: &[u8], t: &[u16; 3344], ordinal: u64) {
     let i = macro_of(s, t, ordinal) % 128;
     let first = cells::get_u16(t, 3200 + i) as u64;
     let at = cells::get_u16(t, 3072 + i);
@@ -77,7 +77,7 @@ fn in_macro(s: &[u8], t: &[u16], ordinal: u64) {
     }
 }
 
-fn described(s: &[u8], t: &[u16], ordinal: u64) {
+fn described(s: &[u8], t: &[u16; 3344], ordinal: u64) {
     let first = cells::get_u16(t, 3338) as u64;
     if ordinal < first {
         in_macro(s, t, ordinal);
@@ -87,7 +87,7 @@ fn described(s: &[u8], t: &[u16], ordinal: u64) {
     kind_at(s, at, since(ordinal, first));
 }
 
-pub(crate) fn statement(s: &[u8], t: &[u16], ordinal: u64) {
+pub(crate) fn statement(s: &[u8], t: &[u16; 3344], ordinal: u64) {
     text(b"at statement ");
     number(ordinal);
     text(b", ");

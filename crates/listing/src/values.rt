@@ -17,7 +17,7 @@ fn is_shared(temporaries: &[u64], i: u64, n: u64) -> bool {
 }
 
 // Its name, and its number where another has that name too; t and its number where it has none.
-fn temporary(s: &[u8], t: &[u16], temporaries: &[u64], i: u64) {
+fn temporary(s: &[u8], t: &[u16; 3344], temporaries: &[u64], i: u64) {
     let n = cells::get(temporaries, i as usize) % 65536;
     if n == 65535 {
         text(b"t");
@@ -32,21 +32,21 @@ fn temporary(s: &[u8], t: &[u16], temporaries: &[u64], i: u64) {
 }
 
 // The name that stands at a place of the header.
-fn header_name(s: &[u8], t: &[u16], at: usize) {
+fn header_name(s: &[u8], t: &[u16; 3344], at: usize) {
     name(spellings::names::name(s, t, cells::u16_at(s, at)));
 }
 
-pub(crate) fn subtable(s: &[u8], t: &[u16], i: u64) {
+pub(crate) fn subtable(s: &[u8], t: &[u16; 3344], i: u64) {
     name(spellings::names::subtable(s, t, i));
 }
 
 // What a direct jump to a subtable goes to.
-fn reference(s: &[u8], t: &[u16], i: u64) {
+fn reference(s: &[u8], t: &[u16; 3344], i: u64) {
     text(b"&");
     subtable(s, t, i);
 }
 
-fn base(s: &[u8], t: &[u16], temporaries: &[u64], kind: u64, i: u64) {
+fn base(s: &[u8], t: &[u16; 3344], temporaries: &[u64], kind: u64, i: u64) {
     match kind {
         0 => header_name(s, t, 26),
         1 => header_name(s, t, 28),
@@ -74,7 +74,7 @@ pub(crate) fn size(n: u64) {
 }
 
 // The value of two words.
-pub(crate) fn value(s: &[u8], t: &[u16], temporaries: &[u64], i: u64, word: u64) {
+pub(crate) fn value(s: &[u8], t: &[u16; 3344], temporaries: &[u64], i: u64, word: u64) {
     base(s, t, temporaries, word % 256, i);
     offset(word / 256 % 65536);
     size(word / 16777216);

@@ -49,7 +49,7 @@ pub struct Stated {
     pub st: State,
 }
 
-fn set_size(s: &[u8], t: &[u16], m: &mut [u64], v: Value, size: u64, st: State) -> Stated
+fn set_size(s: &[u8], t: &[u16; 3344], m: &mut [u64], v: Value, size: u64, st: State) -> Stated
     ensures { λ r. ⌜ listed r (now (m .exit)) ≡ setSize (now (s .entry)) (now (t .entry)) (now (m .entry)) v size st ⌝ }
 {
     let known = size_of(s, t, m, v);
@@ -61,7 +61,14 @@ fn set_size(s: &[u8], t: &[u16], m: &mut [u64], v: Value, size: u64, st: State) 
 }
 
 // A register access's stated size is set; 0 sets none.
-pub fn set_stated(s: &[u8], t: &[u16], m: &mut [u64], v: Value, size: u64, st: State) -> Stated
+pub fn set_stated(
+    s: &[u8],
+    t: &[u16; 3344],
+    m: &mut [u64],
+    v: Value,
+    size: u64,
+    st: State,
+) -> Stated
     ensures { λ r. ⌜ listed r (now (m .exit)) ≡ setStated (now (s .entry)) (now (t .entry)) (now (m .entry)) v size st ⌝ }
 {
     if size == 0 {
@@ -71,7 +78,14 @@ pub fn set_stated(s: &[u8], t: &[u16], m: &mut [u64], v: Value, size: u64, st: S
 }
 
 // A RAM access's stated size is taken silently; 0 sets none.
-pub fn take_stated(s: &[u8], t: &[u16], m: &mut [u64], v: Value, size: u64, st: State) -> Stated
+pub fn take_stated(
+    s: &[u8],
+    t: &[u16; 3344],
+    m: &mut [u64],
+    v: Value,
+    size: u64,
+    st: State,
+) -> Stated
     ensures { λ r. ⌜ listed r (now (m .exit)) ≡ takeStated (now (s .entry)) (now (t .entry)) (now (m .entry)) v size st ⌝ }
 {
     if size == 0 {
@@ -88,7 +102,7 @@ pub fn take_stated(s: &[u8], t: &[u16], m: &mut [u64], v: Value, size: u64, st: 
 
 fn copy_to(
     s: &[u8],
-    t: &[u16],
+    t: &[u16; 3344],
     a: &mut [u64],
     m: &mut [u64],
     e: Env,
@@ -133,7 +147,7 @@ pub fn sliced(v: Value, more: u64, size: u64, st: State) -> Read
 
 fn shift_to(
     s: &[u8],
-    t: &[u16],
+    t: &[u16; 3344],
     a: &mut [u64],
     m: &mut [u64],
     e: Env,
@@ -166,7 +180,7 @@ fn shift_to(
 
 fn shift_and_mask(
     s: &[u8],
-    t: &[u16],
+    t: &[u16; 3344],
     a: &mut [u64],
     m: &mut [u64],
     e: Env,
@@ -203,7 +217,7 @@ fn shift_and_mask(
 
 fn part_of(
     s: &[u8],
-    t: &[u16],
+    t: &[u16; 3344],
     a: &mut [u64],
     m: &mut [u64],
     e: Env,
@@ -222,7 +236,7 @@ fn part_of(
 
 pub fn read_slice(
     s: &[u8],
-    t: &[u16],
+    t: &[u16; 3344],
     a: &mut [u64],
     m: &mut [u64],
     e: Env,
@@ -285,7 +299,7 @@ fn read_address(
 
 fn load(
     s: &[u8],
-    t: &[u16],
+    t: &[u16; 3344],
     a: &mut [u64],
     m: &mut [u64],
     e: Env,
@@ -308,7 +322,7 @@ fn load(
 
 fn load_register(
     s: &[u8],
-    t: &[u16],
+    t: &[u16; 3344],
     a: &mut [u64],
     m: &mut [u64],
     pointer: Value,
@@ -333,7 +347,7 @@ fn load_register(
 
 pub fn read_value(
     s: &[u8],
-    t: &[u16],
+    t: &[u16; 3344],
     a: &mut [u64],
     m: &mut [u64],
     e: Env,
@@ -372,7 +386,7 @@ pub fn read_value(
 // Read as an operand, with no output given.
 pub fn read_operand(
     s: &[u8],
-    t: &[u16],
+    t: &[u16; 3344],
     a: &mut [u64],
     m: &mut [u64],
     e: Env,

@@ -13,7 +13,6 @@ use pushing::push::State;
 use pushing::push::add_tmp;
 ghost use mathlib.Core.Path.{_≡_};
 ghost use Prim.Native.Nat.{_+_, _<_};
-ghost use Rattle.cells.specs.Le.{le16};
 ghost use Rattle.pcode.specs.Base.{listed};
 ghost use Rattle.meaning.specs.Slots.{oneValue, slotOf, ofSlot, putSlot, slotAt, paramPlace};
 ghost use Rattle.meaning.specs.Scopes.{findParam, isLocal, path, link, linked, onward, findLocal, attach, ownLocal, tmpLocal, orTmp, lookupLocal, global, bitRange, globalMeaning, innerMeaning, resolveIdent, plainFound, plainGlobal, plainInner, plainLocal, namedTmp};
@@ -65,14 +64,6 @@ pub struct Slot {
     pub y: u64,
     pub a: Value,
     pub b: Value,
-}
-
-// The number of two bytes, i after a position.
-pub fn u16_in(s: &[u8], at: usize, i: usize) -> u64
-    requires { ⌜ i < 16 ⌝ }
-    ensures { λ r. ⌜ (r ≡ le16 (now (s .entry)) (at + i)) × (r < 65536) ⌝ }
-{
-    cells::byte(s, at, i) + 256 * cells::byte(s, at, i + 1)
 }
 
 fn one_value(tag: u64, x: u64, y: u64, a: Value) -> Slot
@@ -289,7 +280,7 @@ pub enum Found {
 }
 
 // A field or a subtable, which only the section's own scope has.
-fn own_local(t: &[u16], name: u64) -> Found
+fn own_local(t: &[u16; 3344], name: u64) -> Found
     ensures { λ r. ⌜ r ≡ ownLocal (now (t .entry)) name ⌝ }
 {
     let k = cells::get_u16(t, 2048 + (name % 1024) as usize) as u64;
@@ -321,7 +312,7 @@ fn or_tmp(x: Found, m: &[u64], n: usize, name: u64, scope: u64) -> Found
     }
 }
 
-fn lookup_local(t: &[u16], m: &[u64], scope: u64, n: usize, name: u64) -> Found
+fn lookup_local(t: &[u16; 3344], m: &[u64], scope: u64, n: usize, name: u64) -> Found
     ensures { λ r. ⌜ r ≡ lookupLocal (now (t .entry)) (now (m .entry)) scope n name ⌝ }
 {
     if scope == 0 {
@@ -331,24 +322,24 @@ fn lookup_local(t: &[u16], m: &[u64], scope: u64, n: usize, name: u64) -> Found
 }
 
 // A global of a name: 0, or 1 + kind + 8 × its place in that kind's list.
-pub fn global(t: &[u16], name: u64) -> u64
+pub fn global(t: &[u16; 3344], name: u64) -> u64
     ensures { λ r. ⌜ r ≡ global (now (t .entry)) name ⌝ }
 {
     cells::get_u16(t, 1024 + (name % 1024) as usize) as u64
 }
 
-fn bit_range(s: &[u8], t: &[u16], i: u64) -> ExprValue
+fn bit_range(s: &[u8], t: &[u16; 3344], i: u64) -> ExprValue
     ensures { λ r. ⌜ r ≡ bitRange (now (s .entry)) (now (t .entry)) i ⌝ }
 {
     let at = entry(t, 2, i % 65536 * 8);
     ExprValue::BitRange {
-        v: local(2, u16_in(s, at, 2)),
-        from: u16_in(s, at, 4),
-        bits: u16_in(s, at, 6),
+        v: local(2, cells::u16_in(s, at, 2)),
+        from: cells::u16_in(s, at, 4),
+        bits: cells::u16_in(s, at, 6),
     }
 }
 
-fn global_meaning(s: &[u8], t: &[u16], name: u64) -> Meaning
+fn global_meaning(s: &[u8], t: &[u16; 3344], name: u64) -> Meaning
     ensures { λ r. ⌜ r ≡ globalMeaning (now (s .entry)) (now (t .entry)) (global (now (t .entry)) name) ⌝ }
 {
     let g = global(t, name);
@@ -363,7 +354,7 @@ fn global_meaning(s: &[u8], t: &[u16], name: u64) -> Meaning
     }
 }
 
-fn inner_meaning(s: &[u8], t: &[u16], m: &[u64], e: Env, st: State, name: u64) -> Meaning
+fn inner_meaning(s: &[u8], t: &[u16; 3344], m: &[u64], e: Env, st: State, name: u64) -> Meaning
     ensures { λ r. ⌜ r ≡ innerMeaning (now (s .entry)) (now (t .entry)) (now (m .entry)) e st name ⌝ }
 {
     if name == cells::u16_at(s, 28) {
@@ -380,7 +371,7 @@ fn inner_meaning(s: &[u8], t: &[u16], m: &[u64], e: Env, st: State, name: u64) -
 
 pub fn resolve_ident(
     s: &[u8],
-    t: &[u16],
+    t: &[u16; 3344],
     p: &[u64],
     m: &[u64],
     e: Env,
@@ -397,7 +388,7 @@ pub fn resolve_ident(
 }
 
 // A field or a subtable as one number: kind + 8 × (1 + number), or 0 where there is none.
-fn plain_own(t: &[u16], name: u64) -> u64
+fn plain_own(t: &[u16; 3344], name: u64) -> u64
     ensures { λ r. ⌜ r ≡ plainFound (ownLocal (now (t .entry)) name) ⌝ }
 {
     let k = cells::get_u16(t, 2048 + (name % 1024) as usize) as u64;
@@ -420,7 +411,7 @@ fn plain_tmp(m: &[u64], n: usize, name: u64, scope: u64) -> u64
     0
 }
 
-fn plain_found(t: &[u16], m: &[u64], scope: u64, n: usize, name: u64) -> u64
+fn plain_found(t: &[u16; 3344], m: &[u64], scope: u64, n: usize, name: u64) -> u64
     ensures { λ r. ⌜ r ≡ plainFound (lookupLocal (now (t .entry)) (now (m .entry)) scope n name) ⌝ }
 {
     if scope != 0 {
@@ -434,7 +425,7 @@ fn plain_found(t: &[u16], m: &[u64], scope: u64, n: usize, name: u64) -> u64
 }
 
 // A global register as one number; 0 for a bit range, 1 where a name means nothing or a wrong thing.
-fn plain_global(t: &[u16], name: u64) -> u64
+fn plain_global(t: &[u16; 3344], name: u64) -> u64
     ensures { λ r. ⌜ r ≡ plainGlobal (global (now (t .entry)) name) ⌝ }
 {
     let g = cells::get_u16(t, 1024 + (name % 1024) as usize) as u64;
@@ -449,7 +440,7 @@ fn plain_global(t: &[u16], name: u64) -> u64
     }
 }
 
-fn plain_inner(s: &[u8], t: &[u16], m: &[u64], e: Env, st: State, name: u64) -> u64
+fn plain_inner(s: &[u8], t: &[u16; 3344], m: &[u64], e: Env, st: State, name: u64) -> u64
     ensures { λ r. ⌜ r ≡ plainInner (now (s .entry)) (now (t .entry)) (now (m .entry)) e st name ⌝ }
 {
     if name == cells::u16_at(s, 28) {
@@ -467,7 +458,15 @@ fn plain_inner(s: &[u8], t: &[u16], m: &[u64], e: Env, st: State, name: u64) -> 
 
 // The usual name, a plain local, as one number in place of a large `Meaning`: kind + 8 × (1 + number). 1 stands for `Wrong`, and
 // 0 for what only `resolve_ident` tells.
-pub fn plain_local(s: &[u8], t: &[u16], p: &[u64], m: &[u64], e: Env, st: State, name: u64) -> u64
+pub fn plain_local(
+    s: &[u8],
+    t: &[u16; 3344],
+    p: &[u64],
+    m: &[u64],
+    e: Env,
+    st: State,
+    name: u64,
+) -> u64
     ensures { λ r. ⌜ r ≡ plainLocal (now (s .entry)) (now (t .entry)) (now (p .entry)) (now (m .entry)) e st name ⌝ }
 {
     if 0 < find_param(p, e.params, e.count, name) {
@@ -477,7 +476,7 @@ pub fn plain_local(s: &[u8], t: &[u16], p: &[u64], m: &[u64], e: Env, st: State,
 }
 
 // A named temporary is made, then declared.
-pub fn named_tmp(t: &[u16], m: &mut [u64], e: Env, name: u64, size: u64, st: State) -> Read
+pub fn named_tmp(t: &[u16; 3344], m: &mut [u64], e: Env, name: u64, size: u64, st: State) -> Read
     ensures { λ r. ⌜ listed r (now (m .exit)) ≡ namedTmp (now (t .entry)) (now (m .entry)) e name size st ⌝ }
 {
     match add_tmp(m, name, size, e.scope, st) {

@@ -31,7 +31,7 @@ fn judged(
 
 fn finish_export(
     s: &[u8],
-    t: &[u16],
+    t: &[u16; 3344],
     a: &mut [u64],
     m: &mut [u64],
     subtables: usize,
@@ -60,7 +60,7 @@ fn finish_export(
 // From the actions with the sizes that the passes found.
 fn finish_sized(
     s: &[u8],
-    t: &[u16],
+    t: &[u16; 3344],
     a: &mut [u64],
     m: &mut [u64],
     subtables: usize,
@@ -91,7 +91,7 @@ fn actions_between(base: usize, end: usize) -> usize
 
 fn both_passes(
     s: &[u8],
-    t: &[u16],
+    t: &[u16; 3344],
     a: &mut [u64],
     m: &mut [u64],
     base: usize,
@@ -105,7 +105,7 @@ fn both_passes(
     ending::passes::forward_pass(s, t, a, m, base, n, ptr, y)
 }
 
-pub fn finish(s: &[u8], t: &[u16], a: &mut [u64], m: &mut [u64], ptr: u64, w: Walk) -> Answer
+pub fn finish(s: &[u8], t: &[u16; 3344], a: &mut [u64], m: &mut [u64], ptr: u64, w: Walk) -> Answer
     ensures { λ r. ⌜ resolvedTo r (now (a .exit)) (now (m .exit)) ≡ finish (now (s .entry)) (now (t .entry)) (now (a .entry)) (now (m .entry)) ptr w ⌝ }
 {
     let subtables = cells::u16_at(s, 20) as usize;

@@ -17,21 +17,21 @@ pub struct Sizing {
 }
 
 // A position so many bytes into list k.
-pub fn entry(t: &[u16], k: usize, bytes: u64) -> usize
+pub fn entry(t: &[u16; 3344], k: usize, bytes: u64) -> usize
     ensures { λ r. ⌜ r ≡ entry (now (t .entry)) k bytes ⌝ }
 {
     cells::get_u16(t, 3328 + k % 16) as usize + (bytes % 1048576) as usize
 }
 
 // The size of entry i of list k, whose entries are a name and a size.
-fn list_size(s: &[u8], t: &[u16], k: usize, i: u64) -> u64
+fn list_size(s: &[u8], t: &[u16; 3344], k: usize, i: u64) -> u64
     ensures { λ r. ⌜ r ≡ listSize (now (s .entry)) (now (t .entry)) k i ⌝ }
 {
     cells::u16_at(s, entry(t, k, i % 65536 * 4 + 2))
 }
 
 // The size of a subtable's table export.
-fn export_size(s: &[u8], t: &[u16], i: u64) -> u64
+fn export_size(s: &[u8], t: &[u16; 3344], i: u64) -> u64
     ensures { λ r. ⌜ r ≡ exportSizeOf (now (s .entry)) (now (t .entry)) i ⌝ }
 {
     list_size(s, t, 3, list_size(s, t, 8, i))
@@ -45,7 +45,7 @@ fn tmp_size(m: &[u64], i: u64) -> u64
 
 // The size of a register, table export or field. It is called from two places below, so that what is tested before it stays
 // small enough to be compiled into every place that asks for a size.
-fn listed_size(s: &[u8], t: &[u16], kind: u64, number: u64) -> u64
+fn listed_size(s: &[u8], t: &[u16; 3344], kind: u64, number: u64) -> u64
     ensures { λ r. ⌜ r ≡ listedSize (now (s .entry)) (now (t .entry)) kind number ⌝ }
 {
     match kind {
@@ -58,7 +58,7 @@ fn listed_size(s: &[u8], t: &[u16], kind: u64, number: u64) -> u64
 }
 
 // The known size, 65,535 for none.
-pub fn size_of(s: &[u8], t: &[u16], m: &[u64], v: Value) -> u64
+pub fn size_of(s: &[u8], t: &[u16; 3344], m: &[u64], v: Value) -> u64
     ensures { λ r. ⌜ r ≡ sizeOf (now (s .entry)) (now (t .entry)) (now (m .entry)) v ⌝ }
 {
     if v.size != 65535 {
@@ -70,7 +70,7 @@ pub fn size_of(s: &[u8], t: &[u16], m: &[u64], v: Value) -> u64
     listed_size(s, t, v.kind, v.number)
 }
 
-fn size_at(s: &[u8], t: &[u16], a: &[u64], m: &[u64], at: usize, i: usize) -> u64
+fn size_at(s: &[u8], t: &[u16; 3344], a: &[u64], m: &[u64], at: usize, i: usize) -> u64
     requires { ⌜ i < 32 ⌝ }
     ensures { λ r. ⌜ r ≡ sizeAt (now (s .entry)) (now (t .entry)) (now (a .entry)) (now (m .entry)) at i ⌝ }
 {
@@ -138,7 +138,7 @@ pub fn settle(m: &mut [u64], v: Value, known: u64, size: u64, z: Sizing) -> Sizi
 // Sets the size of the operand i after a position.
 pub fn set_operand(
     s: &[u8],
-    t: &[u16],
+    t: &[u16; 3344],
     a: &mut [u64],
     m: &mut [u64],
     at: usize,
@@ -157,7 +157,7 @@ pub fn set_operand(
 
 fn set_two(
     s: &[u8],
-    t: &[u16],
+    t: &[u16; 3344],
     a: &mut [u64],
     m: &mut [u64],
     at: usize,
@@ -175,7 +175,7 @@ fn set_two(
 
 pub fn set_three(
     s: &[u8],
-    t: &[u16],
+    t: &[u16; 3344],
     a: &mut [u64],
     m: &mut [u64],
     at: usize,
@@ -204,7 +204,7 @@ pub fn falls_back(v: Value) -> bool
 
 fn pair_fallback(
     s: &[u8],
-    t: &[u16],
+    t: &[u16; 3344],
     fallback: bool,
     a: &mut [u64],
     m: &mut [u64],
@@ -231,7 +231,7 @@ fn pair_fallback(
 // Two operands have one size.
 pub fn set_size_of_pair(
     s: &[u8],
-    t: &[u16],
+    t: &[u16; 3344],
     fallback: bool,
     a: &mut [u64],
     m: &mut [u64],
@@ -272,7 +272,7 @@ fn triple_falls_back(a: &[u64], at: usize) -> bool
 
 fn triple_fallback(
     s: &[u8],
-    t: &[u16],
+    t: &[u16; 3344],
     fallback: bool,
     a: &mut [u64],
     m: &mut [u64],
@@ -293,7 +293,7 @@ fn triple_fallback(
 // The other two take the size of the first known one.
 fn share_size(
     s: &[u8],
-    t: &[u16],
+    t: &[u16; 3344],
     a: &mut [u64],
     m: &mut [u64],
     at: usize,
@@ -322,7 +322,7 @@ fn all_equal(x: u64, y: u64, w: u64) -> bool
 // Both inputs and the output have one size.
 pub fn set_size_of_triple(
     s: &[u8],
-    t: &[u16],
+    t: &[u16; 3344],
     fallback: bool,
     a: &mut [u64],
     m: &mut [u64],
@@ -347,7 +347,7 @@ pub fn set_size_of_triple(
 // An operand with no known size takes pointer size.
 pub fn set_unsized(
     s: &[u8],
-    t: &[u16],
+    t: &[u16; 3344],
     a: &mut [u64],
     m: &mut [u64],
     at: usize,

@@ -26,7 +26,7 @@ fn turn(forward: bool, n: usize, i: usize) -> usize
 // The n actions from a position on: forward with fallback, or backward without.
 pub fn pass(
     s: &[u8],
-    t: &[u16],
+    t: &[u16; 3344],
     fallback: bool,
     a: &mut [u64],
     m: &mut [u64],

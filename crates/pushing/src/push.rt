@@ -150,7 +150,7 @@ pub fn push(
 // The rule of the action pushed last.
 fn update_last(
     s: &[u8],
-    t: &[u16],
+    t: &[u16; 3344],
     a: &mut [u64],
     m: &mut [u64],
     at: usize,
@@ -169,7 +169,7 @@ fn update_last(
 
 pub fn push_op(
     s: &[u8],
-    t: &[u16],
+    t: &[u16; 3344],
     a: &mut [u64],
     m: &mut [u64],
     e: Env,
@@ -193,7 +193,7 @@ pub fn push_op(
 // An operation with an output, and the output as its rule left it.
 pub fn op_to(
     s: &[u8],
-    t: &[u16],
+    t: &[u16; 3344],
     a: &mut [u64],
     m: &mut [u64],
     e: Env,
@@ -220,7 +220,7 @@ pub fn op_to(
 // The same, with a fresh temporary where no output is given.
 pub fn op(
     s: &[u8],
-    t: &[u16],
+    t: &[u16; 3344],
     a: &mut [u64],
     m: &mut [u64],
     e: Env,

@@ -87,7 +87,7 @@ fn partner(rule: u64) -> usize
 // These three call `set_size_of_pair` from one place, so that it is compiled into it.
 fn pair_rule(
     s: &[u8],
-    t: &[u16],
+    t: &[u16; 3344],
     rule: u64,
     fallback: bool,
     a: &mut [u64],
@@ -106,7 +106,7 @@ fn pair_rule(
     }
 }
 
-fn bool_not(s: &[u8], t: &[u16], a: &mut [u64], m: &mut [u64], at: usize, z: Sizing) -> Sizing
+fn bool_not(s: &[u8], t: &[u16; 3344], a: &mut [u64], m: &mut [u64], at: usize, z: Sizing) -> Sizing
     ensures { λ r. ⌜ sized r (now (a .exit)) (now (m .exit)) ≡ boolNot (now (s .entry)) (now (t .entry)) (now (a .entry)) (now (m .entry)) at z ⌝ }
 {
     let y = set_operand(s, t, a, m, at, 6, 1, z);
@@ -115,7 +115,7 @@ fn bool_not(s: &[u8], t: &[u16], a: &mut [u64], m: &mut [u64], at: usize, z: Siz
 
 fn branch(
     s: &[u8],
-    t: &[u16],
+    t: &[u16; 3344],
     a: &mut [u64],
     m: &mut [u64],
     at: usize,
@@ -130,7 +130,7 @@ fn branch(
 
 fn few_operands(
     s: &[u8],
-    t: &[u16],
+    t: &[u16; 3344],
     rule: u64,
     a: &mut [u64],
     m: &mut [u64],
@@ -152,7 +152,7 @@ fn few_operands(
 
 fn apply_rule(
     s: &[u8],
-    t: &[u16],
+    t: &[u16; 3344],
     rule: u64,
     fallback: bool,
     a: &mut [u64],
@@ -176,7 +176,7 @@ fn apply_rule(
 // The rule of the Op at a position; other actions are not sized here.
 pub fn update_operand_sizes(
     s: &[u8],
-    t: &[u16],
+    t: &[u16; 3344],
     fallback: bool,
     a: &mut [u64],
     m: &mut [u64],

@@ -20,7 +20,7 @@ ghost use Rattle.outcome.specs.Answers.{resolvedTo};
 ghost use Rattle.resolution.specs.Files.{pointerSize, atStart, startEnv, walkSection, resolveSection, resolveStream, resolveFile};
 
 // The size of the default space's pointers, 8 where there is none.
-pub fn pointer_size(s: &[u8], t: &[u16]) -> u64
+pub fn pointer_size(s: &[u8], t: &[u16; 3344]) -> u64
     ensures { λ r. ⌜ r ≡ pointerSize (now (s .entry)) (now (t .entry)) ⌝ }
 {
     let i = cells::u16_at(s, 24);
@@ -70,7 +70,7 @@ fn start_env(ptr: u64) -> Env
 // The section's own statements, which have no parameters, with macro calls 16 deep at most.
 fn walk_section(
     s: &[u8],
-    t: &[u16],
+    t: &[u16; 3344],
     a: &mut [u64],
     m: &mut [u64],
     subtables: usize,
@@ -88,7 +88,7 @@ fn walk_section(
     bodies::statements::body(16, s, t, &p, &mut l, a, m, e, pos, n, ordinal, w)
 }
 
-fn resolve_section(s: &[u8], t: &[u16], a: &mut [u64], m: &mut [u64]) -> Answer
+fn resolve_section(s: &[u8], t: &[u16; 3344], a: &mut [u64], m: &mut [u64]) -> Answer
     ensures { λ r. ⌜ resolvedTo r (now (a .exit)) (now (m .exit)) ≡ resolveSection (now (s .entry)) (now (t .entry)) (now (a .entry)) (now (m .entry)) ⌝ }
 {
     let subtables = cells::u16_at(s, 20) as usize;
@@ -102,13 +102,6 @@ fn resolve_section(s: &[u8], t: &[u16], a: &mut [u64], m: &mut [u64]) -> Answer
     }
 }
 
-// The same, where the table is an array.
-fn resolve_table(s: &[u8], t: &[u16; 3344], a: &mut [u64], m: &mut [u64]) -> Answer
-    ensures { λ r. ⌜ resolvedTo r (now (a .exit)) (now (m .exit)) ≡ resolveSection (now (s .entry)) (now (t .entry)) (now (a .entry)) (now (m .entry)) ⌝ }
-{
-    resolve_section(s, t, a, m)
-}
-
 fn resolve_stream(s: &[u8], a: &mut [u64], m: &mut [u64]) -> Answer
     ensures { λ r. ⌜ resolvedTo r (now (a .exit)) (now (m .exit)) ≡ resolveStream (now (s .entry)) (now (a .entry)) (now (m .entry)) ⌝ }
 {
@@ -117,7 +110,7 @@ fn resolve_stream(s: &[u8], a: &mut [u64], m: &mut [u64]) -> Answer
     if bad != 0 {
         return refused(a, m, bad, 65535, 0);
     }
-    resolve_table(s, &t, a, m)
+    resolve_section(s, &t, a, m)
 }
 
 // The stream is the first n bytes.

@@ -1,7 +1,7 @@
 // Chains of the names whose spellings have the same hash: of 1,280 numbers the one at j is 1 + the name before name j on its
 // chain, and the one at 1,024 + h is 1 + the last name whose hash is h; 0 for none.
-use cells::inside::four;
 use crate::names::low;
+use cells::inside::four;
 ghost use mathlib.Core.Path.{_≡_};
 ghost use Prim.Native.Nat.{_+_, _<_};
 ghost use lib.ListN.{getD};

@@ -1,4 +1,5 @@
 // Calls that enter no macro: the delay slot and user ops; and what a macro call is given.
+use cells::u16_in;
 use expression::calls::only_integer;
 use expression::expr::after;
 use expression::expr::resolve_args;
@@ -7,7 +8,6 @@ use meaning::args::arg_at;
 use meaning::read::read_operand;
 use meaning::scope::global;
 use meaning::scope::param_place;
-use meaning::scope::u16_in;
 use pcode::value::absent;
 use pcode::value::no_output;
 use pcode::value::put;
@@ -61,7 +61,7 @@ fn symbol_of(g: u64) -> Called
     }
 }
 
-pub fn called_of(s: &[u8], t: &[u16], name: u64) -> Called
+pub fn called_of(s: &[u8], t: &[u16; 3344], name: u64) -> Called
     ensures { λ r. ⌜ r ≡ calledOf (now (s .entry)) (now (t .entry)) name ⌝ }
 {
     if name == cells::u16_at(s, 32) {
@@ -86,7 +86,7 @@ fn delay_slot(s: &[u8], a: &mut [u64], pos: usize, n: u64, w: Walk) -> Step
 // Reads n arguments in place: each slot's value becomes an operand.
 fn read_args(
     s: &[u8],
-    t: &[u16],
+    t: &[u16; 3344],
     a: &mut [u64],
     m: &mut [u64],
     args: &mut [u64],
@@ -133,7 +133,7 @@ fn push_user_op(a: &mut [u64], args: &[u64], id: u64, n: u64, st: State) -> Push
 
 fn user_op_args(
     s: &[u8],
-    t: &[u16],
+    t: &[u16; 3344],
     a: &mut [u64],
     m: &mut [u64],
     args: &mut [u64],
@@ -152,7 +152,7 @@ fn user_op_args(
 
 fn user_op_statement(
     s: &[u8],
-    t: &[u16],
+    t: &[u16; 3344],
     p: &[u64],
     a: &mut [u64],
     m: &mut [u64],
@@ -179,7 +179,7 @@ fn user_op_statement(
 pub fn other_call(
     c: Called,
     s: &[u8],
-    t: &[u16],
+    t: &[u16; 3344],
     p: &[u64],
     a: &mut [u64],
     m: &mut [u64],
@@ -199,7 +199,7 @@ pub fn other_call(
 }
 
 // Where macro number `id` stands.
-pub fn macro_at(t: &[u16], id: u64) -> usize
+pub fn macro_at(t: &[u16; 3344], id: u64) -> usize
     ensures { λ r. ⌜ r ≡ macroAt (now (t .entry)) id ⌝ }
 {
     cells::get_u16(t, 3072 + (id % 128) as usize) as usize
@@ -216,7 +216,7 @@ fn bind_names(s: &[u8], args: &mut [u64], names: usize, n: usize)
 }
 
 // As many arguments as the macro has parameters.
-fn counted(s: &[u8], t: &[u16], id: u64, n: u64, next: usize, st: State) -> Args
+fn counted(s: &[u8], t: &[u16; 3344], id: u64, n: u64, next: usize, st: State) -> Args
     ensures { λ r. ⌜ r ≡ counted (now (s .entry)) (now (t .entry)) id n next st ⌝ }
 {
     if cells::byte(s, macro_at(t, id), 0) == n {
@@ -228,7 +228,7 @@ fn counted(s: &[u8], t: &[u16], id: u64, n: u64, next: usize, st: State) -> Args
 // The arguments of a macro call, as its parameters.
 pub fn macro_args(
     s: &[u8],
-    t: &[u16],
+    t: &[u16; 3344],
     p: &[u64],
     a: &mut [u64],
     m: &mut [u64],

@@ -1,4 +1,5 @@
 // Statements of one step: unimplemented, the export, locals, and builds.
+use cells::u16_in;
 use expression::expr::Expr;
 use expression::expr::after;
 use expression::expr::resolve_expr;
@@ -7,7 +8,6 @@ use meaning::read::read_value;
 use meaning::scope::ExprValue;
 use meaning::scope::global;
 use meaning::scope::named_tmp;
-use meaning::scope::u16_in;
 use pcode::sizes::entry;
 use pcode::value::Value;
 use pcode::value::absent;
@@ -30,7 +30,7 @@ ghost use Rattle.semantics.specs.Simple.{unimplemented, exported, export
 
 pub fn unimplemented(
     s: &[u8],
-    t: &[u16],
+    t: &[u16; 3344],
     a: &mut [u64],
     m: &mut [u64],
     e: Env,
@@ -87,7 +87,7 @@ fn export_value(r: Read, next: usize, w: Walk) -> Step
 // A reference stays one, anything else is read.
 fn export_of(
     s: &[u8],
-    t: &[u16],
+    t: &[u16; 3344],
     a: &mut [u64],
     m: &mut [u64],
     e: Env,
@@ -107,7 +107,7 @@ fn export_of(
 
 pub fn export_statement(
     s: &[u8],
-    t: &[u16],
+    t: &[u16; 3344],
     p: &[u64],
     a: &mut [u64],
     m: &mut [u64],
@@ -123,7 +123,14 @@ pub fn export_statement(
     }
 }
 
-pub fn local_statement(s: &[u8], t: &[u16], m: &mut [u64], e: Env, pos: usize, w: Walk) -> Step
+pub fn local_statement(
+    s: &[u8],
+    t: &[u16; 3344],
+    m: &mut [u64],
+    e: Env,
+    pos: usize,
+    w: Walk,
+) -> Step
     ensures { λ r. ⌜ listed r (now (m .exit)) ≡ localStatement (now (s .entry)) (now (t .entry)) (now (m .entry)) e pos w ⌝ }
 {
     let name = u16_in(s, pos, 1);
@@ -134,7 +141,7 @@ pub fn local_statement(s: &[u8], t: &[u16], m: &mut [u64], e: Env, pos: usize, w
 // An expression at a position read into a target.
 fn assign(
     s: &[u8],
-    t: &[u16],
+    t: &[u16; 3344],
     p: &[u64],
     a: &mut [u64],
     m: &mut [u64],
@@ -158,7 +165,7 @@ fn assign(
 
 pub fn local_assignment(
     s: &[u8],
-    t: &[u16],
+    t: &[u16; 3344],
     p: &[u64],
     a: &mut [u64],
     m: &mut [u64],
@@ -177,7 +184,7 @@ pub fn local_assignment(
 }
 
 // The first of n subtables that has this table, or n.
-fn find_subtable(s: &[u8], t: &[u16], n: u64, table: u64) -> u64
+fn find_subtable(s: &[u8], t: &[u16; 3344], n: u64, table: u64) -> u64
     ensures { λ r. ⌜ r ≡ findSubtable n 0 (now (s .entry)) (now (t .entry)) table ⌝ }
 {
     let mut i = 0;
@@ -190,7 +197,7 @@ fn find_subtable(s: &[u8], t: &[u16], n: u64, table: u64) -> u64
     i
 }
 
-fn build_table(s: &[u8], t: &[u16], a: &mut [u64], table: u64, pos: usize, w: Walk) -> Step
+fn build_table(s: &[u8], t: &[u16; 3344], a: &mut [u64], table: u64, pos: usize, w: Walk) -> Step
     ensures { λ r. ⌜ listed r (now (a .exit)) ≡ buildTable (now (s .entry)) (now (t .entry)) (now (a .entry)) table pos w ⌝ }
 {
     let n = cells::u16_at(s, 20);
@@ -205,7 +212,7 @@ fn build_table(s: &[u8], t: &[u16], a: &mut [u64], table: u64, pos: usize, w: Wa
     stop(w, 24)
 }
 
-pub fn build(s: &[u8], t: &[u16], a: &mut [u64], pos: usize, w: Walk) -> Step
+pub fn build(s: &[u8], t: &[u16; 3344], a: &mut [u64], pos: usize, w: Walk) -> Step
     ensures { λ r. ⌜ listed r (now (a .exit)) ≡ build (now (s .entry)) (now (t .entry)) (now (a .entry)) pos w ⌝ }
 {
     let g = global(t, u16_in(s, pos, 1));

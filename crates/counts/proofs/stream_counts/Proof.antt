@@ -3,7 +3,7 @@ use Rattle.counts.proofs.stream_counts.Statement.{statement}
 use Rattle.counts.proofs.stream_counts.Tie as tie
 use Rattle.counts.proofs.stream_counts.Reads as reads
 use Rattle.counts.proofs.stream_counts.Lts as lts
-use Rattle.counts.proofs.array_counts.Reads as array-counts-reads
+use Rattle.counts.proofs.table_counts.Reads as table-counts-reads
 use Rattle.section.proofs.read_stream.Reads as read-stream-reads
 use Rattle.counts.proofs.Laws.{laws}
 
@@ -16,8 +16,8 @@ returns : tie.Need-returns
 returns c = search (laws, needs)
 
 -- src/lib.rt:43:5
-array-counts-requires : tie.Need-array-counts-requires
-array-counts-requires c κs = search (laws, needs)
+table-counts-requires : tie.Need-table-counts-requires
+table-counts-requires c κs = search (laws, needs)
 
 -- src/lib.rt:32:1
 returns-2 : tie.Need-returns-2
@@ -25,4 +25,4 @@ returns-2 c = search (laws, needs)
 
 pub stream-counts-spec : {M : Type 1} → statement M
 stream-counts-spec =
-    tie.close (tie.spec read-stream-requires returns array-counts-requires returns-2)
+    tie.close (tie.spec read-stream-requires returns table-counts-requires returns-2)

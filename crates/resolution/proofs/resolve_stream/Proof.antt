@@ -4,7 +4,7 @@ use Rattle.resolution.proofs.resolve_stream.Tie as tie
 use Rattle.resolution.proofs.resolve_stream.Reads as reads
 use Rattle.resolution.proofs.resolve_stream.Lts as lts
 use Rattle.outcome.proofs.answer.refused.Reads as refused-reads
-use Rattle.resolution.proofs.resolve_table.Reads as resolve-table-reads
+use Rattle.resolution.proofs.resolve_section.Reads as resolve-section-reads
 use Rattle.section.proofs.read_stream.Reads as read-stream-reads
 use Rattle.resolution.proofs.FileLaws.{file-laws}
 
@@ -29,8 +29,8 @@ returns : tie.Need-returns
 returns c = search (file-laws, needs)
 
 -- src/lib.rt:115:5
-resolve-table-requires : tie.Need-resolve-table-requires
-resolve-table-requires c κs = search needs
+resolve-section-requires : tie.Need-resolve-section-requires
+resolve-section-requires c κs = search needs
 
 -- src/lib.rt:107:1
 same-length-3 : tie.Need-same-length-3
@@ -53,7 +53,7 @@ resolve-stream-spec =
     same-length
     same-length-2
     returns
-    resolve-table-requires
+    resolve-section-requires
     same-length-3
     same-length-4
     returns-2)

@@ -4,7 +4,7 @@ use Rattle.assignments.proofs.copies.target_name.Tie as tie
 use Rattle.assignments.proofs.copies.target_name.Reads as reads
 use Rattle.assignments.proofs.copies.target_name.Lts as lts
 use Rattle.cells.proofs.byte.Reads as byte-reads
-use Rattle.meaning.proofs.scope.u16_in.Reads as u16-in-reads
+use Rattle.cells.proofs.u16_in.Reads as u16-in-reads
 use Rattle.assignments.proofs.CopyLaws.{bit-laws}
 use Rattle.assignments.proofs.CopyLaws.{copy-laws}
 use Rattle.assignments.proofs.CopyLaws.{name-part, name-none}

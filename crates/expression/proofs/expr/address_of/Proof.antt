@@ -6,7 +6,7 @@ use Rattle.expression.proofs.expr.address_of.Lts as lts
 use Rattle.expression.proofs.expr.after.Reads as after-reads
 use Rattle.expression.proofs.expr.local_address.Reads as local-address-reads
 use Rattle.meaning.proofs.scope.resolve_ident.Reads as resolve-ident-reads
-use Rattle.meaning.proofs.scope.u16_in.Reads as u16-in-reads
+use Rattle.cells.proofs.u16_in.Reads as u16-in-reads
 use Rattle.expression.proofs.ExprLaws.{expr-laws}
 
 -- src/expr.rt:88:44

@@ -7,7 +7,7 @@ use Rattle.expression.proofs.expr.after.Reads as after-reads
 use Rattle.expression.proofs.expr.means_at.Reads as means-at-reads
 use Rattle.meaning.proofs.scope.plain_local.Reads as plain-local-reads
 use Rattle.meaning.proofs.scope.resolve_ident.Reads as resolve-ident-reads
-use Rattle.meaning.proofs.scope.u16_in.Reads as u16-in-reads
+use Rattle.cells.proofs.u16_in.Reads as u16-in-reads
 use Rattle.pcode.proofs.value.local.Reads as local-reads
 use Rattle.expression.proofs.ExprLaws.{expr-laws}
 

@@ -5,7 +5,7 @@ use Rattle.expression.proofs.expr.plain_at.Reads as reads
 use Rattle.expression.proofs.expr.plain_at.Lts as lts
 use Rattle.cells.proofs.byte.Reads as byte-reads
 use Rattle.meaning.proofs.scope.plain_local.Reads as plain-local-reads
-use Rattle.meaning.proofs.scope.u16_in.Reads as u16-in-reads
+use Rattle.cells.proofs.u16_in.Reads as u16-in-reads
 use Rattle.expression.proofs.ExprLaws.{expr-laws}
 
 -- src/expr.rt:259:9

@@ -3,7 +3,7 @@ use Rattle.meaning.proofs.scope.bit_range.Statement.{statement}
 use Rattle.meaning.proofs.scope.bit_range.Tie as tie
 use Rattle.meaning.proofs.scope.bit_range.Reads as reads
 use Rattle.meaning.proofs.scope.bit_range.Lts as lts
-use Rattle.meaning.proofs.scope.u16_in.Reads as u16-in-reads
+use Rattle.cells.proofs.u16_in.Reads as u16-in-reads
 use Rattle.pcode.proofs.sizes.entry.Reads as entry-reads
 use Rattle.pcode.proofs.value.local.Reads as local-reads
 use Rattle.meaning.proofs.ScopeLaws.{scope-laws}

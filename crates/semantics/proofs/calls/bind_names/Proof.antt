@@ -3,7 +3,7 @@ use Rattle.semantics.proofs.calls.bind_names.Tie as tie
 use Rattle.semantics.proofs.calls.bind_names.Reads as reads
 use Rattle.semantics.proofs.calls.bind_names.Lts as lts
 use Rattle.meaning.proofs.scope.param_place.Reads as param-place-reads
-use Rattle.meaning.proofs.scope.u16_in.Reads as u16-in-reads
+use Rattle.cells.proofs.u16_in.Reads as u16-in-reads
 use Rattle.pcode.proofs.value.put.Reads as put-reads
 use borrow.Author.Needs.{needs}
 use mathlib.Core.Path.{_≡_, refl}

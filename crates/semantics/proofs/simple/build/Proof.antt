@@ -4,7 +4,7 @@ use Rattle.semantics.proofs.simple.build.Tie as tie
 use Rattle.semantics.proofs.simple.build.Reads as reads
 use Rattle.semantics.proofs.simple.build.Lts as lts
 use Rattle.meaning.proofs.scope.global.Reads as global-reads
-use Rattle.meaning.proofs.scope.u16_in.Reads as u16-in-reads
+use Rattle.cells.proofs.u16_in.Reads as u16-in-reads
 use Rattle.semantics.proofs.simple.build_table.Reads as build-table-reads
 use Rattle.walking.proofs.walk.stop.Reads as stop-reads
 use Rattle.semantics.proofs.SimpleLaws.{simple-laws}

@@ -2,7 +2,7 @@ use Rattle.semantics.proofs.simple.find_subtable.Statement.{statement}
 use Rattle.semantics.proofs.simple.find_subtable.Tie as tie
 use Rattle.semantics.proofs.simple.find_subtable.Reads as reads
 use Rattle.semantics.proofs.simple.find_subtable.Lts as lts
-use Rattle.meaning.proofs.scope.u16_in.Reads as u16-in-reads
+use Rattle.cells.proofs.u16_in.Reads as u16-in-reads
 use Rattle.pcode.proofs.sizes.entry.Reads as entry-reads
 use borrow.Author.Needs.{needs}
 use mathlib.Core.Path.{_≡_}
