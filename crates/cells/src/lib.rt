@@ -1,5 +1,6 @@
 // Total access to lent slices: a read past the end is 0 and a write past the end changes nothing, so that callers have no
 // bounds to show. Numbers are little-endian, and `mask` has the low bits set.
+use inside::eight;
 use inside::two;
 ghost use mathlib.Core.Path.{_≡_};
 ghost use mathlib.Core.List.{_++_};
@@ -59,6 +60,11 @@ pub fn u32_at(s: &[u8], at: usize) -> u64
 pub fn u64_at(s: &[u8], at: usize) -> u64
     ensures { λ r. ⌜ r ≡ le64 (now (s .entry)) at ⌝ }
 {
+    if at < s.len() {
+        if 8 <= s.len() - at {
+            return eight(s, at);
+        }
+    }
     quad(s, at, 0) + 4294967296 * quad(s, at, 4)
 }
 
