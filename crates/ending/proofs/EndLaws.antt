@@ -1,17 +1,18 @@
 -- One law for each way out of the functions of the end.
-use mathlib.Core.Path.{_≡_}
+use mathlib.Core.Path.{_≡_, refl, sym}
 use mathlib.Core.Bool.{Bool, true, false}
 use mathlib.Core.List.{List, _++_}
-use Prim.Native.Nat.{ℕ, suc, _+_, _-_, _*_, _%_, _^_, _≤_, _<_}
+use Prim.Native.Nat.{ℕ, suc, _+_, _-_, _*_, _/_, _%_, _^_, _≤_, _<_}
 use native.Mathlib.Omega.{arith}
 use lib.ListN.{length, getD, set, take, replicate}
+use lib.Seq.{set-getD}
 use borrow.Author.Tests.{eq-eqb, ne-eqb, lt-ltb, le-ltb}
 use Rattle.pcode.specs.declared.value.Value.{Value}
 use Rattle.pcode.specs.declared.sizes.Sizing.{Sizing}
 use Rattle.ending.specs.declared.end.Fixed.{Fixed}
 use Rattle.ending.specs.declared.end.Finished.{Finished}
 use Rattle.pcode.specs.Base.{if_then_else_, run, Listed, listed, thenL}
-use Rattle.pcode.specs.Values.{withSize, valueAt, putValue, place, zeroWord}
+use Rattle.pcode.specs.Values.{withSize, word, valueOf, valueAt, putValue, place, zeroWord}
 use Rattle.pcode.specs.Sizes.{sizeOf, error, fallsBack}
 use Rattle.ending.specs.End.{fixed, finished, fixSize, putFixed, fixOperand, fixInput, fixInputs, fixOutput, fixOperands, writeCopy, copyOf, subpieceCopy, finishFixed, finishOp, thenF, finishFrom, finishActions, markBuild, markAction, markBuilt, zeroAction, writeBuild, implicitBuild, implicitBuilds, moveWord, moveAction, moveTo, moveDown, zeroFrom, assemble}
 use Rattle.pcode.proofs.LoopLaws.{run-end}
@@ -33,6 +34,33 @@ module _ (s t m : List ℕ) (v : Value) (ptr : ℕ) (z : Sizing) (known : ℕ) (
 pub fix-operand-law : (s t a m a1 : List ℕ) (at i ptr : ℕ) (z : Sizing) (v : Value) (f : Fixed) → v ≡ valueAt a at i → f ≡ fixSize s t m v ptr z → a1 ≡ putValue a at i (f .v) → listed (f .z) a1 ≡ fixOperand s t a m at i ptr z
 unfolding fixOperand putFixed
 fix-operand-law s t a m a1 at i ptr z v f p q e = rw (← p, ← q, e)
+
+-- an operand with a size of its own is written back as it is
+word-back : (n w : ℕ) → w / 16777216 < 65535 → word (valueOf n w) ≡ w
+unfolding word valueOf
+word-back n w h =
+    let a : w % 256 % 256 ≡ w % 256 = omega arith in
+    let b : w / 256 % 65536 % 65536 ≡ w / 256 % 65536 = omega arith in
+    let c : w / 16777216 % 65536 % 65536 ≡ w / 16777216 = omega arith in
+    let d : w / 16777216 ≡ w / 256 / 65536 = omega arith in
+    rw (a, b, c, d) (whole w (w / 256) (omega arith))
+  where
+    whole : (w q : ℕ) → w ≡ 256 * q + w % 256 → w % 256 + q % 65536 * 256 + q / 65536 * 16777216 ≡ w
+    whole w q e = omega arith
+
+put-back : (a : List ℕ) (at i : ℕ) → getD a (at + (i + 1)) 0 / 16777216 < 65535 → putValue a at i (valueAt a at i) ≡ a
+unfolding putValue valueAt valueOf
+put-back a at i h = rw (word-back (getD a (at + i) 0) (getD a (at + (i + 1)) 0) h, set-getD a (at + i) 0, set-getD a (at + (i + 1)) 0)
+
+pub fix-sized : (s t a m : List ℕ) (at i ptr w : ℕ) (z : Sizing) → w ≡ getD a (at + (i + 1)) 0 → w / 16777216 < 65535 → listed z a ≡ fixOperand s t a m at i ptr z
+unfolding fixOperand putFixed
+fix-sized s t a m at i ptr w z e h = sym (rw (← fix-known s t m (valueAt a at i) ptr z (valueAt a at i .size) own (valueAt a at i) other refl) (rw (put-back a at i (rw (← e) h))))
+  where
+    other : valueAt a at i .size ≡ 65535 → ⊥
+    other k = unfold valueAt valueOf in absurd (omega (arith, k, e, h))
+
+    own : valueAt a at i .size ≡ sizeOf s t m (valueAt a at i)
+    own = unfold sizeOf if_then_else_ in rw (ne-eqb (valueAt a at i .size) 65535 other)
 
 pub fix-input-law : (s t a m a1 : List ℕ) (at i ptr : ℕ) (z y : Sizing) → listed y a1 ≡ fixOperand s t a m at (6 + i % 8 * 2) ptr z → listed y a1 ≡ fixInput s t m at ptr i (listed z a)
 unfolding fixInput thenL
@@ -173,4 +201,4 @@ pub assemble-law : (a a1 a2 a3 built : List ℕ) (subtables n base k count at : 
 unfolding assemble zeroFrom thenL
 assemble-law a a1 a2 a3 built subtables n base k count at p q h e c o f = rw (← p, ← q, ← h, ← e, ← c, ← o, f)
 
-pub ruleset end-laws = (fix-known, fix-fallback, fix-error, fix-operand-law, fix-no-output, fix-some-output, fix-operands-law, write-copy-law, copy-unsized, copy-far, copy-written, finish-other, finish-fixed, finish-copy, mark-other, mark-one, write-build-law, implicit-built, implicit-new, assemble-law)
+pub ruleset end-laws = (fix-known, fix-fallback, fix-error, fix-operand-law, fix-sized, fix-no-output, fix-some-output, fix-operands-law, write-copy-law, copy-unsized, copy-far, copy-written, finish-other, finish-fixed, finish-copy, mark-other, mark-one, write-build-law, implicit-built, implicit-new, assemble-law)

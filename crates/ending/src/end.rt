@@ -53,6 +53,10 @@ fn fix_operand(
     requires { ⌜ i < 32 ⌝ }
     ensures { λ r. ⌜ listed r (now (a .exit)) ≡ fixOperand (now (s .entry)) (now (t .entry)) (now (a .entry)) (now (m .entry)) at i ptr z ⌝ }
 {
+    // Most operands have a size of their own by now, and stay as they are.
+    if get(a, at, i + 1) / 16777216 < 65535 {
+        return z;
+    }
     let f = fix_size(s, t, m, value_at(a, at, i), ptr, z);
     put_value(a, at, i, f.v);
     f.z

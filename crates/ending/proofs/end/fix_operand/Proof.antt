@@ -4,30 +4,57 @@ use Rattle.ending.proofs.end.fix_operand.Tie as tie
 use Rattle.ending.proofs.end.fix_operand.Reads as reads
 use Rattle.ending.proofs.end.fix_operand.Lts as lts
 use Rattle.ending.proofs.end.fix_size.Reads as fix-size-reads
+use Rattle.pcode.proofs.value.get.Reads as get-reads
 use Rattle.pcode.proofs.value.put_value.Reads as put-value-reads
 use Rattle.pcode.proofs.value.value_at.Reads as value-at-reads
 use Rattle.ending.proofs.EndLaws.{end-laws}
 
--- src/end.rt:56:31
+-- src/end.rt:57:19
+add-get : tie.Need-add-get
+add-get c = search (end-laws, needs)
+
+-- src/end.rt:57:8
+get-requires : tie.Need-get-requires
+get-requires c κs = search (end-laws, needs)
+
+-- src/end.rt:58:9
+same-length : tie.Need-same-length
+same-length c = search (end-laws, needs)
+
+-- src/end.rt:58:9
+returns : tie.Need-returns
+returns c = search (end-laws, needs)
+
+-- src/end.rt:60:31
 value-at-requires : tie.Need-value-at-requires
 value-at-requires c κs = search (end-laws, needs)
 
--- src/end.rt:56:9
+-- src/end.rt:60:9
 fix-size-requires : tie.Need-fix-size-requires
 fix-size-requires c κs = search (end-laws, needs)
 
--- src/end.rt:57:5
+-- src/end.rt:61:5
 put-value-requires : tie.Need-put-value-requires
 put-value-requires c κs = search (end-laws, needs)
 
 -- src/end.rt:43:1
-same-length : tie.Need-same-length
-same-length c = search (end-laws, needs)
+same-length-2 : tie.Need-same-length-2
+same-length-2 c = search (end-laws, needs)
 
 -- src/end.rt:43:1
-returns : tie.Need-returns
-returns c = search (end-laws, needs)
+returns-2 : tie.Need-returns-2
+returns-2 c = search (end-laws, needs)
 
 pub fix-operand-spec : {M : Type 1} → statement M
 fix-operand-spec =
-    tie.close (tie.spec value-at-requires fix-size-requires put-value-requires same-length returns)
+    tie.close
+    (tie.spec
+    add-get
+    get-requires
+    same-length
+    returns
+    value-at-requires
+    fix-size-requires
+    put-value-requires
+    same-length-2
+    returns-2)
