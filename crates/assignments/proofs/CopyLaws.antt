@@ -202,7 +202,7 @@ module _ (s t m : List ℕ) (e : Env) (pos name : ℕ) (st : State) (size next :
   unfolding newTarget onTmp
   target-no n q = rw (← es, ← f, q)
 
-  pub target-yes : (v : Value) (st1 : State) → r ≡ Read.Value v st1 → listed (Expr.Value (ExprValue.Local v) next st1) m1 ≡ newTarget s t m e pos name st
+  pub target-yes : (v : Value) (st1 : State) → r ≡ Read.Value v st1 → listed (Expr.Value next (ExprValue.Local v) st1) m1 ≡ newTarget s t m e pos name st
   unfolding newTarget onTmp
   target-yes v st1 q = rw (← es, ← f, q, ← en)
 
@@ -262,16 +262,16 @@ bare-target s t p m e pos name st q f h = go (eqb (getD s (pos + 0) 0) 0) refl (
     go false ex y ey f = absurd (omega arith)
 
 module _ (s t p a m : List ℕ) (e : Env) (pos : ℕ) (st : State) (name q : ℕ) (en : name ≡ targetName s pos) (f : q ≡ plainTarget s t p m e pos name st) where
-  pub dst-plain : (v : Value) (next : ℕ) → 8 ≤ q → v ≡ local (q % 8) (q / 8 - 1) → next ≡ after pos 3 → resolved (Expr.Value (ExprValue.Local v) next st) a m ≡ resolveDst s t p a m e pos st
+  pub dst-plain : (v : Value) (next : ℕ) → 8 ≤ q → v ≡ local (q % 8) (q / 8 - 1) → next ≡ after pos 3 → resolved (Expr.Value next (ExprValue.Local v) st) a m ≡ resolveDst s t p a m e pos st
   unfolding targetName if_then_else_
   dst-plain v next h ev ex =
       let b = bare-target s t p m e pos name st q f (omega arith) in
       let i = plain-means s t p m e st name q (b .same) h in
       let k : name ≡ le16 s (pos + 1) = rw (eq-eqb (getD s (pos + 0) 0) 0 (b .bare)) at en in
-      let d : Expr.Value (ExprValue.Local v) next st ≡ atom (getD s (pos + 0) 0) s t p m pos e st = rw (b .bare) (name-plain s t p m pos e st name k next ex q v (b .same) h ev) in
+      let d : Expr.Value next (ExprValue.Local v) st ≡ atom (getD s (pos + 0) 0) s t p m pos e st = rw (b .bare) (name-plain s t p m pos e st name k next ex q v (b .same) h ev) in
       dst-known s t p a m e pos st name false en (new-named s t p m e st name (resolveIdent s t p m e st name) false (b .named) refl (wrong-no (resolveIdent s t p m e st name) _ i))
-      (Expr.Value (ExprValue.Local v) next st) a m refl
-      (expr-atom 32 s t p e pos a m st (λ z. omega arith) (getD s (pos + 0) 0) refl (Expr.Value (ExprValue.Local v) next st) (let g = b .bare in omega arith) d)
+      (Expr.Value next (ExprValue.Local v) st) a m refl
+      (expr-atom 32 s t p e pos a m st (λ z. omega arith) (getD s (pos + 0) 0) refl (Expr.Value next (ExprValue.Local v) st) (let g = b .bare in omega arith) d)
 
   pub dst-wrong : (r : Expr) (m1 : List ℕ) → q ≡ 1 → listed r m1 ≡ newTarget s t m e pos name st → resolved r a m1 ≡ resolveDst s t p a m e pos st
   dst-wrong r m1 h g =
@@ -285,7 +285,7 @@ module _ (s t p a m : List ℕ) (e : Env) (x : ExprValue) (pos : ℕ) (st : Stat
   unfolding copyTarget onExpr
   to-no n z q h = rw (← f, q, h)
 
-  pub to-yes : (d : ExprValue) (next : ℕ) (st1 : State) (z : Step) (a2 m2 : List ℕ) → r ≡ Expr.Value d next st1 → stepped z a2 m2 ≡ copyInto s t a1 m1 e x d next st1 w → stepped z a2 m2 ≡ copyTarget s t p a m e x pos st w
+  pub to-yes : (d : ExprValue) (next : ℕ) (st1 : State) (z : Step) (a2 m2 : List ℕ) → r ≡ Expr.Value next d st1 → stepped z a2 m2 ≡ copyInto s t a1 m1 e x d next st1 w → stepped z a2 m2 ≡ copyTarget s t p a m e x pos st w
   unfolding copyTarget onExpr
   to-yes d next st1 z a2 m2 q h = rw (← f, q) h
 
@@ -294,7 +294,7 @@ module _ (s t p a m : List ℕ) (e : Env) (pos : ℕ) (w : Walk) (at : ℕ) (ea 
   unfolding copyStatement onExpr
   copy-no n z q h = rw (← ea, ← f, q, h)
 
-  pub copy-yes : (x : ExprValue) (next : ℕ) (st : State) (z : Step) (a2 m2 : List ℕ) → r ≡ Expr.Value x next st → stepped z a2 m2 ≡ copyTarget s t p a1 m1 e x next st w → stepped z a2 m2 ≡ copyStatement s t p a m e pos w
+  pub copy-yes : (x : ExprValue) (next : ℕ) (st : State) (z : Step) (a2 m2 : List ℕ) → r ≡ Expr.Value next x st → stepped z a2 m2 ≡ copyTarget s t p a1 m1 e x next st w → stepped z a2 m2 ≡ copyStatement s t p a m e pos w
   unfolding copyStatement onExpr
   copy-yes x next st z a2 m2 q h = rw (← ea, ← f, q) h
 

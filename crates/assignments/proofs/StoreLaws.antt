@@ -70,7 +70,7 @@ module _ (s t a m : List ℕ) (e : Env) (pos : ℕ) (x : ExprValue) (v : Value) 
   unfolding storeIn onExpr
   in-no n z q h = rw (← en .0, ← es .0, ← f, q, h)
 
-  pub in-yes : (to : ExprValue) (next : ℕ) (st1 : State) (z : Step) (a2 m2 : List ℕ) → r ≡ Expr.Value to next st1 → stepped z a2 m2 ≡ storeAt s t a1 m1 e to v next st1 w → stepped z a2 m2 ≡ storeIn s t a m e pos x v end st w
+  pub in-yes : (to : ExprValue) (next : ℕ) (st1 : State) (z : Step) (a2 m2 : List ℕ) → r ≡ Expr.Value next to st1 → stepped z a2 m2 ≡ storeAt s t a1 m1 e to v next st1 w → stepped z a2 m2 ≡ storeIn s t a m e pos x v end st w
   unfolding storeIn onExpr
   in-yes to next st1 z a2 m2 q h = rw (← en .0, ← es .0, ← f, q) h
 
@@ -79,7 +79,7 @@ module _ (s t p a m : List ℕ) (e : Env) (pos : ℕ) (v : Value) (end : ℕ) (s
   unfolding storePointer onExpr
   pointer-no n z q h = rw (← ea, ← f, q, h)
 
-  pub pointer-yes : (x : ExprValue) (next : ℕ) (st1 : State) (z : Step) (a2 m2 : List ℕ) → r ≡ Expr.Value x next st1 → stepped z a2 m2 ≡ storeIn s t a1 m1 e pos x v end st1 w → stepped z a2 m2 ≡ storePointer s t p a m e pos v end st w
+  pub pointer-yes : (x : ExprValue) (next : ℕ) (st1 : State) (z : Step) (a2 m2 : List ℕ) → r ≡ Expr.Value next x st1 → stepped z a2 m2 ≡ storeIn s t a1 m1 e pos x v end st1 w → stepped z a2 m2 ≡ storePointer s t p a m e pos v end st w
   unfolding storePointer onExpr
   pointer-yes x next st1 z a2 m2 q h = rw (← ea, ← f, q) h
 

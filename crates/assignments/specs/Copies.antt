@@ -119,7 +119,7 @@ afterTarget s pos = if eqb (getD s (pos + 0) 0) 0 then after pos 3 else after po
 unfoldable pub newTarget : List ℕ → List ℕ → List ℕ → Env → ℕ → ℕ → State → Listed Expr
 newTarget s t m e pos name st =
     onTmp (namedTmp t m e name (targetSize s pos) st)
-    (λ v st1 u. listed (Expr.Value (ExprValue.Local v) (afterTarget s pos) st1) u)
+    (λ v st1 u. listed (Expr.Value (afterTarget s pos) (ExprValue.Local v) st1) u)
     (λ n u. listed (Expr.No n) u)
 
 unfoldable pub isWrong : Meaning → Bool

@@ -84,7 +84,7 @@ pub means-wrong : (x : Meaning) (next : ℕ) (st : State) (n : ℕ) → x ≡ Me
 unfolding meansAt
 means-wrong x next st n q = rw q
 
-pub means-value : (x : Meaning) (next : ℕ) (st : State) (v : ExprValue) → x ≡ Meaning.Means v → Expr.Value v next st ≡ meansAt x next st
+pub means-value : (x : Meaning) (next : ℕ) (st : State) (v : ExprValue) → x ≡ Meaning.Means v → Expr.Value next v st ≡ meansAt x next st
 unfolding meansAt
 means-value x next st v q = rw q
 
@@ -106,7 +106,7 @@ unfolding apply2
 apply2-value op v end r w next st k z q e h = rw (q, ← e) h
 
 -- ---- names, integers, addresses
-pub address-local : (x : ExprValue) (size next : ℕ) (st : State) (v : Value) → x ≡ ExprValue.Local v → Expr.Value (ExprValue.AddressOf v size) next st ≡ localAddress x size next st
+pub address-local : (x : ExprValue) (size next : ℕ) (st : State) (v : Value) → x ≡ ExprValue.Local v → Expr.Value next (ExprValue.AddressOf v size) st ≡ localAddress x size next st
 unfolding localAddress
 address-local x size next st v q = rw q
 
@@ -135,7 +135,7 @@ module _ (code : ℕ) (s t p m : List ℕ) (pos : ℕ) (e : Env) (st : State) wh
   pub atom-name : (z : Expr) → code ≡ 0 → z ≡ atom 0 s t p m pos e st → z ≡ atom code s t p m pos e st
   atom-name z k h = rw k h
 
-  pub atom-integer : (at n next : ℕ) → code ≡ 1 → at ≡ after pos 1 → n ≡ le64 s at → next ≡ after pos 9 → Expr.Value (ExprValue.Const n 65535) next st ≡ atom code s t p m pos e st
+  pub atom-integer : (at n next : ℕ) → code ≡ 1 → at ≡ after pos 1 → n ≡ le64 s at → next ≡ after pos 9 → Expr.Value next (ExprValue.Const n 65535) st ≡ atom code s t p m pos e st
   unfolding atom if_then_else_
   atom-integer at n next k ea en ex = rw (k, ← ea, ← en, ← ex)
 
@@ -145,7 +145,7 @@ module _ (code : ℕ) (s t p m : List ℕ) (pos : ℕ) (e : Env) (st : State) wh
 
 module _ (s t p m : List ℕ) (pos : ℕ) (e : Env) (st : State) (name : ℕ) (en : name ≡ le16 s (pos + 1)) (next : ℕ) (ex : next ≡ after pos 3) where
   pub name-plain : (q : ℕ) (v : Value) → q ≡ plainLocal s t p m e st name → 8 ≤ q → v ≡ local (q % 8) (q / 8 - 1) →
-      Expr.Value (ExprValue.Local v) next st ≡ atom 0 s t p m pos e st
+      Expr.Value next (ExprValue.Local v) st ≡ atom 0 s t p m pos e st
   unfolding atom meansAt if_then_else_
   name-plain q v f h ev = rw (← en, ← ex, plain-means s t p m e st name q f h, ev)
 
@@ -242,7 +242,7 @@ module _ (walk : Walk) (code : ℕ) (s t : List ℕ) (e : Env) (pos : ℕ) (a m 
   unfolding part onExpr
   part-no n q = rw (← ek, ← ea, ← f, q)
 
-  pub part-yes : (x : ExprValue) (next : ℕ) (st1 : State) (z : Expr) (a2 m2 : List ℕ) → r ≡ Expr.Value x next st1 → resolved z a2 m2 ≡ withPart code s t a1 m1 pos e x next st1 →
+  pub part-yes : (x : ExprValue) (next : ℕ) (st1 : State) (z : Expr) (a2 m2 : List ℕ) → r ≡ Expr.Value next x st1 → resolved z a2 m2 ≡ withPart code s t a1 m1 pos e x next st1 →
       resolved z a2 m2 ≡ part walk code s t e pos a m st
   unfolding part onExpr
   part-yes x next st1 z a2 m2 q g = rw (← ek, ← ea, ← f, q) g
@@ -253,7 +253,7 @@ module _ (walk : Walk) (s t : List ℕ) (e : Env) (pos : ℕ) (a m : List ℕ) (
   unfolding exprValue onExpr
   value-no n q = rw (← f, q)
 
-  pub value-yes : (x : ExprValue) (next : ℕ) (st1 : State) (r2 : Read) (a2 m2 : List ℕ) (z : Operand) → r ≡ Expr.Value x next st1 → read r2 a2 m2 ≡ readOperand s t a1 m1 e x st1 →
+  pub value-yes : (x : ExprValue) (next : ℕ) (st1 : State) (r2 : Read) (a2 m2 : List ℕ) (z : Operand) → r ≡ Expr.Value next x st1 → read r2 a2 m2 ≡ readOperand s t a1 m1 e x st1 →
       z ≡ valueThen next r2 → operand z a2 m2 ≡ exprValue walk s t e pos a m st
   unfolding exprValue onExpr operandOf
   value-yes x next st1 r2 a2 m2 z q g h = rw (← f, q, ← g, h)
@@ -297,7 +297,7 @@ module _ (walk : Walk) (n i pos : ℕ) (a m args : List ℕ) (st : State) (w : A
   unfolding resolveArgs onExpr
   args-no k q = rw (less n i h, ← f, q) at inv
 
-  pub args-more : (x : ExprValue) (next : ℕ) (st1 : State) (args1 : List ℕ) → r ≡ Expr.Value x next st1 → args1 ≡ putArg args i x →
+  pub args-more : (x : ExprValue) (next : ℕ) (st1 : State) (args1 : List ℕ) → r ≡ Expr.Value next x st1 → args1 ≡ putArg args i x →
       resolveArgs walk (n - (i + 1)) (i + 1) next a1 m1 args1 st1 ≡ w
   unfolding resolveArgs onExpr
   args-more x next st1 args1 q g =
@@ -374,11 +374,11 @@ module _ (d : ℕ) (s t p : List ℕ) (e : Env) (pos : ℕ) (a m : List ℕ) (st
 
 -- ---- an atom that is read is the value itself
 module _ (d : ℕ) (s t p : List ℕ) (e : Env) (pos : ℕ) (a m : List ℕ) (st : State) (nz : d ≡ 0 → ⊥) where
-  value-atom : (x : ExprValue) (v : Value) (next : ℕ) → getD s (pos + 0) 0 < 3 → Expr.Value x next st ≡ atom (getD s (pos + 0) 0) s t p m pos e st →
+  value-atom : (x : ExprValue) (v : Value) (next : ℕ) → getD s (pos + 0) 0 < 3 → Expr.Value next x st ≡ atom (getD s (pos + 0) 0) s t p m pos e st →
       read (Read.Value v st) a m ≡ readOperand s t a m e x st → operand (Operand.Value v next st) a m ≡ exprValue (resolveExpr d s t p e) s t e pos a m st
   unfolding valueThen
   value-atom x v next h g r =
-      value-yes (resolveExpr d s t p e) s t e pos a m st (Expr.Value x next st) a m (expr-atom d s t p e pos a m st nz (getD s (pos + 0) 0) refl (Expr.Value x next st) h g)
+      value-yes (resolveExpr d s t p e) s t e pos a m st (Expr.Value next x st) a m (expr-atom d s t p e pos a m st nz (getD s (pos + 0) 0) refl (Expr.Value next x st) h g)
       x next st (Read.Value v st) a m (Operand.Value v next st) refl r refl
 
   plain-atom : (q : ℕ) → getD s (pos + 0) 0 ≡ 0 → q ≡ plainLocal s t p m e st (le16 s (pos + 1)) → 7 ≤ q →

@@ -37,7 +37,7 @@ pub unbound-no : (next : ℕ) (r : Read) (n : ℕ) → r ≡ Read.No n → Expr.
 unfolding unboundThen
 unbound-no next r n q = rw q
 
-pub unbound-yes : (next : ℕ) (r : Read) (v : Value) (st : State) → r ≡ Read.Value v st → Expr.Value (ExprValue.Unbound v) next st ≡ unboundThen next r
+pub unbound-yes : (next : ℕ) (r : Read) (v : Value) (st : State) → r ≡ Read.Value v st → Expr.Value next (ExprValue.Unbound v) st ≡ unboundThen next r
 unfolding unboundThen
 unbound-yes next r v st q = rw q
 
@@ -80,7 +80,7 @@ module _ (value size from bits next : ℕ) (st : State) (k : ℕ) (e : k ≡ con
     unfolding sliceConst if_then_else_
     const-shift l = rw (← e, le-ltb (8 * k) (from % 65536 + bits % 65536) h, le-leb 64 from l)
 
-    pub const-part : (x z : ℕ) → from < 64 → x ≡ lowBits value from bits → z ≡ neededBytes bits → Expr.Value (ExprValue.Const x z) next st ≡ sliceConst value size from bits next st
+    pub const-part : (x z : ℕ) → from < 64 → x ≡ lowBits value from bits → z ≡ neededBytes bits → Expr.Value next (ExprValue.Const x z) st ≡ sliceConst value size from bits next st
     unfolding sliceConst if_then_else_
     const-part x z l p q = rw (← e, le-ltb (8 * k) (from % 65536 + bits % 65536) h, lt-leb 64 from l, p, q)
 
@@ -89,12 +89,12 @@ module _ (v : Value) (before whole from bits next : ℕ) (st : State) where
   unfolding sliceRange if_then_else_
   range-past h = rw (lt-ltb whole (from % 65536 + bits % 65536) h)
 
-  pub range-part : from % 65536 + bits % 65536 ≤ whole → Expr.Value (ExprValue.BitRange v (before % 65536 + from % 65536) bits) next st ≡ sliceRange v before whole from bits next st
+  pub range-part : from % 65536 + bits % 65536 ≤ whole → Expr.Value next (ExprValue.BitRange v (before % 65536 + from % 65536) bits) st ≡ sliceRange v before whole from bits next st
   unfolding sliceRange if_then_else_
   range-part h = rw (le-ltb whole (from % 65536 + bits % 65536) h)
 
 pub bits-local : (s t a m : List ℕ) (e : Env) (x : ExprValue) (from bits next : ℕ) (st : State) (v : Value) → x ≡ ExprValue.Local v →
-    resolved (Expr.Value (ExprValue.BitRange v from bits) next st) a m ≡ sliceBits s t a m e x from bits next st
+    resolved (Expr.Value next (ExprValue.BitRange v from bits) st) a m ≡ sliceBits s t a m e x from bits next st
 unfolding sliceBits
 bits-local s t a m e x from bits next st v q = rw q
 
@@ -130,12 +130,12 @@ unfolding orSize if_then_else_
 or-size-some size other h = rw (ne-eqb size 65535 h)
 
 pub const-space-local : (x : ExprValue) (size next : ℕ) (st : State) (v : Value) (k : ℕ) (w : Value) → x ≡ ExprValue.Local v → k ≡ orSize size (v .size) → w ≡ withSize k v →
-    Expr.Value (ExprValue.Local w) next st ≡ inConstSpace x size next st
+    Expr.Value next (ExprValue.Local w) st ≡ inConstSpace x size next st
 unfolding inConstSpace
 const-space-local x size next st v k w q h p = rw (q, p, h)
 
 pub const-space-const : (x : ExprValue) (size next : ℕ) (st : State) (value old k : ℕ) → x ≡ ExprValue.Const value old → k ≡ orSize size old →
-    Expr.Value (ExprValue.Const value k) next st ≡ inConstSpace x size next st
+    Expr.Value next (ExprValue.Const value k) st ≡ inConstSpace x size next st
 unfolding inConstSpace
 const-space-const x size next st value old k q h = rw (q, h)
 
@@ -185,11 +185,11 @@ unfolding reference
 reference-no kind size next r n q = rw q
 
 module _ (kind size next : ℕ) (r : Read) (v : Value) (st : State) (q : r ≡ Read.Value v st) where
-  pub reference-ram : (z : ℕ) → kind ≡ 0 → z ≡ orSize size 0 → Expr.Value (ExprValue.RamRef v z) next st ≡ reference kind size next r
+  pub reference-ram : (z : ℕ) → kind ≡ 0 → z ≡ orSize size 0 → Expr.Value next (ExprValue.RamRef v z) st ≡ reference kind size next r
   unfolding reference referenceTo if_then_else_
   reference-ram z k h = rw (q, eq-eqb kind 0 k, h)
 
-  pub reference-register : (z : ℕ) → kind ≡ 1 → z ≡ orSize size 0 → Expr.Value (ExprValue.RegisterRef v z) next st ≡ reference kind size next r
+  pub reference-register : (z : ℕ) → kind ≡ 1 → z ≡ orSize size 0 → Expr.Value next (ExprValue.RegisterRef v z) st ≡ reference kind size next r
   unfolding reference referenceTo if_then_else_
   reference-register z k h = rw (q, k, h)
 

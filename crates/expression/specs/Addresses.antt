@@ -22,8 +22,8 @@ unfoldable pub orSize : ℕ → ℕ → ℕ
 orSize size other = if eqb size 65535 then other else size
 
 unfoldable pub inConstSpace : ExprValue → ℕ → ℕ → State → Expr
-inConstSpace (ExprValue.Local v) size next st = Expr.Value (ExprValue.Local (withSize (orSize size (v .size)) v)) next st
-inConstSpace (ExprValue.Const value old) size next st = Expr.Value (ExprValue.Const value (orSize size old)) next st
+inConstSpace (ExprValue.Local v) size next st = Expr.Value next (ExprValue.Local (withSize (orSize size (v .size)) v)) st
+inConstSpace (ExprValue.Const value old) size next st = Expr.Value next (ExprValue.Const value (orSize size old)) st
 inConstSpace (ExprValue.Unbound v) size next st = Expr.No 38
 inConstSpace (ExprValue.Apply op number count x y) size next st = Expr.No 38
 inConstSpace (ExprValue.RamRef v z) size next st = Expr.No 38
@@ -53,8 +53,8 @@ resolveSpace s t name = if eqb name 65535 then defaultSpace s t (le16 s 24) else
 
 unfoldable pub referenceTo : ℕ → ℕ → ℕ → Value → State → Expr
 referenceTo kind size next v st =
-    if eqb kind 0 then Expr.Value (ExprValue.RamRef v (orSize size 0)) next st
-    else if eqb kind 1 then Expr.Value (ExprValue.RegisterRef v (orSize size 0)) next st
+    if eqb kind 0 then Expr.Value next (ExprValue.RamRef v (orSize size 0)) st
+    else if eqb kind 1 then Expr.Value next (ExprValue.RegisterRef v (orSize size 0)) st
     else Expr.No 40
 
 unfoldable pub reference : ℕ → ℕ → ℕ → Read → Expr

@@ -25,7 +25,7 @@ pub data ArgsOut : Type 0 where
 
 -- on with a value, or with the refusal
 unfoldable pub onExpr : {A : Type 0} → ExprOut → (ExprValue → ℕ → State → List ℕ → List ℕ → A) → (ℕ → List ℕ → List ℕ → A) → A
-onExpr (resolved (Expr.Value x next st) a m) f g = f x next st a m
+onExpr (resolved (Expr.Value next x st) a m) f g = f x next st a m
 onExpr (resolved (Expr.No n) a m) f g = g n a m
 
 unfoldable pub onOperand : {A : Type 0} → OperandOut → (Value → ℕ → State → List ℕ → List ℕ → A) → (ℕ → List ℕ → List ℕ → A) → A

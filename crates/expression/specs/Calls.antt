@@ -64,7 +64,7 @@ unfoldable pub passArgs : List ℕ → List ℕ → List ℕ → List ℕ → Li
 passArgs s t a m args n e st = passFrom (n - 2) 2 s t a m args e st
 
 abbrev pub applied : ℕ → ℕ → ℕ → Value → Value → ℕ → State → Expr
-applied op number count a b next st = Expr.Value (ExprValue.Apply op number count a b) next st
+applied op number count a b next st = Expr.Value next (ExprValue.Apply op number count a b) st
 
 unfoldable pub userOpTwo : List ℕ → List ℕ → List ℕ → List ℕ → List ℕ → ℕ → ℕ → Value → Env → State → ExprOut
 userOpTwo s t a m args id next v e st =

@@ -32,12 +32,12 @@ valueThen next (Read.Value v st) = Operand.Value v next st
 valueThen next (Read.No n) = Operand.No n
 
 unfoldable pub meansAt : Meaning → ℕ → State → Expr
-meansAt (Meaning.Means x) next st = Expr.Value x next st
+meansAt (Meaning.Means x) next st = Expr.Value next x st
 meansAt (Meaning.Wrong n) next st = Expr.No n
 
 -- the address of what is a local, and nothing else
 unfoldable pub localAddress : ExprValue → ℕ → ℕ → State → Expr
-localAddress (ExprValue.Local v) size next st = Expr.Value (ExprValue.AddressOf v size) next st
+localAddress (ExprValue.Local v) size next st = Expr.Value next (ExprValue.AddressOf v size) st
 localAddress (ExprValue.Unbound v) size next st = Expr.No 30
 localAddress (ExprValue.Const n z) size next st = Expr.No 30
 localAddress (ExprValue.Apply op number count x y) size next st = Expr.No 30
@@ -57,7 +57,7 @@ addressOf s t p m pos e st = addressMeant (resolveIdent s t p m e st (le16 s (po
 unfoldable pub atom : ℕ → List ℕ → List ℕ → List ℕ → List ℕ → ℕ → Env → State → Expr
 atom code s t p m pos e st =
     if eqb code 0 then meansAt (resolveIdent s t p m e st (le16 s (pos + 1))) (after pos 3) st
-    else if eqb code 1 then Expr.Value (ExprValue.Const (le64 s (after pos 1)) 65535) (after pos 9) st
+    else if eqb code 1 then Expr.Value (after pos 9) (ExprValue.Const (le64 s (after pos 1)) 65535) st
     else addressOf s t p m pos e st
 
 -- what stands at a position as one number: that of a plain local, or 7 for an integer; less for what has to be resolved

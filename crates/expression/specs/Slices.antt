@@ -20,7 +20,7 @@ abbrev pub lowBits : ℕ → ℕ → ℕ → ℕ
 lowBits x from bits = x / 2 ^ from % 2 ^ min bits 64
 
 unfoldable pub unboundThen : ℕ → Read → Expr
-unboundThen next (Read.Value v st) = Expr.Value (ExprValue.Unbound v) next st
+unboundThen next (Read.Value v st) = Expr.Value next (ExprValue.Unbound v) st
 unboundThen next (Read.No n) = Expr.No n
 
 unfoldable pub sliceRead : List ℕ → List ℕ → List ℕ → List ℕ → Env → ExprValue → ℕ → ℕ → ℕ → State → ExprOut
@@ -37,15 +37,15 @@ unfoldable pub sliceConst : ℕ → ℕ → ℕ → ℕ → ℕ → State → Ex
 sliceConst value size from bits next st =
     if ltb (8 * constBytes size) (from % 65536 + bits % 65536) then Expr.No 36
     else if leb 64 from then Expr.No 41
-    else Expr.Value (ExprValue.Const (lowBits value from bits) (neededBytes bits)) next st
+    else Expr.Value next (ExprValue.Const (lowBits value from bits) (neededBytes bits)) st
 
 unfoldable pub sliceRange : Value → ℕ → ℕ → ℕ → ℕ → ℕ → State → Expr
 sliceRange v before whole from bits next st =
     if ltb whole (from % 65536 + bits % 65536) then Expr.No 36
-    else Expr.Value (ExprValue.BitRange v (before % 65536 + from % 65536) bits) next st
+    else Expr.Value next (ExprValue.BitRange v (before % 65536 + from % 65536) bits) st
 
 unfoldable pub sliceBits : List ℕ → List ℕ → List ℕ → List ℕ → Env → ExprValue → ℕ → ℕ → ℕ → State → ExprOut
-sliceBits s t a m e (ExprValue.Local v) from bits next st = resolved (Expr.Value (ExprValue.BitRange v from bits) next st) a m
+sliceBits s t a m e (ExprValue.Local v) from bits next st = resolved (Expr.Value next (ExprValue.BitRange v from bits) st) a m
 sliceBits s t a m e (ExprValue.Const value size) from bits next st = resolved (sliceConst value size from bits next st) a m
 sliceBits s t a m e (ExprValue.BitRange v before whole) from bits next st = resolved (sliceRange v before whole from bits next st) a m
 sliceBits s t a m e (ExprValue.Unbound v) from bits next st = sliceRead s t a m e (ExprValue.Unbound v) from bits next st

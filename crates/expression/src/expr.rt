@@ -25,10 +25,11 @@ ghost use mathlib.Core.Path.{_≡_};
 ghost use Rattle.expression.specs.Answers.{after, resolved, operand, passed};
 ghost use Rattle.expression.specs.Expressions.{valueThen, meansAt, localAddress, addressOf, atom, plainAt, plainOperand, operationOf, later, skipExpr, operandsOf, apply1, apply2, partAt, withPart, exprValue, part, resolveOp, callInbuilt, resolveArgs, userOp, resolveCall, resolveExpr};
 
+// The place comes first: so the value begins on a boundary of 16 bytes, which makes copies of it faster.
 pub enum Expr {
     Value {
-        x: ExprValue,
         next: usize,
+        x: ExprValue,
         st: State,
     },
     No(u64),

@@ -27,7 +27,7 @@ use Rattle.expression_refinement.specs.Encodings.{count, Stood, Later, l
 
 -- the value and the position behind it
 unfoldable pub seenExpr : ExprOut → Seen (WordExpr × ℕ)
-seenExpr (resolved (Expr.Value x next st) a m) = yes (x, next) st a m
+seenExpr (resolved (Expr.Value next x st) a m) = yes (x, next) st a m
 seenExpr (resolved (Expr.No n) a m) = no n
 
 unfoldable pub seenOperand : OperandOut → Seen (WordValue × ℕ)
@@ -176,11 +176,11 @@ module _ (sec : Section) (front tail marks rest : List ℕ) where
     bind-expr enc x o f g r j i = bind spare more e from enc P seen encC Q k (seenExpr x) o (onExpr x f g) (λ d. f (d .0) (d .1)) r i (go x) (stop x)
       where
         go : (x : ExprOut) (d : WordExpr × ℕ) (st : WordState) (a m : List ℕ) → seenExpr x ≡ yes d st a m → seen (onExpr x f g) ≡ seen (f (d .0) (d .1) st a m)
-        go (resolved (Expr.Value v next st) a m) d u b w h = unfold seenExpr onExpr in (let o : (v, next) ≡ d = cc in let q : st ≡ u = cc in let r : a ≡ b = cc in let t : m ≡ w = cc in rw (← o, q, r, t))
+        go (resolved (Expr.Value next v st) a m) d u b w h = unfold seenExpr onExpr in (let o : (v, next) ≡ d = cc in let q : st ≡ u = cc in let r : a ≡ b = cc in let t : m ≡ w = cc in rw (← o, q, r, t))
         go (resolved (Expr.No n) a m) d u b w h = unfold seenExpr in (let z : _≡_ {A = ℕ} 0 1 = cc in absurd (omega arith))
 
         stop : (x : ExprOut) (n : ℕ) → seenExpr x ≡ no n → seen (onExpr x f g) ≡ no n
-        stop (resolved (Expr.Value v next st) a m) n h = unfold seenExpr in (let z : _≡_ {A = ℕ} 0 1 = cc in absurd (omega arith))
+        stop (resolved (Expr.Value next v st) a m) n h = unfold seenExpr in (let z : _≡_ {A = ℕ} 0 1 = cc in absurd (omega arith))
         stop (resolved (Expr.No k) a m) n h = unfold seenExpr onExpr in (let p : k ≡ n = cc in j k a m ∙ rw p)
 
     pub bind-operand : (enc : A → WordValue × ℕ) (x : OperandOut) (o : Outcome A) (f : WordValue → ℕ → WordState → List ℕ → List ℕ → R) (g : ℕ → List ℕ → List ℕ → R) → Refines spare from enc P (seenOperand x) o → Refuses g

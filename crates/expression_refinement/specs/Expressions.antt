@@ -238,7 +238,7 @@ module _ (s t : List ℕ) (e : Env) (p front tail marks rest : List ℕ) (we : W
   unfolding seenExpr
   stops next st n r h = refines-stopped (e .section) front tail marks rest spare st _ (SoundX (e .section)) n r h
 
-  answers : (next : ℕ) (st : State) → Stands st → (x : ExprValue) → SoundX (e .section) (count st) x → Answers next st (resolved (Expr.Value (encX x) next (W st)) (A st) (M st)) (done x st)
+  answers : (next : ℕ) (st : State) → Stands st → (x : ExprValue) → SoundX (e .section) (count st) x → Answers next st (resolved (Expr.Value next (encX x) (W st)) (A st) (M st)) (done x st)
   answers next st f x h = means-done s t e front tail marks rest we below spare room next st f x h
 
   names-few : le16 s 2 ≤ 1024
@@ -296,11 +296,11 @@ module _ (s t : List ℕ) (e : Env) (p front tail marks rest : List ℕ) (we : W
       → Answers next st (appliedTo y (apply2 (operationNumber op) (encV v) end)) (on e o λ right. λ e1 st1. done (ExprValue.Apply op 0 (v ∷ right ∷ [])) st1)
   apply-second op ok v end mid next q st h y o r =
       bind (e .section) front tail marks rest spare spare e st (λ (v : Value). (encV v, mid)) (Sound (e .section)) seenExpr (λ (x : ExprValue). (encX x, next)) (SoundX (e .section)) (λ right. λ e1 st1. done (ExprValue.Apply op 0 (v ∷ right ∷ [])) st1)
-      (seenOperand y) o (appliedTo y (apply2 (operationNumber op) (encV v) end)) (λ u st1 a m. resolved (Expr.Value (WordExpr.Apply (operationNumber op) 0 2 (encV v) (u .0)) (later end (u .1)) st1) a m) r
+      (seenOperand y) o (appliedTo y (apply2 (operationNumber op) (encV v) end)) (λ u st1 a m. resolved (Expr.Value (later end (u .1)) (WordExpr.Apply (operationNumber op) 0 2 (encV v) (u .0)) st1) a m) r
       (λ u st1 g k. rw q (unfold encX firstOf secondOf in answers next st1 (g .stood) (ExprValue.Apply op 0 (v ∷ u ∷ [])) (omega arith, ok v u, (sound-more (e .section) (count st) (count st1) (g .later .temporaries) v h, (k, tt)))))
       (go y) (stop y)
     where
-      go : (y : OperandOut) (u : WordValue × ℕ) (st1 : WordState) (a m : List ℕ) → seenOperand y ≡ yes u st1 a m → seenExpr (appliedTo y (apply2 (operationNumber op) (encV v) end)) ≡ seenExpr (resolved (Expr.Value (WordExpr.Apply (operationNumber op) 0 2 (encV v) (u .0)) (later end (u .1)) st1) a m)
+      go : (y : OperandOut) (u : WordValue × ℕ) (st1 : WordState) (a m : List ℕ) → seenOperand y ≡ yes u st1 a m → seenExpr (appliedTo y (apply2 (operationNumber op) (encV v) end)) ≡ seenExpr (resolved (Expr.Value (later end (u .1)) (WordExpr.Apply (operationNumber op) 0 2 (encV v) (u .0)) st1) a m)
       go (operand (Operand.Value z n st2) b w) u st1 a m q = unfold seenOperand appliedTo apply2 in (let i : (z, n) ≡ u = cc in let j : st2 ≡ st1 = cc in let k : b ≡ a = cc in let l : w ≡ m = cc in rw (← i, j, k, l))
       go (operand (Operand.No n) b w) u st1 a m q = unfold seenOperand in (let z : _≡_ {A = ℕ} 0 1 = cc in absurd (omega arith))
 
@@ -352,11 +352,11 @@ module _ (s t : List ℕ) (e : Env) (p front tail marks rest : List ℕ) (we : W
       → Answers next st (appliedTo y (apply1 (operationNumber op))) (on e o λ v. λ e1 st1. done (ExprValue.Apply op 0 (v ∷ [])) st1)
   apply-first op ok next st y o r =
       bind (e .section) front tail marks rest spare spare e st (λ (v : Value). (encV v, next)) (Sound (e .section)) seenExpr (λ (x : ExprValue). (encX x, next)) (SoundX (e .section)) (λ v. λ e1 st1. done (ExprValue.Apply op 0 (v ∷ [])) st1)
-      (seenOperand y) o (appliedTo y (apply1 (operationNumber op))) (λ u st1 a m. resolved (Expr.Value (WordExpr.Apply (operationNumber op) 0 1 (u .0) absent) (u .1) st1) a m) r
+      (seenOperand y) o (appliedTo y (apply1 (operationNumber op))) (λ u st1 a m. resolved (Expr.Value (u .1) (WordExpr.Apply (operationNumber op) 0 1 (u .0) absent) st1) a m) r
       (λ u st1 g k. unfold encX firstOf secondOf in answers next st1 (g .stood) (ExprValue.Apply op 0 (u ∷ [])) (omega arith, ok u, (k, tt)))
       (go y) (stop y)
     where
-      go : (y : OperandOut) (u : WordValue × ℕ) (st1 : WordState) (a m : List ℕ) → seenOperand y ≡ yes u st1 a m → seenExpr (appliedTo y (apply1 (operationNumber op))) ≡ seenExpr (resolved (Expr.Value (WordExpr.Apply (operationNumber op) 0 1 (u .0) absent) (u .1) st1) a m)
+      go : (y : OperandOut) (u : WordValue × ℕ) (st1 : WordState) (a m : List ℕ) → seenOperand y ≡ yes u st1 a m → seenExpr (appliedTo y (apply1 (operationNumber op))) ≡ seenExpr (resolved (Expr.Value (u .1) (WordExpr.Apply (operationNumber op) 0 1 (u .0) absent) st1) a m)
       go (operand (Operand.Value z n st2) b w) u st1 a m q = unfold seenOperand appliedTo apply1 in (let i : (z, n) ≡ u = cc in let j : st2 ≡ st1 = cc in let k : b ≡ a = cc in let l : w ≡ m = cc in rw (← i, j, k, l))
       go (operand (Operand.No n) b w) u st1 a m q = unfold seenOperand in (let z : _≡_ {A = ℕ} 0 1 = cc in absurd (omega arith))
 

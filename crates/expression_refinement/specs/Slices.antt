@@ -58,7 +58,7 @@ module _ (s t : List ℕ) (e : Env) (front tail marks rest : List ℕ) (we : Wor
   abbrev pub Means : State → ExprOut → Outcome ExprValue → Type 0
   Means st x o = Refines (e .section) front tail marks rest spare st (λ (x : ExprValue). (encX x, next)) (SoundX (e .section)) (seenExpr x) o
 
-  pub means-done : (st : State) → Stood (e .section) tail marks rest spare st → (x : ExprValue) → SoundX (e .section) (count st) x → Means st (resolved (Expr.Value (encX x) next (W st)) (A st) (M st)) (done x st)
+  pub means-done : (st : State) → Stood (e .section) tail marks rest spare st → (x : ExprValue) → SoundX (e .section) (count st) x → Means st (resolved (Expr.Value next (encX x) (W st)) (A st) (M st)) (done x st)
   unfolding seenExpr
   means-done st f x h = refines-done (e .section) front tail marks rest spare st _ (SoundX (e .section)) x (encX x, next) f h refl
 
@@ -70,7 +70,7 @@ module _ (s t : List ℕ) (e : Env) (front tail marks rest : List ℕ) (we : Wor
       let b : bits % 65536 ≡ bits = omega arith in
       rw (const-bytes size h, a, b)
       (bind-unless (e .section) front tail marks rest spare e st (λ (x : Expr). seenExpr (resolved x (A st) (M st))) (λ (x : ExprValue). (encX x, next)) (SoundX (e .section)) (ltb (8 * orElse 8 size) (from + bits)) slicePastEnd _ (Expr.No 36) _ (unfold seenExpr refusalNumber in refl)
-      (λ q. bind-unless (e .section) front tail marks rest spare e st (λ (x : Expr). seenExpr (resolved x (A st) (M st))) (λ (x : ExprValue). (encX x, next)) (SoundX (e .section)) (leb 64 from) shiftTooFar (Expr.Value (WordExpr.Const (lowBits n from bits) (neededBytes bits)) next (W st)) (Expr.No 41) (λ _. λ e2 st2. done (ExprValue.Const (d.masked bits (n / 2 ^ from)) (some (neededBytes bits))) st2) (unfold seenExpr refusalNumber in refl)
+      (λ q. bind-unless (e .section) front tail marks rest spare e st (λ (x : Expr). seenExpr (resolved x (A st) (M st))) (λ (x : ExprValue). (encX x, next)) (SoundX (e .section)) (leb 64 from) shiftTooFar (Expr.Value next (WordExpr.Const (lowBits n from bits) (neededBytes bits)) (W st)) (Expr.No 41) (λ _. λ e2 st2. done (ExprValue.Const (d.masked bits (n / 2 ^ from)) (some (neededBytes bits))) st2) (unfold seenExpr refusalNumber in refl)
       (λ r. unfold encX orNone orElse in means-done st f (ExprValue.Const (d.masked bits (n / 2 ^ from)) (some (neededBytes bits))) (unfold orElse in omega arith))
       (ltb from 64) (λ r. lt-ltb from 64 (leb-false 64 from r)) (λ r. le-ltb from 64 (leb-true 64 from r)))
       (leb (from + bits) (8 * orElse 8 size)) (not-less (8 * orElse 8 size) (from + bits)) (less (8 * orElse 8 size) (from + bits)))
@@ -83,7 +83,7 @@ module _ (s t : List ℕ) (e : Env) (front tail marks rest : List ℕ) (we : Wor
       let b : bits % 65536 ≡ bits = omega arith in
       let c : before % 65536 ≡ before = omega arith in
       rw (a, b, c)
-      (bind-unless (e .section) front tail marks rest spare e st (λ (x : Expr). seenExpr (resolved x (A st) (M st))) (λ (x : ExprValue). (encX x, next)) (SoundX (e .section)) (ltb whole (from + bits)) slicePastEnd (Expr.Value (WordExpr.BitRange (encV v) (before + from) bits) next (W st)) (Expr.No 36) (λ _. λ e2 st2. done (ExprValue.BitRange v (before + from) bits) st2) (unfold seenExpr refusalNumber in refl)
+      (bind-unless (e .section) front tail marks rest spare e st (λ (x : Expr). seenExpr (resolved x (A st) (M st))) (λ (x : ExprValue). (encX x, next)) (SoundX (e .section)) (ltb whole (from + bits)) slicePastEnd (Expr.Value next (WordExpr.BitRange (encV v) (before + from) bits) (W st)) (Expr.No 36) (λ _. λ e2 st2. done (ExprValue.BitRange v (before + from) bits) st2) (unfold seenExpr refusalNumber in refl)
       (λ q. let i = ltb-false whole (from + bits) q in unfold encX in means-done st f (ExprValue.BitRange v (before + from) bits) (h, omega arith))
       (leb (from + bits) whole) (not-less whole (from + bits)) (less whole (from + bits)))
 
@@ -97,12 +97,12 @@ module _ (s t : List ℕ) (e : Env) (front tail marks rest : List ℕ) (we : Wor
       λ v st1 r p.
       bind (e .section) front tail marks rest spare spare e st1 encV (Sound (e .section)) seenExpr (λ (x : ExprValue). (encX x, next)) (SoundX (e .section)) (λ part. λ e2 st2. done (ExprValue.Unbound part) st2)
       (seenRead (readSlice s t (A st1) (M st1) we (encV v) from bits false absent (W st1))) (d.readSlice v from bits none e st1)
-      (exprOf (readSlice s t (A st1) (M st1) we (encV v) from bits false absent (W st1)) (unboundThen next)) (λ u st2 a m. resolved (Expr.Value (WordExpr.Unbound u) next st2) a m)
+      (exprOf (readSlice s t (A st1) (M st1) we (encV v) from bits false absent (W st1)) (unboundThen next)) (λ u st2 a m. resolved (Expr.Value next (WordExpr.Unbound u) st2) a m)
       (unfold isSome toOf in read-slice s t e front tail marks rest we below spare room st1 (r .stood) v from bits none p l tt)
       (λ u st2 q k. unfold encX in means-done st2 (q .stood) (ExprValue.Unbound u) k)
       (go (readSlice s t (A st1) (M st1) we (encV v) from bits false absent (W st1))) (stop (readSlice s t (A st1) (M st1) we (encV v) from bits false absent (W st1)))
     where
-      go : (y : ReadOut) (v : WordValue) (st1 : WordState) (a m : List ℕ) → seenRead y ≡ yes v st1 a m → seenExpr (exprOf y (unboundThen next)) ≡ seenExpr (resolved (Expr.Value (WordExpr.Unbound v) next st1) a m)
+      go : (y : ReadOut) (v : WordValue) (st1 : WordState) (a m : List ℕ) → seenRead y ≡ yes v st1 a m → seenExpr (exprOf y (unboundThen next)) ≡ seenExpr (resolved (Expr.Value next (WordExpr.Unbound v) st1) a m)
       go (read (Read.Value u st2) b w) v st1 a m q = unfold seenRead exprOf unboundThen in (let i : u ≡ v = cc in let j : st2 ≡ st1 = cc in let k : b ≡ a = cc in let l : w ≡ m = cc in rw (i, j, k, l))
       go (read (Read.No n) b w) v st1 a m q = unfold seenRead in (let z : _≡_ {A = ℕ} 0 1 = cc in absurd (omega arith))
 

@@ -77,7 +77,7 @@ module _ (s t p a m : List ℕ) (e : Env) (pos : ℕ) (w : Walk) (at : ℕ) (ea 
   unfolding exportStatement onExpr
   export-no n z q h = rw (← ea, ← f, q, h)
 
-  pub export-yes : (x : ExprValue) (next : ℕ) (st : State) (z : Step) (a2 m2 : List ℕ) → r ≡ Expr.Value x next st → stepped z a2 m2 ≡ exportOf s t a1 m1 e x next st w → stepped z a2 m2 ≡ exportStatement s t p a m e pos w
+  pub export-yes : (x : ExprValue) (next : ℕ) (st : State) (z : Step) (a2 m2 : List ℕ) → r ≡ Expr.Value next x st → stepped z a2 m2 ≡ exportOf s t a1 m1 e x next st w → stepped z a2 m2 ≡ exportStatement s t p a m e pos w
   unfolding exportStatement onExpr
   export-yes x next st z a2 m2 q h = rw (← ea, ← f, q) h
 
@@ -92,7 +92,7 @@ module _ (s t p a m : List ℕ) (e : Env) (pos : ℕ) (to : Value) (st : State) 
   unfolding assign onExpr
   assign-no n z q h = rw (← f, q, h)
 
-  pub assign-yes : (x : ExprValue) (next : ℕ) (st1 : State) (r2 : Read) (a2 m2 : List ℕ) (z : Step) → r ≡ Expr.Value x next st1 → read r2 a2 m2 ≡ readValue s t a1 m1 e x true to st1 → z ≡ readThen next w r2 →
+  pub assign-yes : (x : ExprValue) (next : ℕ) (st1 : State) (r2 : Read) (a2 m2 : List ℕ) (z : Step) → r ≡ Expr.Value next x st1 → read r2 a2 m2 ≡ readValue s t a1 m1 e x true to st1 → z ≡ readThen next w r2 →
       stepped z a2 m2 ≡ assign s t p a m e pos to st w
   unfolding assign onExpr stepRead
   assign-yes x next st1 r2 a2 m2 z q g h = rw (← f, q, ← g, h)

@@ -141,7 +141,7 @@ module _ (s t : List ℕ) (e : Env) (front tail rest : List ℕ) (we : WordEnv) 
         → Onwards u (wrap (f (encX y) end (word (e .section) front tail marks rest u) (acts (e .section) front tail marks rest u) (temps (e .section) front tail marks rest u))) (k y e u))
         → StepsTo placing p ls marks b from next (wrap (onExpr x f g)) (on e o k)
     unfolding seenExpr onExpr on outcome
-    steps-expr (resolved (Expr.Value v n st) a m) (done y u) end f g k r stops i =
+    steps-expr (resolved (Expr.Value n v st) a m) (done y u) end f g k r stops i =
         let z = r .same in
         let d : _≡_ {A = WordExpr × ℕ} (v, n) (encX y, end) = cc in
         let d0 : v ≡ encX y = ap (λ (j : WordExpr × ℕ). j .0) d in
@@ -151,7 +151,7 @@ module _ (s t : List ℕ) (e : Env) (front tail rest : List ℕ) (we : WordEnv) 
         let l : m ≡ temps (e .section) front tail marks rest u = cc in
         let j = r .goes y u refl in
         rw (d0, d1, w, c, l) (steps-after u _ _ (j .0) (i y u (j .0) (j .1)))
-    steps-expr (resolved (Expr.Value v n st) a m) (stopped q ordinal errors) end f g k r stops i = let h = r .same in let z : _≡_ {A = ℕ} 0 1 = cc in absurd (omega arith)
+    steps-expr (resolved (Expr.Value n v st) a m) (stopped q ordinal errors) end f g k r stops i = let h = r .same in let z : _≡_ {A = ℕ} 0 1 = cc in absurd (omega arith)
     steps-expr (resolved (Expr.No n) a m) (done y u) end f g k r stops i = let h = r .same in let z : _≡_ {A = ℕ} 0 1 = cc in absurd (omega arith)
     steps-expr (resolved (Expr.No n) a m) (stopped q ordinal errors) end f g k r stops i = let h = r .same in let z : n ≡ refusalNumber q = cc in steps-stop placing p ls marks b from next _ q ordinal errors n begun ls a m (r .stops q ordinal errors refl) z begun-is (stops n a m)
 

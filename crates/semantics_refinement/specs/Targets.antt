@@ -198,17 +198,17 @@ module _ (s t : List ℕ) (e : Env) (p front tail marks rest : List ℕ) (we : W
 
     -- a new local
     new-target : (name : ℕ) → name < 1024 → (size : Option ℕ) → Small size
-        → Copies st next (onExpr (thenL (onTmp (namedTmp t M2 we name (orNone size) W2) (λ v st1 u. listed (Expr.Value (WordExpr.Local v) next st1) u) (λ n u. listed (Expr.No n) u)) (λ r u. resolved r A2 u)) into refusing)
+        → Copies st next (onExpr (thenL (onTmp (namedTmp t M2 we name (orNone size) W2) (λ v st1 u. listed (Expr.Value next (WordExpr.Local v) st1) u) (λ n u. listed (Expr.No n) u)) (λ r u. resolved r A2 u)) into refusing)
         (on e (on e (scope.namedTmp name size e st) λ v e1 st1. done (d.Destination.Local v) st1) (d.copyInto x))
     new-target name known size small =
         rw (on-assoc e (scope.namedTmp name size e st) (λ v e1 st1. done (d.Destination.Local v) st1) (d.copyInto x))
         (steps-named s t e p front tail marks rest we given spare b ls st stand name known size small 0 next (z .sizing .begun) begun
         (λ (r : Listed Expr). besideL ls (onExpr (thenL r (λ r u. resolved r A2 u)) into refusing))
-        (λ v st1 u. listed (Expr.Value (WordExpr.Local v) next st1) u) (λ n u. listed (Expr.No n) u) (λ v e1 st1. on e1 (done (d.Destination.Local v) st1) (d.copyInto x)) (λ n m. (A2, ls, m, unfold thenL onExpr besideL in refl))
+        (λ v st1 u. listed (Expr.Value next (WordExpr.Local v) st1) u) (λ n u. listed (Expr.No n) u) (λ v e1 st1. on e1 (done (d.Destination.Local v) st1) (d.copyInto x)) (λ n m. (A2, ls, m, unfold thenL onExpr besideL in refl))
         λ v u j q. copied v u j q)
       where
         copied : (v : Value) (u : State) (j : Names s t e p front tail marks rest we given spare b ls st stand name known size small v u) → z .sizing .begun ≡ orNone (u .sizing .begun)
-            → Steps s t e front tail rest we spare 0 p ls (marks2 name size) b u next (besideL ls (onExpr (thenL (listed (Expr.Value (WordExpr.Local (encV v)) next (word (e .section) front tail (marks2 name size) rest u)) (temps (e .section) front tail (marks2 name size) rest u)) (λ r u. resolved r A2 u)) into refusing)) (on e (done (d.Destination.Local v) u) (d.copyInto x))
+            → Steps s t e front tail rest we spare 0 p ls (marks2 name size) b u next (besideL ls (onExpr (thenL (listed (Expr.Value next (WordExpr.Local (encV v)) (word (e .section) front tail (marks2 name size) rest u)) (temps (e .section) front tail (marks2 name size) rest u)) (λ r u. resolved r A2 u)) into refusing)) (on e (done (d.Destination.Local v) u) (d.copyInto x))
         copied v u j q = unfold thenL onExpr in
             subst (λ (y : List SemanticAction). Steps s t e front tail rest we spare 0 p ls (marks2 name size) b u next (besideL ls (copyInto s t (actionsIn front tail y) (temps (e .section) front tail (marks2 name size) rest u) we (encX x) (WordExpr.Local (encV v)) next (word (e .section) front tail (marks2 name size) rest u) (walkOf b z))) (on e (done (d.Destination.Local v) u) (d.copyInto x))) (j .actions)
             (steps-goes s t e front tail rest we spare p ls (marks2 name size) b u next (z .sizing .begun) _ (on e (done (d.Destination.Local v) u) (d.copyInto x)) (j .stands) q
@@ -219,7 +219,7 @@ module _ (s t : List ℕ) (e : Env) (p front tail marks rest : List ℕ) (we : W
     target-steps = go (target-at s pos to next reads inside (given .short))
       where
         by : (name : ℕ) (known : name < 1024) (size : Option ℕ) → Small size → (y : Meaning)
-            → Copies st next (onExpr (if isWrong (encM y) then thenL (onTmp (namedTmp t M2 we name (orNone size) W2) (λ v st1 u. listed (Expr.Value (WordExpr.Local v) next st1) u) (λ n u. listed (Expr.No n) u)) (λ r u. resolved r A2 u) else resolveExpr 32 s t p we pos A2 M2 W2) into refusing)
+            → Copies st next (onExpr (if isWrong (encM y) then thenL (onTmp (namedTmp t M2 we name (orNone size) W2) (λ v st1 u. listed (Expr.Value next (WordExpr.Local v) st1) u) (λ n u. listed (Expr.No n) u)) (λ r u. resolved r A2 u) else resolveExpr 32 s t p we pos A2 M2 W2) into refusing)
             (on e (d.dstMeaning to name size y e st) (d.copyInto x))
         by name known size small (means y) = unfold isWrong encM if_then_else_ d.dstMeaning in plain-target
         by name known size small (wrong r) = unfold isWrong encM if_then_else_ d.dstMeaning in new-target name known size small

@@ -6,50 +6,49 @@ use Rattle.assignments.proofs.copies.copy_target.Lts as lts
 use Rattle.assignments.proofs.copies.copy_into.Reads as copy-into-reads
 use Rattle.assignments.proofs.copies.resolve_dst.Reads as resolve-dst-reads
 use Rattle.walking.proofs.walk.stop.Reads as stop-reads
-use Rattle.assignments.proofs.CopyLaws.{bit-laws}
-use Rattle.assignments.proofs.CopyLaws.{copy-laws}
+use Rattle.assignments.proofs.CopyLaws.{bit-laws, copy-laws}
 
--- src/copies.rt:228:11
+-- src/copies.rt:477:11
 resolve-dst-requires : tie.Need-resolve-dst-requires
 resolve-dst-requires c κs = search needs
 
--- src/copies.rt:229:18
+-- src/copies.rt:478:18
 enum-known-n : tie.Need-enum-known-n
 enum-known-n c = search needs
 
--- src/copies.rt:229:24
+-- src/copies.rt:478:24
 stop-requires : tie.Need-stop-requires
 stop-requires c κs = search needs
 
--- src/copies.rt:230:26
-enum-known-d : tie.Need-enum-known-d
-enum-known-d c = search needs
+-- src/copies.rt:481:13
+enum-known-next : tie.Need-enum-known-next
+enum-known-next c = search (bit-laws, copy-laws, needs)
 
--- src/copies.rt:230:48
+-- src/copies.rt:483:14
 copy-into-requires : tie.Need-copy-into-requires
 copy-into-requires c κs = search needs
 
--- src/copies.rt:225:1
+-- src/copies.rt:463:1
 same-length : tie.Need-same-length
 same-length c = search needs
 
--- src/copies.rt:225:1
+-- src/copies.rt:463:1
 same-length-2 : tie.Need-same-length-2
 same-length-2 c = search needs
 
--- src/copies.rt:225:1
+-- src/copies.rt:463:1
 returns : tie.Need-returns
 returns c = search (bit-laws, copy-laws, needs)
 
--- src/copies.rt:225:1
+-- src/copies.rt:463:1
 same-length-3 : tie.Need-same-length-3
 same-length-3 c = search needs
 
--- src/copies.rt:225:1
+-- src/copies.rt:463:1
 same-length-4 : tie.Need-same-length-4
 same-length-4 c = search needs
 
--- src/copies.rt:225:1
+-- src/copies.rt:463:1
 returns-2 : tie.Need-returns-2
 returns-2 c = search (bit-laws, copy-laws, needs)
 
@@ -60,7 +59,7 @@ copy-target-spec =
     resolve-dst-requires
     enum-known-n
     stop-requires
-    enum-known-d
+    enum-known-next
     copy-into-requires
     same-length
     same-length-2

@@ -3,62 +3,62 @@ use Rattle.assignments.proofs.stores.store_statement.Statement.{stateme
 use Rattle.assignments.proofs.stores.store_statement.Tie as tie
 use Rattle.assignments.proofs.stores.store_statement.Reads as reads
 use Rattle.assignments.proofs.stores.store_statement.Lts as lts
+use Rattle.assignments.proofs.stores.store_pointer.Reads as store-pointer-reads
 use Rattle.expression.proofs.expr.after.Reads as after-reads
 use Rattle.expression.proofs.expr.expr_value.Reads as expr-value-reads
 use Rattle.expression.proofs.expr.skip_expr.Reads as skip-expr-reads
-use Rattle.assignments.proofs.stores.store_pointer.Reads as store-pointer-reads
 use Rattle.walking.proofs.walk.stop.Reads as stop-reads
 use Rattle.assignments.proofs.StoreLaws.{store-laws}
 
--- src/stores.rt:75:48
+-- src/stores.rt:169:9
 after-requires : tie.Need-after-requires
 after-requires c κs = search needs
 
--- src/stores.rt:75:35
+-- src/stores.rt:170:9
 skip-expr-requires : tie.Need-skip-expr-requires
 skip-expr-requires c κs = search needs
 
--- src/stores.rt:75:11
+-- src/stores.rt:171:11
 expr-value-requires : tie.Need-expr-value-requires
 expr-value-requires c κs = search needs
 
--- src/stores.rt:76:21
+-- src/stores.rt:172:21
 enum-known-n : tie.Need-enum-known-n
 enum-known-n c = search needs
 
--- src/stores.rt:76:27
+-- src/stores.rt:172:27
 stop-requires : tie.Need-stop-requires
 stop-requires c κs = search needs
 
--- src/stores.rt:77:26
+-- src/stores.rt:173:26
 enum-known-v : tie.Need-enum-known-v
 enum-known-v c = search needs
 
--- src/stores.rt:77:43
+-- src/stores.rt:173:43
 store-pointer-requires : tie.Need-store-pointer-requires
 store-pointer-requires c κs = search needs
 
--- src/stores.rt:72:1
+-- src/stores.rt:157:1
 same-length : tie.Need-same-length
 same-length c = search needs
 
--- src/stores.rt:72:1
+-- src/stores.rt:157:1
 same-length-2 : tie.Need-same-length-2
 same-length-2 c = search needs
 
--- src/stores.rt:72:1
+-- src/stores.rt:157:1
 returns : tie.Need-returns
 returns c = search (store-laws, needs)
 
--- src/stores.rt:72:1
+-- src/stores.rt:157:1
 same-length-3 : tie.Need-same-length-3
 same-length-3 c = search needs
 
--- src/stores.rt:72:1
+-- src/stores.rt:157:1
 same-length-4 : tie.Need-same-length-4
 same-length-4 c = search needs
 
--- src/stores.rt:72:1
+-- src/stores.rt:157:1
 returns-2 : tie.Need-returns-2
 returns-2 c = search (store-laws, needs)
 

@@ -26,6 +26,7 @@ use Rattle.expression.proofs.expr.user_op.Reads as user-op
 use Rattle.expression.proofs.expr.user_op.Kinds as user-op-kinds
 use Rattle.expression.proofs.expr.+call_inbuilt+expr_value+part+resolve_args+resolve_call+resolve_expr+resolve_op+user_op.Lts-user_op as user-op-lts
 use Rattle.cells.proofs.byte.Reads as byte-reads
+use Rattle.cells.proofs.u16_in.Reads as u16-in-reads
 use Rattle.expression.proofs.calls.call_user_op.Reads as call-user-op-reads
 use Rattle.expression.proofs.calls.callee_of.Reads as callee-of-reads
 use Rattle.expression.proofs.calls.subpiece.Reads as subpiece-reads
@@ -41,9 +42,8 @@ use Rattle.expression.proofs.expr.value_then.Reads as value-then-reads
 use Rattle.expression.proofs.expr.with_part.Reads as with-part-reads
 use Rattle.meaning.proofs.args.put_arg.Reads as put-arg-reads
 use Rattle.meaning.proofs.read.read_operand.Reads as read-operand-reads
-use Rattle.cells.proofs.u16_in.Reads as u16-in-reads
-use Rattle.expression.proofs.expr.+call_inbuilt+expr_value+part+resolve_args+resolve_call+resolve_expr+resolve_op+user_op.{statement}
-use Rattle.expression.proofs.expr.+call_inbuilt+expr_value+part+resolve_args+resolve_call+resolve_expr+resolve_op+user_op.Tie.{close}
+use Rattle.expression.proofs.expr.+call_inbuilt+expr_value+part+resolve_args+resolve_call+resolve_expr+resolve_op+user_op.{ statement, }
+use Rattle.expression.proofs.expr.+call_inbuilt+expr_value+part+resolve_args+resolve_call+resolve_expr+resolve_op+user_op.Tie.{ close, }
 use Rattle.expression.proofs.ExprLaws.{walk-laws, args-start, args-no, args-more, args-done}
 use borrow.Author.Needs.{needs}
 use mathlib.Core.Path.{_≡_, refl}
@@ -151,7 +151,7 @@ user-op-at t = and 5 user-op-kinds.ps (is 5 user-op-kinds.ps μ-user-op t) user-
 abbrev user-op-below : ℕ → In 5 user-op-kinds.ps
 user-op-below t = and 5 user-op-kinds.ps (falls 5 user-op-kinds.ps _<_ μ-user-op t) user-op.Pre
 
--- src/expr.rt:373:43
+-- src/expr.rt:400:43
 call-inbuilt-after-requires : (t : ℕ) → call-inbuilt-lts.Need-after-requires (
   after-reads.Asked,
   after-reads.Learnt,
@@ -164,7 +164,7 @@ call-inbuilt-after-requires : (t : ℕ) → call-inbuilt-lts.Need-after-requires
 ) (call-inbuilt-at t) call-inbuilt.Post
 call-inbuilt-after-requires t c κs = search (walk-laws, needs)
 
--- src/expr.rt:373:9
+-- src/expr.rt:400:9
 call-inbuilt-expr-value-requires : (t : ℕ) → call-inbuilt-lts.Need-expr-value-requires (
   after-reads.Asked,
   after-reads.Learnt,
@@ -177,7 +177,7 @@ call-inbuilt-expr-value-requires : (t : ℕ) → call-inbuilt-lts.Need-expr-valu
 ) (call-inbuilt-at t) call-inbuilt.Post
 call-inbuilt-expr-value-requires t c κs = search (walk-laws, needs)
 
--- src/expr.rt:375:9
+-- src/expr.rt:402:9
 call-inbuilt-apply1-requires : (t : ℕ) → call-inbuilt-lts.Need-apply1-requires (
   after-reads.Asked,
   after-reads.Learnt,
@@ -190,7 +190,7 @@ call-inbuilt-apply1-requires : (t : ℕ) → call-inbuilt-lts.Need-apply1-requir
 ) (call-inbuilt-at t) call-inbuilt.Post
 call-inbuilt-apply1-requires t c κs = search (walk-laws, needs)
 
--- src/expr.rt:375:9
+-- src/expr.rt:402:9
 call-inbuilt-same-length : (t : ℕ) → call-inbuilt-lts.Need-same-length (
   after-reads.Asked,
   after-reads.Learnt,
@@ -203,7 +203,7 @@ call-inbuilt-same-length : (t : ℕ) → call-inbuilt-lts.Need-same-length (
 ) (call-inbuilt-at t) call-inbuilt.Post
 call-inbuilt-same-length t c = search (walk-laws, needs)
 
--- src/expr.rt:375:9
+-- src/expr.rt:402:9
 call-inbuilt-same-length-2 : (t : ℕ) → call-inbuilt-lts.Need-same-length-2 (
   after-reads.Asked,
   after-reads.Learnt,
@@ -216,7 +216,7 @@ call-inbuilt-same-length-2 : (t : ℕ) → call-inbuilt-lts.Need-same-length-2 (
 ) (call-inbuilt-at t) call-inbuilt.Post
 call-inbuilt-same-length-2 t c = search (walk-laws, needs)
 
--- src/expr.rt:375:9
+-- src/expr.rt:402:9
 call-inbuilt-returns : (t : ℕ) → call-inbuilt-lts.Need-returns (
   after-reads.Asked,
   after-reads.Learnt,
@@ -229,7 +229,7 @@ call-inbuilt-returns : (t : ℕ) → call-inbuilt-lts.Need-returns (
 ) (call-inbuilt-at t) call-inbuilt.Post
 call-inbuilt-returns t c = search (walk-laws, needs)
 
--- src/expr.rt:378:21
+-- src/expr.rt:405:21
 call-inbuilt-enum-known-first : (t : ℕ) → call-inbuilt-lts.Need-enum-known-first (
   after-reads.Asked,
   after-reads.Learnt,
@@ -242,7 +242,7 @@ call-inbuilt-enum-known-first : (t : ℕ) → call-inbuilt-lts.Need-enum-known-f
 ) (call-inbuilt-at t) call-inbuilt.Post
 call-inbuilt-enum-known-first t c = search (walk-laws, needs)
 
--- src/expr.rt:379:26
+-- src/expr.rt:406:26
 call-inbuilt-enum-known-first-2 : (t : ℕ) → call-inbuilt-lts.Need-enum-known-first-2 (
   after-reads.Asked,
   after-reads.Learnt,
@@ -255,7 +255,7 @@ call-inbuilt-enum-known-first-2 : (t : ℕ) → call-inbuilt-lts.Need-enum-known
 ) (call-inbuilt-at t) call-inbuilt.Post
 call-inbuilt-enum-known-first-2 t c = search (walk-laws, needs)
 
--- src/expr.rt:383:13
+-- src/expr.rt:410:13
 call-inbuilt-expr-value-requires-2 : (t : ℕ) → call-inbuilt-lts.Need-expr-value-requires-2 (
   after-reads.Asked,
   after-reads.Learnt,
@@ -268,7 +268,7 @@ call-inbuilt-expr-value-requires-2 : (t : ℕ) → call-inbuilt-lts.Need-expr-va
 ) (call-inbuilt-at t) call-inbuilt.Post
 call-inbuilt-expr-value-requires-2 t c κs = search (walk-laws, needs)
 
--- src/expr.rt:379:48
+-- src/expr.rt:406:48
 call-inbuilt-apply2-requires : (t : ℕ) → call-inbuilt-lts.Need-apply2-requires (
   after-reads.Asked,
   after-reads.Learnt,
@@ -281,7 +281,7 @@ call-inbuilt-apply2-requires : (t : ℕ) → call-inbuilt-lts.Need-apply2-requir
 ) (call-inbuilt-at t) call-inbuilt.Post
 call-inbuilt-apply2-requires t c κs = search (walk-laws, needs)
 
--- src/expr.rt:358:1
+-- src/expr.rt:385:1
 call-inbuilt-same-length-3 : (t : ℕ) → call-inbuilt-lts.Need-same-length-3 (
   after-reads.Asked,
   after-reads.Learnt,
@@ -294,7 +294,7 @@ call-inbuilt-same-length-3 : (t : ℕ) → call-inbuilt-lts.Need-same-length-3 (
 ) (call-inbuilt-at t) call-inbuilt.Post
 call-inbuilt-same-length-3 t c = search (walk-laws, needs)
 
--- src/expr.rt:358:1
+-- src/expr.rt:385:1
 call-inbuilt-same-length-4 : (t : ℕ) → call-inbuilt-lts.Need-same-length-4 (
   after-reads.Asked,
   after-reads.Learnt,
@@ -307,7 +307,7 @@ call-inbuilt-same-length-4 : (t : ℕ) → call-inbuilt-lts.Need-same-length-4 (
 ) (call-inbuilt-at t) call-inbuilt.Post
 call-inbuilt-same-length-4 t c = search (walk-laws, needs)
 
--- src/expr.rt:358:1
+-- src/expr.rt:385:1
 call-inbuilt-returns-2 : (t : ℕ) → call-inbuilt-lts.Need-returns-2 (
   after-reads.Asked,
   after-reads.Learnt,
@@ -320,7 +320,7 @@ call-inbuilt-returns-2 : (t : ℕ) → call-inbuilt-lts.Need-returns-2 (
 ) (call-inbuilt-at t) call-inbuilt.Post
 call-inbuilt-returns-2 t c = search (walk-laws, needs)
 
--- src/expr.rt:358:1
+-- src/expr.rt:385:1
 call-inbuilt-same-length-5 : (t : ℕ) → call-inbuilt-lts.Need-same-length-5 (
   after-reads.Asked,
   after-reads.Learnt,
@@ -333,7 +333,7 @@ call-inbuilt-same-length-5 : (t : ℕ) → call-inbuilt-lts.Need-same-length-5 (
 ) (call-inbuilt-at t) call-inbuilt.Post
 call-inbuilt-same-length-5 t c = search (walk-laws, needs)
 
--- src/expr.rt:358:1
+-- src/expr.rt:385:1
 call-inbuilt-same-length-6 : (t : ℕ) → call-inbuilt-lts.Need-same-length-6 (
   after-reads.Asked,
   after-reads.Learnt,
@@ -346,7 +346,7 @@ call-inbuilt-same-length-6 : (t : ℕ) → call-inbuilt-lts.Need-same-length-6 (
 ) (call-inbuilt-at t) call-inbuilt.Post
 call-inbuilt-same-length-6 t c = search (walk-laws, needs)
 
--- src/expr.rt:358:1
+-- src/expr.rt:385:1
 call-inbuilt-returns-3 : (t : ℕ) → call-inbuilt-lts.Need-returns-3 (
   after-reads.Asked,
   after-reads.Learnt,
@@ -359,7 +359,7 @@ call-inbuilt-returns-3 : (t : ℕ) → call-inbuilt-lts.Need-returns-3 (
 ) (call-inbuilt-at t) call-inbuilt.Post
 call-inbuilt-returns-3 t c = search (walk-laws, needs)
 
--- src/expr.rt:301:9
+-- src/expr.rt:328:9
 expr-value-plain-at-requires : (t : ℕ) → expr-value-lts.Need-plain-at-requires (
   plain-at-reads.Asked,
   plain-at-reads.Learnt,
@@ -374,7 +374,7 @@ expr-value-plain-at-requires : (t : ℕ) → expr-value-lts.Need-plain-at-requir
 ) (expr-value-at t) expr-value.Post
 expr-value-plain-at-requires t c κs = search (walk-laws, needs)
 
--- src/expr.rt:303:9
+-- src/expr.rt:330:9
 expr-value-plain-operand-requires : (t : ℕ) → expr-value-lts.Need-plain-operand-requires (
   plain-at-reads.Asked,
   plain-at-reads.Learnt,
@@ -389,7 +389,7 @@ expr-value-plain-operand-requires : (t : ℕ) → expr-value-lts.Need-plain-oper
 ) (expr-value-at t) expr-value.Post
 expr-value-plain-operand-requires t c κs = search (walk-laws, needs)
 
--- src/expr.rt:303:9
+-- src/expr.rt:330:9
 expr-value-same-length : (t : ℕ) → expr-value-lts.Need-same-length (
   plain-at-reads.Asked,
   plain-at-reads.Learnt,
@@ -404,7 +404,7 @@ expr-value-same-length : (t : ℕ) → expr-value-lts.Need-same-length (
 ) (expr-value-at t) expr-value.Post
 expr-value-same-length t c = search (walk-laws, needs)
 
--- src/expr.rt:303:9
+-- src/expr.rt:330:9
 expr-value-returns : (t : ℕ) → expr-value-lts.Need-returns (
   plain-at-reads.Asked,
   plain-at-reads.Learnt,
@@ -419,7 +419,7 @@ expr-value-returns : (t : ℕ) → expr-value-lts.Need-returns (
 ) (expr-value-at t) expr-value.Post
 expr-value-returns t c = search (walk-laws, needs)
 
--- src/expr.rt:305:11
+-- src/expr.rt:332:11
 expr-value-resolve-expr-requires : (t : ℕ) → expr-value-lts.Need-resolve-expr-requires (
   plain-at-reads.Asked,
   plain-at-reads.Learnt,
@@ -434,7 +434,7 @@ expr-value-resolve-expr-requires : (t : ℕ) → expr-value-lts.Need-resolve-exp
 ) (expr-value-at t) expr-value.Post
 expr-value-resolve-expr-requires t c κs = search (walk-laws, needs)
 
--- src/expr.rt:306:18
+-- src/expr.rt:333:18
 expr-value-enum-known-n : (t : ℕ) → expr-value-lts.Need-enum-known-n (
   plain-at-reads.Asked,
   plain-at-reads.Learnt,
@@ -449,8 +449,8 @@ expr-value-enum-known-n : (t : ℕ) → expr-value-lts.Need-enum-known-n (
 ) (expr-value-at t) expr-value.Post
 expr-value-enum-known-n t c = search (walk-laws, needs)
 
--- src/expr.rt:307:23
-expr-value-enum-known-x : (t : ℕ) → expr-value-lts.Need-enum-known-x (
+-- src/expr.rt:334:26
+expr-value-enum-known-next : (t : ℕ) → expr-value-lts.Need-enum-known-next (
   plain-at-reads.Asked,
   plain-at-reads.Learnt,
   plain-operand-reads.Asked,
@@ -462,9 +462,9 @@ expr-value-enum-known-x : (t : ℕ) → expr-value-lts.Need-enum-known-x (
   value-then-reads.Asked,
   value-then-reads.Learnt,
 ) (expr-value-at t) expr-value.Post
-expr-value-enum-known-x t c = search (walk-laws, needs)
+expr-value-enum-known-next t c = search (walk-laws, needs)
 
--- src/expr.rt:307:56
+-- src/expr.rt:334:56
 expr-value-read-operand-requires : (t : ℕ) → expr-value-lts.Need-read-operand-requires (
   plain-at-reads.Asked,
   plain-at-reads.Learnt,
@@ -479,7 +479,7 @@ expr-value-read-operand-requires : (t : ℕ) → expr-value-lts.Need-read-operan
 ) (expr-value-at t) expr-value.Post
 expr-value-read-operand-requires t c κs = search (walk-laws, needs)
 
--- src/expr.rt:307:45
+-- src/expr.rt:334:45
 expr-value-value-then-requires : (t : ℕ) → expr-value-lts.Need-value-then-requires (
   plain-at-reads.Asked,
   plain-at-reads.Learnt,
@@ -494,7 +494,7 @@ expr-value-value-then-requires : (t : ℕ) → expr-value-lts.Need-value-then-re
 ) (expr-value-at t) expr-value.Post
 expr-value-value-then-requires t c κs = search (walk-laws, needs)
 
--- src/expr.rt:288:1
+-- src/expr.rt:315:1
 expr-value-same-length-2 : (t : ℕ) → expr-value-lts.Need-same-length-2 (
   plain-at-reads.Asked,
   plain-at-reads.Learnt,
@@ -509,7 +509,7 @@ expr-value-same-length-2 : (t : ℕ) → expr-value-lts.Need-same-length-2 (
 ) (expr-value-at t) expr-value.Post
 expr-value-same-length-2 t c = search (walk-laws, needs)
 
--- src/expr.rt:288:1
+-- src/expr.rt:315:1
 expr-value-same-length-3 : (t : ℕ) → expr-value-lts.Need-same-length-3 (
   plain-at-reads.Asked,
   plain-at-reads.Learnt,
@@ -524,7 +524,7 @@ expr-value-same-length-3 : (t : ℕ) → expr-value-lts.Need-same-length-3 (
 ) (expr-value-at t) expr-value.Post
 expr-value-same-length-3 t c = search (walk-laws, needs)
 
--- src/expr.rt:288:1
+-- src/expr.rt:315:1
 expr-value-returns-2 : (t : ℕ) → expr-value-lts.Need-returns-2 (
   plain-at-reads.Asked,
   plain-at-reads.Learnt,
@@ -539,7 +539,7 @@ expr-value-returns-2 : (t : ℕ) → expr-value-lts.Need-returns-2 (
 ) (expr-value-at t) expr-value.Post
 expr-value-returns-2 t c = search (walk-laws, needs)
 
--- src/expr.rt:288:1
+-- src/expr.rt:315:1
 expr-value-same-length-4 : (t : ℕ) → expr-value-lts.Need-same-length-4 (
   plain-at-reads.Asked,
   plain-at-reads.Learnt,
@@ -554,7 +554,7 @@ expr-value-same-length-4 : (t : ℕ) → expr-value-lts.Need-same-length-4 (
 ) (expr-value-at t) expr-value.Post
 expr-value-same-length-4 t c = search (walk-laws, needs)
 
--- src/expr.rt:288:1
+-- src/expr.rt:315:1
 expr-value-same-length-5 : (t : ℕ) → expr-value-lts.Need-same-length-5 (
   plain-at-reads.Asked,
   plain-at-reads.Learnt,
@@ -569,7 +569,7 @@ expr-value-same-length-5 : (t : ℕ) → expr-value-lts.Need-same-length-5 (
 ) (expr-value-at t) expr-value.Post
 expr-value-same-length-5 t c = search (walk-laws, needs)
 
--- src/expr.rt:288:1
+-- src/expr.rt:315:1
 expr-value-returns-3 : (t : ℕ) → expr-value-lts.Need-returns-3 (
   plain-at-reads.Asked,
   plain-at-reads.Learnt,
@@ -584,7 +584,7 @@ expr-value-returns-3 : (t : ℕ) → expr-value-lts.Need-returns-3 (
 ) (expr-value-at t) expr-value.Post
 expr-value-returns-3 t c = search (walk-laws, needs)
 
--- src/expr.rt:326:50
+-- src/expr.rt:353:50
 part-part-at-requires : (t : ℕ) → part-lts.Need-part-at-requires (
   part-at-reads.Asked,
   part-at-reads.Learnt,
@@ -597,7 +597,7 @@ part-part-at-requires : (t : ℕ) → part-lts.Need-part-at-requires (
 ) (part-at t) part.Post
 part-part-at-requires t c κs = search (walk-laws, needs)
 
--- src/expr.rt:326:39
+-- src/expr.rt:353:39
 part-after-requires : (t : ℕ) → part-lts.Need-after-requires (
   part-at-reads.Asked,
   part-at-reads.Learnt,
@@ -610,7 +610,7 @@ part-after-requires : (t : ℕ) → part-lts.Need-after-requires (
 ) (part-at t) part.Post
 part-after-requires t c κs = search (walk-laws, needs)
 
--- src/expr.rt:326:11
+-- src/expr.rt:353:11
 part-resolve-expr-requires : (t : ℕ) → part-lts.Need-resolve-expr-requires (
   part-at-reads.Asked,
   part-at-reads.Learnt,
@@ -623,7 +623,7 @@ part-resolve-expr-requires : (t : ℕ) → part-lts.Need-resolve-expr-requires (
 ) (part-at t) part.Post
 part-resolve-expr-requires t c κs = search (walk-laws, needs)
 
--- src/expr.rt:327:18
+-- src/expr.rt:354:18
 part-enum-known-n : (t : ℕ) → part-lts.Need-enum-known-n (
   part-at-reads.Asked,
   part-at-reads.Learnt,
@@ -636,8 +636,8 @@ part-enum-known-n : (t : ℕ) → part-lts.Need-enum-known-n (
 ) (part-at t) part.Post
 part-enum-known-n t c = search (walk-laws, needs)
 
--- src/expr.rt:328:23
-part-enum-known-x : (t : ℕ) → part-lts.Need-enum-known-x (
+-- src/expr.rt:355:26
+part-enum-known-next : (t : ℕ) → part-lts.Need-enum-known-next (
   part-at-reads.Asked,
   part-at-reads.Learnt,
   after-reads.Asked,
@@ -647,9 +647,9 @@ part-enum-known-x : (t : ℕ) → part-lts.Need-enum-known-x (
   with-part-reads.Asked,
   with-part-reads.Learnt,
 ) (part-at t) part.Post
-part-enum-known-x t c = search (walk-laws, needs)
+part-enum-known-next t c = search (walk-laws, needs)
 
--- src/expr.rt:328:45
+-- src/expr.rt:355:45
 part-with-part-requires : (t : ℕ) → part-lts.Need-with-part-requires (
   part-at-reads.Asked,
   part-at-reads.Learnt,
@@ -662,7 +662,7 @@ part-with-part-requires : (t : ℕ) → part-lts.Need-with-part-requires (
 ) (part-at t) part.Post
 part-with-part-requires t c κs = search (walk-laws, needs)
 
--- src/expr.rt:312:1
+-- src/expr.rt:339:1
 part-same-length : (t : ℕ) → part-lts.Need-same-length (
   part-at-reads.Asked,
   part-at-reads.Learnt,
@@ -675,7 +675,7 @@ part-same-length : (t : ℕ) → part-lts.Need-same-length (
 ) (part-at t) part.Post
 part-same-length t c = search (walk-laws, needs)
 
--- src/expr.rt:312:1
+-- src/expr.rt:339:1
 part-same-length-2 : (t : ℕ) → part-lts.Need-same-length-2 (
   part-at-reads.Asked,
   part-at-reads.Learnt,
@@ -688,7 +688,7 @@ part-same-length-2 : (t : ℕ) → part-lts.Need-same-length-2 (
 ) (part-at t) part.Post
 part-same-length-2 t c = search (walk-laws, needs)
 
--- src/expr.rt:312:1
+-- src/expr.rt:339:1
 part-returns : (t : ℕ) → part-lts.Need-returns (
   part-at-reads.Asked,
   part-at-reads.Learnt,
@@ -701,7 +701,7 @@ part-returns : (t : ℕ) → part-lts.Need-returns (
 ) (part-at t) part.Post
 part-returns t c = search (walk-laws, needs)
 
--- src/expr.rt:312:1
+-- src/expr.rt:339:1
 part-same-length-3 : (t : ℕ) → part-lts.Need-same-length-3 (
   part-at-reads.Asked,
   part-at-reads.Learnt,
@@ -714,7 +714,7 @@ part-same-length-3 : (t : ℕ) → part-lts.Need-same-length-3 (
 ) (part-at t) part.Post
 part-same-length-3 t c = search (walk-laws, needs)
 
--- src/expr.rt:312:1
+-- src/expr.rt:339:1
 part-same-length-4 : (t : ℕ) → part-lts.Need-same-length-4 (
   part-at-reads.Asked,
   part-at-reads.Learnt,
@@ -727,7 +727,7 @@ part-same-length-4 : (t : ℕ) → part-lts.Need-same-length-4 (
 ) (part-at t) part.Post
 part-same-length-4 t c = search (walk-laws, needs)
 
--- src/expr.rt:312:1
+-- src/expr.rt:339:1
 part-returns-2 : (t : ℕ) → part-lts.Need-returns-2 (
   part-at-reads.Asked,
   part-at-reads.Learnt,
@@ -746,7 +746,7 @@ resolve-args-Inv-loop deep s t p pos n e a₀ m₀ args₀ at₀ st₀ i₀ a m 
 abbrev resolve-args-μ-loop : resolve-args-lts.MeasureT-loop
 resolve-args-μ-loop deep s t p pos n e a₀ m₀ args₀ at₀ st₀ i₀ a m args at st i = n - i
 
--- src/expr.rt:406:5
+-- src/expr.rt:433:5
 resolve-args-loop-holds : (t : ℕ) → resolve-args-lts.Need-loop-holds (
   resolve-expr-below t,
   resolve-expr.Post,
@@ -755,7 +755,7 @@ resolve-args-loop-holds : (t : ℕ) → resolve-args-lts.Need-loop-holds (
 ) (resolve-args-at t) resolve-args.Post resolve-args-Inv-loop resolve-args-μ-loop
 resolve-args-loop-holds t c = (refl, refl, refl, args-start _ _ _ _ _ _ _)
 
--- src/expr.rt:407:15
+-- src/expr.rt:434:15
 resolve-args-resolve-expr-requires : (t : ℕ) → resolve-args-lts.Need-resolve-expr-requires (
   resolve-expr-below t,
   resolve-expr.Post,
@@ -764,7 +764,7 @@ resolve-args-resolve-expr-requires : (t : ℕ) → resolve-args-lts.Need-resolve
 ) (resolve-args-at t) resolve-args.Post resolve-args-Inv-loop resolve-args-μ-loop
 resolve-args-resolve-expr-requires t c κs = search (walk-laws, needs)
 
--- src/expr.rt:408:22
+-- src/expr.rt:435:22
 resolve-args-enum-known-k : (t : ℕ) → resolve-args-lts.Need-enum-known-k (
   resolve-expr-below t,
   resolve-expr.Post,
@@ -773,7 +773,7 @@ resolve-args-enum-known-k : (t : ℕ) → resolve-args-lts.Need-enum-known-k (
 ) (resolve-args-at t) resolve-args.Post resolve-args-Inv-loop resolve-args-μ-loop
 resolve-args-enum-known-k t c = search (walk-laws, needs)
 
--- src/expr.rt:408:28
+-- src/expr.rt:435:28
 resolve-args-same-length : (t : ℕ) → resolve-args-lts.Need-same-length (
   resolve-expr-below t,
   resolve-expr.Post,
@@ -782,7 +782,7 @@ resolve-args-same-length : (t : ℕ) → resolve-args-lts.Need-same-length (
 ) (resolve-args-at t) resolve-args.Post resolve-args-Inv-loop resolve-args-μ-loop
 resolve-args-same-length t c = search (walk-laws, needs)
 
--- src/expr.rt:408:28
+-- src/expr.rt:435:28
 resolve-args-same-length-2 : (t : ℕ) → resolve-args-lts.Need-same-length-2 (
   resolve-expr-below t,
   resolve-expr.Post,
@@ -791,7 +791,7 @@ resolve-args-same-length-2 : (t : ℕ) → resolve-args-lts.Need-same-length-2 (
 ) (resolve-args-at t) resolve-args.Post resolve-args-Inv-loop resolve-args-μ-loop
 resolve-args-same-length-2 t c = search (walk-laws, needs)
 
--- src/expr.rt:408:28
+-- src/expr.rt:435:28
 resolve-args-same-length-3 : (t : ℕ) → resolve-args-lts.Need-same-length-3 (
   resolve-expr-below t,
   resolve-expr.Post,
@@ -800,7 +800,7 @@ resolve-args-same-length-3 : (t : ℕ) → resolve-args-lts.Need-same-length-3 (
 ) (resolve-args-at t) resolve-args.Post resolve-args-Inv-loop resolve-args-μ-loop
 resolve-args-same-length-3 t c = search (walk-laws, needs)
 
--- src/expr.rt:408:28
+-- src/expr.rt:435:28
 resolve-args-returns : (t : ℕ) → resolve-args-lts.Need-returns (
   resolve-expr-below t,
   resolve-expr.Post,
@@ -809,16 +809,16 @@ resolve-args-returns : (t : ℕ) → resolve-args-lts.Need-returns (
 ) (resolve-args-at t) resolve-args.Post resolve-args-Inv-loop resolve-args-μ-loop
 resolve-args-returns t c = search (args-no, needs)
 
--- src/expr.rt:409:27
-resolve-args-enum-known-x : (t : ℕ) → resolve-args-lts.Need-enum-known-x (
+-- src/expr.rt:436:30
+resolve-args-enum-known-next : (t : ℕ) → resolve-args-lts.Need-enum-known-next (
   resolve-expr-below t,
   resolve-expr.Post,
   put-arg-reads.Asked,
   put-arg-reads.Learnt,
 ) (resolve-args-at t) resolve-args.Post resolve-args-Inv-loop resolve-args-μ-loop
-resolve-args-enum-known-x t c = search (walk-laws, needs)
+resolve-args-enum-known-next t c = search (walk-laws, needs)
 
--- src/expr.rt:410:17
+-- src/expr.rt:437:17
 resolve-args-put-arg-requires : (t : ℕ) → resolve-args-lts.Need-put-arg-requires (
   resolve-expr-below t,
   resolve-expr.Post,
@@ -827,16 +827,16 @@ resolve-args-put-arg-requires : (t : ℕ) → resolve-args-lts.Need-put-arg-requ
 ) (resolve-args-at t) resolve-args.Post resolve-args-Inv-loop resolve-args-μ-loop
 resolve-args-put-arg-requires t c κs = search (walk-laws, needs)
 
--- src/expr.rt:406:9
+-- src/expr.rt:433:9
 resolve-args-add-i : (t : ℕ) → resolve-args-lts.Need-add-i (
   resolve-expr-below t,
   resolve-expr.Post,
   put-arg-reads.Asked,
   put-arg-reads.Learnt,
 ) (resolve-args-at t) resolve-args.Post resolve-args-Inv-loop resolve-args-μ-loop
-resolve-args-add-i t c = omega (arith, c .before .before .before .before .before .before .before .before .before .before .before .before .before .before .loop-test .taken, c .before .before .before .before .before .before .before .before .before .before .before .before .before .before .before .before .before .before .before .before .before .before .fits .n)
+resolve-args-add-i t c = omega (arith, c .before .before .before .before .before .before .before .before .before .before .before .before .before .before .loop-test .taken, c .before .before .before .before .before .before .before .before .before .before .before .before .before .before .before .before .before .before .before .before .before .fits .n)
 
--- src/expr.rt:406:5
+-- src/expr.rt:433:5
 resolve-args-loop-less : (t : ℕ) → resolve-args-lts.Need-loop-less (
   resolve-expr-below t,
   resolve-expr.Post,
@@ -845,7 +845,7 @@ resolve-args-loop-less : (t : ℕ) → resolve-args-lts.Need-loop-less (
 ) (resolve-args-at t) resolve-args.Post resolve-args-Inv-loop resolve-args-μ-loop
 resolve-args-loop-less t c = search (walk-laws, needs)
 
--- src/expr.rt:406:5
+-- src/expr.rt:433:5
 resolve-args-loop-again : (t : ℕ) → resolve-args-lts.Need-loop-again (
   resolve-expr-below t,
   resolve-expr.Post,
@@ -854,7 +854,7 @@ resolve-args-loop-again : (t : ℕ) → resolve-args-lts.Need-loop-again (
 ) (resolve-args-at t) resolve-args.Post resolve-args-Inv-loop resolve-args-μ-loop
 resolve-args-loop-again t c = (search needs, search needs, search needs, search (args-more, needs))
 
--- src/expr.rt:389:1
+-- src/expr.rt:416:1
 resolve-args-same-length-4 : (t : ℕ) → resolve-args-lts.Need-same-length-4 (
   resolve-expr-below t,
   resolve-expr.Post,
@@ -863,7 +863,7 @@ resolve-args-same-length-4 : (t : ℕ) → resolve-args-lts.Need-same-length-4 (
 ) (resolve-args-at t) resolve-args.Post resolve-args-Inv-loop resolve-args-μ-loop
 resolve-args-same-length-4 t c = search (walk-laws, needs)
 
--- src/expr.rt:389:1
+-- src/expr.rt:416:1
 resolve-args-same-length-5 : (t : ℕ) → resolve-args-lts.Need-same-length-5 (
   resolve-expr-below t,
   resolve-expr.Post,
@@ -872,7 +872,7 @@ resolve-args-same-length-5 : (t : ℕ) → resolve-args-lts.Need-same-length-5 (
 ) (resolve-args-at t) resolve-args.Post resolve-args-Inv-loop resolve-args-μ-loop
 resolve-args-same-length-5 t c = search (walk-laws, needs)
 
--- src/expr.rt:389:1
+-- src/expr.rt:416:1
 resolve-args-same-length-6 : (t : ℕ) → resolve-args-lts.Need-same-length-6 (
   resolve-expr-below t,
   resolve-expr.Post,
@@ -881,7 +881,7 @@ resolve-args-same-length-6 : (t : ℕ) → resolve-args-lts.Need-same-length-6 (
 ) (resolve-args-at t) resolve-args.Post resolve-args-Inv-loop resolve-args-μ-loop
 resolve-args-same-length-6 t c = search (walk-laws, needs)
 
--- src/expr.rt:389:1
+-- src/expr.rt:416:1
 resolve-args-returns-2 : (t : ℕ) → resolve-args-lts.Need-returns-2 (
   resolve-expr-below t,
   resolve-expr.Post,
@@ -890,7 +890,7 @@ resolve-args-returns-2 : (t : ℕ) → resolve-args-lts.Need-returns-2 (
 ) (resolve-args-at t) resolve-args.Post resolve-args-Inv-loop resolve-args-μ-loop
 resolve-args-returns-2 t c = search (args-done, needs)
 
--- src/expr.rt:454:9
+-- src/expr.rt:481:9
 resolve-call-u16-in-requires : (t : ℕ) → resolve-call-lts.Need-u16-in-requires (
   u16-in-reads.Asked,
   u16-in-reads.Learnt,
@@ -907,7 +907,7 @@ resolve-call-u16-in-requires : (t : ℕ) → resolve-call-lts.Need-u16-in-requir
 ) (resolve-call-at t) resolve-call.Post
 resolve-call-u16-in-requires t c κs = search (walk-laws, needs)
 
--- src/expr.rt:455:9
+-- src/expr.rt:482:9
 resolve-call-byte-requires : (t : ℕ) → resolve-call-lts.Need-byte-requires (
   u16-in-reads.Asked,
   u16-in-reads.Learnt,
@@ -924,7 +924,7 @@ resolve-call-byte-requires : (t : ℕ) → resolve-call-lts.Need-byte-requires (
 ) (resolve-call-at t) resolve-call.Post
 resolve-call-byte-requires t c κs = search (walk-laws, needs)
 
--- src/expr.rt:456:9
+-- src/expr.rt:483:9
 resolve-call-callee-of-requires : (t : ℕ) → resolve-call-lts.Need-callee-of-requires (
   u16-in-reads.Asked,
   u16-in-reads.Learnt,
@@ -941,7 +941,7 @@ resolve-call-callee-of-requires : (t : ℕ) → resolve-call-lts.Need-callee-of-
 ) (resolve-call-at t) resolve-call.Post
 resolve-call-callee-of-requires t c κs = search (walk-laws, needs)
 
--- src/expr.rt:459:14
+-- src/expr.rt:486:14
 resolve-call-call-inbuilt-requires : (t : ℕ) → resolve-call-lts.Need-call-inbuilt-requires (
   u16-in-reads.Asked,
   u16-in-reads.Learnt,
@@ -958,7 +958,7 @@ resolve-call-call-inbuilt-requires : (t : ℕ) → resolve-call-lts.Need-call-in
 ) (resolve-call-at t) resolve-call.Post
 resolve-call-call-inbuilt-requires t c κs = search (walk-laws, needs)
 
--- src/expr.rt:460:14
+-- src/expr.rt:487:14
 resolve-call-user-op-requires : (t : ℕ) → resolve-call-lts.Need-user-op-requires (
   u16-in-reads.Asked,
   u16-in-reads.Learnt,
@@ -975,7 +975,7 @@ resolve-call-user-op-requires : (t : ℕ) → resolve-call-lts.Need-user-op-requ
 ) (resolve-call-at t) resolve-call.Post
 resolve-call-user-op-requires t c κs = search (walk-laws, needs)
 
--- src/expr.rt:462:14
+-- src/expr.rt:489:14
 resolve-call-subpiece-requires : (t : ℕ) → resolve-call-lts.Need-subpiece-requires (
   u16-in-reads.Asked,
   u16-in-reads.Learnt,
@@ -992,7 +992,7 @@ resolve-call-subpiece-requires : (t : ℕ) → resolve-call-lts.Need-subpiece-re
 ) (resolve-call-at t) resolve-call.Post
 resolve-call-subpiece-requires t c κs = search (walk-laws, needs)
 
--- src/expr.rt:441:1
+-- src/expr.rt:468:1
 resolve-call-same-length : (t : ℕ) → resolve-call-lts.Need-same-length (
   u16-in-reads.Asked,
   u16-in-reads.Learnt,
@@ -1009,7 +1009,7 @@ resolve-call-same-length : (t : ℕ) → resolve-call-lts.Need-same-length (
 ) (resolve-call-at t) resolve-call.Post
 resolve-call-same-length t c = search (walk-laws, needs)
 
--- src/expr.rt:441:1
+-- src/expr.rt:468:1
 resolve-call-same-length-2 : (t : ℕ) → resolve-call-lts.Need-same-length-2 (
   u16-in-reads.Asked,
   u16-in-reads.Learnt,
@@ -1026,7 +1026,7 @@ resolve-call-same-length-2 : (t : ℕ) → resolve-call-lts.Need-same-length-2 (
 ) (resolve-call-at t) resolve-call.Post
 resolve-call-same-length-2 t c = search (walk-laws, needs)
 
--- src/expr.rt:441:1
+-- src/expr.rt:468:1
 resolve-call-returns : (t : ℕ) → resolve-call-lts.Need-returns (
   u16-in-reads.Asked,
   u16-in-reads.Learnt,
@@ -1043,7 +1043,7 @@ resolve-call-returns : (t : ℕ) → resolve-call-lts.Need-returns (
 ) (resolve-call-at t) resolve-call.Post
 resolve-call-returns t c = search (walk-laws, needs)
 
--- src/expr.rt:441:1
+-- src/expr.rt:468:1
 resolve-call-same-length-3 : (t : ℕ) → resolve-call-lts.Need-same-length-3 (
   u16-in-reads.Asked,
   u16-in-reads.Learnt,
@@ -1060,7 +1060,7 @@ resolve-call-same-length-3 : (t : ℕ) → resolve-call-lts.Need-same-length-3 (
 ) (resolve-call-at t) resolve-call.Post
 resolve-call-same-length-3 t c = search (walk-laws, needs)
 
--- src/expr.rt:441:1
+-- src/expr.rt:468:1
 resolve-call-same-length-4 : (t : ℕ) → resolve-call-lts.Need-same-length-4 (
   u16-in-reads.Asked,
   u16-in-reads.Learnt,
@@ -1077,7 +1077,7 @@ resolve-call-same-length-4 : (t : ℕ) → resolve-call-lts.Need-same-length-4 (
 ) (resolve-call-at t) resolve-call.Post
 resolve-call-same-length-4 t c = search (walk-laws, needs)
 
--- src/expr.rt:441:1
+-- src/expr.rt:468:1
 resolve-call-returns-2 : (t : ℕ) → resolve-call-lts.Need-returns-2 (
   u16-in-reads.Asked,
   u16-in-reads.Learnt,
@@ -1094,7 +1094,7 @@ resolve-call-returns-2 : (t : ℕ) → resolve-call-lts.Need-returns-2 (
 ) (resolve-call-at t) resolve-call.Post
 resolve-call-returns-2 t c = search (walk-laws, needs)
 
--- src/expr.rt:441:1
+-- src/expr.rt:468:1
 resolve-call-returns-3 : (t : ℕ) → resolve-call-lts.Need-returns-3 (
   u16-in-reads.Asked,
   u16-in-reads.Learnt,
@@ -1111,7 +1111,7 @@ resolve-call-returns-3 : (t : ℕ) → resolve-call-lts.Need-returns-3 (
 ) (resolve-call-at t) resolve-call.Post
 resolve-call-returns-3 t c = search (walk-laws, needs)
 
--- src/expr.rt:441:1
+-- src/expr.rt:468:1
 resolve-call-same-length-5 : (t : ℕ) → resolve-call-lts.Need-same-length-5 (
   u16-in-reads.Asked,
   u16-in-reads.Learnt,
@@ -1128,7 +1128,7 @@ resolve-call-same-length-5 : (t : ℕ) → resolve-call-lts.Need-same-length-5 (
 ) (resolve-call-at t) resolve-call.Post
 resolve-call-same-length-5 t c = search (walk-laws, needs)
 
--- src/expr.rt:441:1
+-- src/expr.rt:468:1
 resolve-call-same-length-6 : (t : ℕ) → resolve-call-lts.Need-same-length-6 (
   u16-in-reads.Asked,
   u16-in-reads.Learnt,
@@ -1145,7 +1145,7 @@ resolve-call-same-length-6 : (t : ℕ) → resolve-call-lts.Need-same-length-6 (
 ) (resolve-call-at t) resolve-call.Post
 resolve-call-same-length-6 t c = search (walk-laws, needs)
 
--- src/expr.rt:441:1
+-- src/expr.rt:468:1
 resolve-call-returns-4 : (t : ℕ) → resolve-call-lts.Need-returns-4 (
   u16-in-reads.Asked,
   u16-in-reads.Learnt,
@@ -1162,7 +1162,7 @@ resolve-call-returns-4 : (t : ℕ) → resolve-call-lts.Need-returns-4 (
 ) (resolve-call-at t) resolve-call.Post
 resolve-call-returns-4 t c = search (walk-laws, needs)
 
--- src/expr.rt:480:9
+-- src/expr.rt:507:9
 resolve-expr-returns : (t : ℕ) → resolve-expr-lts.Need-returns (
   byte-reads.Asked,
   byte-reads.Learnt,
@@ -1177,7 +1177,7 @@ resolve-expr-returns : (t : ℕ) → resolve-expr-lts.Need-returns (
 ) (resolve-expr-at t) resolve-expr.Post
 resolve-expr-returns t c = search (walk-laws, needs)
 
--- src/expr.rt:482:9
+-- src/expr.rt:509:9
 resolve-expr-byte-requires : (t : ℕ) → resolve-expr-lts.Need-byte-requires (
   byte-reads.Asked,
   byte-reads.Learnt,
@@ -1192,7 +1192,7 @@ resolve-expr-byte-requires : (t : ℕ) → resolve-expr-lts.Need-byte-requires (
 ) (resolve-expr-at t) resolve-expr.Post
 resolve-expr-byte-requires t c κs = search (walk-laws, needs)
 
--- src/expr.rt:484:9
+-- src/expr.rt:511:9
 resolve-expr-atom-requires : (t : ℕ) → resolve-expr-lts.Need-atom-requires (
   byte-reads.Asked,
   byte-reads.Learnt,
@@ -1207,7 +1207,7 @@ resolve-expr-atom-requires : (t : ℕ) → resolve-expr-lts.Need-atom-requires (
 ) (resolve-expr-at t) resolve-expr.Post
 resolve-expr-atom-requires t c κs = search (walk-laws, needs)
 
--- src/expr.rt:484:9
+-- src/expr.rt:511:9
 resolve-expr-same-length : (t : ℕ) → resolve-expr-lts.Need-same-length (
   byte-reads.Asked,
   byte-reads.Learnt,
@@ -1222,7 +1222,7 @@ resolve-expr-same-length : (t : ℕ) → resolve-expr-lts.Need-same-length (
 ) (resolve-expr-at t) resolve-expr.Post
 resolve-expr-same-length t c = search (walk-laws, needs)
 
--- src/expr.rt:484:9
+-- src/expr.rt:511:9
 resolve-expr-returns-2 : (t : ℕ) → resolve-expr-lts.Need-returns-2 (
   byte-reads.Asked,
   byte-reads.Learnt,
@@ -1237,7 +1237,7 @@ resolve-expr-returns-2 : (t : ℕ) → resolve-expr-lts.Need-returns-2 (
 ) (resolve-expr-at t) resolve-expr.Post
 resolve-expr-returns-2 t c = search (walk-laws, needs)
 
--- src/expr.rt:487:27
+-- src/expr.rt:514:27
 resolve-expr-sub-resolve-op : (t : ℕ) → resolve-expr-lts.Need-sub-resolve-op (
   byte-reads.Asked,
   byte-reads.Learnt,
@@ -1252,7 +1252,7 @@ resolve-expr-sub-resolve-op : (t : ℕ) → resolve-expr-lts.Need-sub-resolve-op
 ) (resolve-expr-at t) resolve-expr.Post
 resolve-expr-sub-resolve-op t c = search (walk-laws, needs)
 
--- src/expr.rt:487:9
+-- src/expr.rt:514:9
 resolve-expr-resolve-op-requires : (t : ℕ) → resolve-expr-lts.Need-resolve-op-requires (
   byte-reads.Asked,
   byte-reads.Learnt,
@@ -1267,7 +1267,7 @@ resolve-expr-resolve-op-requires : (t : ℕ) → resolve-expr-lts.Need-resolve-o
 ) (resolve-expr-at t) resolve-expr.Post
 resolve-expr-resolve-op-requires t c κs = search (walk-laws, needs)
 
--- src/expr.rt:487:9
+-- src/expr.rt:514:9
 resolve-expr-same-length-2 : (t : ℕ) → resolve-expr-lts.Need-same-length-2 (
   byte-reads.Asked,
   byte-reads.Learnt,
@@ -1282,7 +1282,7 @@ resolve-expr-same-length-2 : (t : ℕ) → resolve-expr-lts.Need-same-length-2 (
 ) (resolve-expr-at t) resolve-expr.Post
 resolve-expr-same-length-2 t c = search (walk-laws, needs)
 
--- src/expr.rt:487:9
+-- src/expr.rt:514:9
 resolve-expr-same-length-3 : (t : ℕ) → resolve-expr-lts.Need-same-length-3 (
   byte-reads.Asked,
   byte-reads.Learnt,
@@ -1297,7 +1297,7 @@ resolve-expr-same-length-3 : (t : ℕ) → resolve-expr-lts.Need-same-length-3 (
 ) (resolve-expr-at t) resolve-expr.Post
 resolve-expr-same-length-3 t c = search (walk-laws, needs)
 
--- src/expr.rt:487:9
+-- src/expr.rt:514:9
 resolve-expr-returns-3 : (t : ℕ) → resolve-expr-lts.Need-returns-3 (
   byte-reads.Asked,
   byte-reads.Learnt,
@@ -1312,7 +1312,7 @@ resolve-expr-returns-3 : (t : ℕ) → resolve-expr-lts.Need-returns-3 (
 ) (resolve-expr-at t) resolve-expr.Post
 resolve-expr-returns-3 t c = search (walk-laws, needs)
 
--- src/expr.rt:490:21
+-- src/expr.rt:517:21
 resolve-expr-sub-part : (t : ℕ) → resolve-expr-lts.Need-sub-part (
   byte-reads.Asked,
   byte-reads.Learnt,
@@ -1327,7 +1327,7 @@ resolve-expr-sub-part : (t : ℕ) → resolve-expr-lts.Need-sub-part (
 ) (resolve-expr-at t) resolve-expr.Post
 resolve-expr-sub-part t c = search (walk-laws, needs)
 
--- src/expr.rt:490:9
+-- src/expr.rt:517:9
 resolve-expr-part-requires : (t : ℕ) → resolve-expr-lts.Need-part-requires (
   byte-reads.Asked,
   byte-reads.Learnt,
@@ -1342,7 +1342,7 @@ resolve-expr-part-requires : (t : ℕ) → resolve-expr-lts.Need-part-requires (
 ) (resolve-expr-at t) resolve-expr.Post
 resolve-expr-part-requires t c κs = search (walk-laws, needs)
 
--- src/expr.rt:490:9
+-- src/expr.rt:517:9
 resolve-expr-same-length-4 : (t : ℕ) → resolve-expr-lts.Need-same-length-4 (
   byte-reads.Asked,
   byte-reads.Learnt,
@@ -1357,7 +1357,7 @@ resolve-expr-same-length-4 : (t : ℕ) → resolve-expr-lts.Need-same-length-4 (
 ) (resolve-expr-at t) resolve-expr.Post
 resolve-expr-same-length-4 t c = search (walk-laws, needs)
 
--- src/expr.rt:490:9
+-- src/expr.rt:517:9
 resolve-expr-same-length-5 : (t : ℕ) → resolve-expr-lts.Need-same-length-5 (
   byte-reads.Asked,
   byte-reads.Learnt,
@@ -1372,7 +1372,7 @@ resolve-expr-same-length-5 : (t : ℕ) → resolve-expr-lts.Need-same-length-5 (
 ) (resolve-expr-at t) resolve-expr.Post
 resolve-expr-same-length-5 t c = search (walk-laws, needs)
 
--- src/expr.rt:490:9
+-- src/expr.rt:517:9
 resolve-expr-returns-4 : (t : ℕ) → resolve-expr-lts.Need-returns-4 (
   byte-reads.Asked,
   byte-reads.Learnt,
@@ -1387,7 +1387,7 @@ resolve-expr-returns-4 : (t : ℕ) → resolve-expr-lts.Need-returns-4 (
 ) (resolve-expr-at t) resolve-expr.Post
 resolve-expr-returns-4 t c = search (walk-laws, needs)
 
--- src/expr.rt:493:9
+-- src/expr.rt:520:9
 resolve-expr-returns-5 : (t : ℕ) → resolve-expr-lts.Need-returns-5 (
   byte-reads.Asked,
   byte-reads.Learnt,
@@ -1402,7 +1402,7 @@ resolve-expr-returns-5 : (t : ℕ) → resolve-expr-lts.Need-returns-5 (
 ) (resolve-expr-at t) resolve-expr.Post
 resolve-expr-returns-5 t c = search (walk-laws, needs)
 
--- src/expr.rt:495:18
+-- src/expr.rt:522:18
 resolve-expr-sub-resolve-call : (t : ℕ) → resolve-expr-lts.Need-sub-resolve-call (
   byte-reads.Asked,
   byte-reads.Learnt,
@@ -1417,7 +1417,7 @@ resolve-expr-sub-resolve-call : (t : ℕ) → resolve-expr-lts.Need-sub-resolve-
 ) (resolve-expr-at t) resolve-expr.Post
 resolve-expr-sub-resolve-call t c = search (walk-laws, needs)
 
--- src/expr.rt:495:5
+-- src/expr.rt:522:5
 resolve-expr-resolve-call-requires : (t : ℕ) → resolve-expr-lts.Need-resolve-call-requires (
   byte-reads.Asked,
   byte-reads.Learnt,
@@ -1432,7 +1432,7 @@ resolve-expr-resolve-call-requires : (t : ℕ) → resolve-expr-lts.Need-resolve
 ) (resolve-expr-at t) resolve-expr.Post
 resolve-expr-resolve-call-requires t c κs = search (walk-laws, needs)
 
--- src/expr.rt:466:1
+-- src/expr.rt:493:1
 resolve-expr-same-length-6 : (t : ℕ) → resolve-expr-lts.Need-same-length-6 (
   byte-reads.Asked,
   byte-reads.Learnt,
@@ -1447,7 +1447,7 @@ resolve-expr-same-length-6 : (t : ℕ) → resolve-expr-lts.Need-same-length-6 (
 ) (resolve-expr-at t) resolve-expr.Post
 resolve-expr-same-length-6 t c = search (walk-laws, needs)
 
--- src/expr.rt:466:1
+-- src/expr.rt:493:1
 resolve-expr-same-length-7 : (t : ℕ) → resolve-expr-lts.Need-same-length-7 (
   byte-reads.Asked,
   byte-reads.Learnt,
@@ -1462,7 +1462,7 @@ resolve-expr-same-length-7 : (t : ℕ) → resolve-expr-lts.Need-same-length-7 (
 ) (resolve-expr-at t) resolve-expr.Post
 resolve-expr-same-length-7 t c = search (walk-laws, needs)
 
--- src/expr.rt:466:1
+-- src/expr.rt:493:1
 resolve-expr-returns-6 : (t : ℕ) → resolve-expr-lts.Need-returns-6 (
   byte-reads.Asked,
   byte-reads.Learnt,
@@ -1477,7 +1477,7 @@ resolve-expr-returns-6 : (t : ℕ) → resolve-expr-lts.Need-returns-6 (
 ) (resolve-expr-at t) resolve-expr.Post
 resolve-expr-returns-6 t c = search (walk-laws, needs)
 
--- src/expr.rt:345:9
+-- src/expr.rt:372:9
 resolve-op-operands-of-requires : (t : ℕ) → resolve-op-lts.Need-operands-of-requires (
   operands-of-reads.Asked,
   operands-of-reads.Learnt,
@@ -1488,7 +1488,7 @@ resolve-op-operands-of-requires : (t : ℕ) → resolve-op-lts.Need-operands-of-
 ) (resolve-op-at t) resolve-op.Post
 resolve-op-operands-of-requires t c κs = search (walk-laws, needs)
 
--- src/expr.rt:346:11
+-- src/expr.rt:373:11
 resolve-op-expr-value-requires : (t : ℕ) → resolve-op-lts.Need-expr-value-requires (
   operands-of-reads.Asked,
   operands-of-reads.Learnt,
@@ -1499,7 +1499,7 @@ resolve-op-expr-value-requires : (t : ℕ) → resolve-op-lts.Need-expr-value-re
 ) (resolve-op-at t) resolve-op.Post
 resolve-op-expr-value-requires t c κs = search (walk-laws, needs)
 
--- src/expr.rt:347:21
+-- src/expr.rt:374:21
 resolve-op-enum-known-n : (t : ℕ) → resolve-op-lts.Need-enum-known-n (
   operands-of-reads.Asked,
   operands-of-reads.Learnt,
@@ -1510,7 +1510,7 @@ resolve-op-enum-known-n : (t : ℕ) → resolve-op-lts.Need-enum-known-n (
 ) (resolve-op-at t) resolve-op.Post
 resolve-op-enum-known-n t c = search (walk-laws, needs)
 
--- src/expr.rt:348:26
+-- src/expr.rt:375:26
 resolve-op-enum-known-v : (t : ℕ) → resolve-op-lts.Need-enum-known-v (
   operands-of-reads.Asked,
   operands-of-reads.Learnt,
@@ -1521,7 +1521,7 @@ resolve-op-enum-known-v : (t : ℕ) → resolve-op-lts.Need-enum-known-v (
 ) (resolve-op-at t) resolve-op.Post
 resolve-op-enum-known-v t c = search (walk-laws, needs)
 
--- src/expr.rt:352:13
+-- src/expr.rt:379:13
 resolve-op-expr-value-requires-2 : (t : ℕ) → resolve-op-lts.Need-expr-value-requires-2 (
   operands-of-reads.Asked,
   operands-of-reads.Learnt,
@@ -1530,9 +1530,9 @@ resolve-op-expr-value-requires-2 : (t : ℕ) → resolve-op-lts.Need-expr-value-
   apply2-reads.Asked,
   apply2-reads.Learnt,
 ) (resolve-op-at t) resolve-op.Post
-resolve-op-expr-value-requires-2 t c κs = (omega (arith, c .before .before .before .before .before .before .before .before .before .before .before .before .before .before .before .before .before .before .pre .0), search needs)
+resolve-op-expr-value-requires-2 t c κs = (omega (arith, c .before .before .before .before .before .before .before .before .before .before .before .before .before .before .before .before .before .pre .0), search needs)
 
--- src/expr.rt:348:48
+-- src/expr.rt:375:48
 resolve-op-apply2-requires : (t : ℕ) → resolve-op-lts.Need-apply2-requires (
   operands-of-reads.Asked,
   operands-of-reads.Learnt,
@@ -1543,7 +1543,7 @@ resolve-op-apply2-requires : (t : ℕ) → resolve-op-lts.Need-apply2-requires (
 ) (resolve-op-at t) resolve-op.Post
 resolve-op-apply2-requires t c κs = search (walk-laws, needs)
 
--- src/expr.rt:332:1
+-- src/expr.rt:359:1
 resolve-op-same-length : (t : ℕ) → resolve-op-lts.Need-same-length (
   operands-of-reads.Asked,
   operands-of-reads.Learnt,
@@ -1554,7 +1554,7 @@ resolve-op-same-length : (t : ℕ) → resolve-op-lts.Need-same-length (
 ) (resolve-op-at t) resolve-op.Post
 resolve-op-same-length t c = search (walk-laws, needs)
 
--- src/expr.rt:332:1
+-- src/expr.rt:359:1
 resolve-op-same-length-2 : (t : ℕ) → resolve-op-lts.Need-same-length-2 (
   operands-of-reads.Asked,
   operands-of-reads.Learnt,
@@ -1565,7 +1565,7 @@ resolve-op-same-length-2 : (t : ℕ) → resolve-op-lts.Need-same-length-2 (
 ) (resolve-op-at t) resolve-op.Post
 resolve-op-same-length-2 t c = search (walk-laws, needs)
 
--- src/expr.rt:332:1
+-- src/expr.rt:359:1
 resolve-op-returns : (t : ℕ) → resolve-op-lts.Need-returns (
   operands-of-reads.Asked,
   operands-of-reads.Learnt,
@@ -1576,7 +1576,7 @@ resolve-op-returns : (t : ℕ) → resolve-op-lts.Need-returns (
 ) (resolve-op-at t) resolve-op.Post
 resolve-op-returns t c = search (walk-laws, needs)
 
--- src/expr.rt:332:1
+-- src/expr.rt:359:1
 resolve-op-same-length-3 : (t : ℕ) → resolve-op-lts.Need-same-length-3 (
   operands-of-reads.Asked,
   operands-of-reads.Learnt,
@@ -1587,7 +1587,7 @@ resolve-op-same-length-3 : (t : ℕ) → resolve-op-lts.Need-same-length-3 (
 ) (resolve-op-at t) resolve-op.Post
 resolve-op-same-length-3 t c = search (walk-laws, needs)
 
--- src/expr.rt:332:1
+-- src/expr.rt:359:1
 resolve-op-same-length-4 : (t : ℕ) → resolve-op-lts.Need-same-length-4 (
   operands-of-reads.Asked,
   operands-of-reads.Learnt,
@@ -1598,7 +1598,7 @@ resolve-op-same-length-4 : (t : ℕ) → resolve-op-lts.Need-same-length-4 (
 ) (resolve-op-at t) resolve-op.Post
 resolve-op-same-length-4 t c = search (walk-laws, needs)
 
--- src/expr.rt:332:1
+-- src/expr.rt:359:1
 resolve-op-returns-2 : (t : ℕ) → resolve-op-lts.Need-returns-2 (
   operands-of-reads.Asked,
   operands-of-reads.Learnt,
@@ -1609,7 +1609,7 @@ resolve-op-returns-2 : (t : ℕ) → resolve-op-lts.Need-returns-2 (
 ) (resolve-op-at t) resolve-op.Post
 resolve-op-returns-2 t c = search (walk-laws, needs)
 
--- src/expr.rt:435:39
+-- src/expr.rt:462:39
 user-op-after-requires : (t : ℕ) → user-op-lts.Need-after-requires (
   after-reads.Asked,
   after-reads.Learnt,
@@ -1620,7 +1620,7 @@ user-op-after-requires : (t : ℕ) → user-op-lts.Need-after-requires (
 ) (user-op-at t) user-op.Post
 user-op-after-requires t c κs = search (walk-laws, needs)
 
--- src/expr.rt:435:66
+-- src/expr.rt:462:66
 user-op-slice-aggregate-resolve-args : (t : ℕ) → user-op-lts.Need-slice-aggregate-resolve-args (
   after-reads.Asked,
   after-reads.Learnt,
@@ -1631,7 +1631,7 @@ user-op-slice-aggregate-resolve-args : (t : ℕ) → user-op-lts.Need-slice-aggr
 ) (user-op-at t) user-op.Post
 user-op-slice-aggregate-resolve-args t c = search (walk-laws, needs)
 
--- src/expr.rt:435:11
+-- src/expr.rt:462:11
 user-op-resolve-args-requires : (t : ℕ) → user-op-lts.Need-resolve-args-requires (
   after-reads.Asked,
   after-reads.Learnt,
@@ -1642,7 +1642,7 @@ user-op-resolve-args-requires : (t : ℕ) → user-op-lts.Need-resolve-args-requ
 ) (user-op-at t) user-op.Post
 user-op-resolve-args-requires t c κs = search (walk-laws, needs)
 
--- src/expr.rt:436:18
+-- src/expr.rt:463:18
 user-op-enum-known-k : (t : ℕ) → user-op-lts.Need-enum-known-k (
   after-reads.Asked,
   after-reads.Learnt,
@@ -1653,7 +1653,7 @@ user-op-enum-known-k : (t : ℕ) → user-op-lts.Need-enum-known-k (
 ) (user-op-at t) user-op.Post
 user-op-enum-known-k t c = search (walk-laws, needs)
 
--- src/expr.rt:437:22
+-- src/expr.rt:464:22
 user-op-enum-known-next : (t : ℕ) → user-op-lts.Need-enum-known-next (
   after-reads.Asked,
   after-reads.Learnt,
@@ -1664,7 +1664,7 @@ user-op-enum-known-next : (t : ℕ) → user-op-lts.Need-enum-known-next (
 ) (user-op-at t) user-op.Post
 user-op-enum-known-next t c = search (walk-laws, needs)
 
--- src/expr.rt:437:66
+-- src/expr.rt:464:66
 user-op-slice-aggregate-call-user-op : (t : ℕ) → user-op-lts.Need-slice-aggregate-call-user-op (
   after-reads.Asked,
   after-reads.Learnt,
@@ -1675,7 +1675,7 @@ user-op-slice-aggregate-call-user-op : (t : ℕ) → user-op-lts.Need-slice-aggr
 ) (user-op-at t) user-op.Post
 user-op-slice-aggregate-call-user-op t c = search (walk-laws, needs)
 
--- src/expr.rt:437:41
+-- src/expr.rt:464:41
 user-op-call-user-op-requires : (t : ℕ) → user-op-lts.Need-call-user-op-requires (
   after-reads.Asked,
   after-reads.Learnt,
@@ -1686,7 +1686,7 @@ user-op-call-user-op-requires : (t : ℕ) → user-op-lts.Need-call-user-op-requ
 ) (user-op-at t) user-op.Post
 user-op-call-user-op-requires t c κs = search (walk-laws, needs)
 
--- src/expr.rt:419:1
+-- src/expr.rt:446:1
 user-op-same-length : (t : ℕ) → user-op-lts.Need-same-length (
   after-reads.Asked,
   after-reads.Learnt,
@@ -1697,7 +1697,7 @@ user-op-same-length : (t : ℕ) → user-op-lts.Need-same-length (
 ) (user-op-at t) user-op.Post
 user-op-same-length t c = search (walk-laws, needs)
 
--- src/expr.rt:419:1
+-- src/expr.rt:446:1
 user-op-same-length-2 : (t : ℕ) → user-op-lts.Need-same-length-2 (
   after-reads.Asked,
   after-reads.Learnt,
@@ -1708,7 +1708,7 @@ user-op-same-length-2 : (t : ℕ) → user-op-lts.Need-same-length-2 (
 ) (user-op-at t) user-op.Post
 user-op-same-length-2 t c = search (walk-laws, needs)
 
--- src/expr.rt:419:1
+-- src/expr.rt:446:1
 user-op-returns : (t : ℕ) → user-op-lts.Need-returns (
   after-reads.Asked,
   after-reads.Learnt,
@@ -1719,7 +1719,7 @@ user-op-returns : (t : ℕ) → user-op-lts.Need-returns (
 ) (user-op-at t) user-op.Post
 user-op-returns t c = search (walk-laws, needs)
 
--- src/expr.rt:419:1
+-- src/expr.rt:446:1
 user-op-same-length-3 : (t : ℕ) → user-op-lts.Need-same-length-3 (
   after-reads.Asked,
   after-reads.Learnt,
@@ -1730,7 +1730,7 @@ user-op-same-length-3 : (t : ℕ) → user-op-lts.Need-same-length-3 (
 ) (user-op-at t) user-op.Post
 user-op-same-length-3 t c = search (walk-laws, needs)
 
--- src/expr.rt:419:1
+-- src/expr.rt:446:1
 user-op-same-length-4 : (t : ℕ) → user-op-lts.Need-same-length-4 (
   after-reads.Asked,
   after-reads.Learnt,
@@ -1741,7 +1741,7 @@ user-op-same-length-4 : (t : ℕ) → user-op-lts.Need-same-length-4 (
 ) (user-op-at t) user-op.Post
 user-op-same-length-4 t c = search (walk-laws, needs)
 
--- src/expr.rt:419:1
+-- src/expr.rt:446:1
 user-op-returns-2 : (t : ℕ) → user-op-lts.Need-returns-2 (
   after-reads.Asked,
   after-reads.Learnt,
@@ -1812,7 +1812,7 @@ pub +call-inbuilt+expr-value+part+resolve-args+resolve-call+resolve-expr+resolve
     (expr-value-returns t)
     (expr-value-resolve-expr-requires t)
     (expr-value-enum-known-n t)
-    (expr-value-enum-known-x t)
+    (expr-value-enum-known-next t)
     (expr-value-read-operand-requires t)
     (expr-value-value-then-requires t)
     (expr-value-same-length-2 t)
@@ -1837,7 +1837,7 @@ pub +call-inbuilt+expr-value+part+resolve-args+resolve-call+resolve-expr+resolve
     (part-after-requires t)
     (part-resolve-expr-requires t)
     (part-enum-known-n t)
-    (part-enum-known-x t)
+    (part-enum-known-next t)
     (part-with-part-requires t)
     (part-same-length t)
     (part-same-length-2 t)
@@ -1862,7 +1862,7 @@ pub +call-inbuilt+expr-value+part+resolve-args+resolve-call+resolve-expr+resolve
     (resolve-args-same-length-2 t)
     (resolve-args-same-length-3 t)
     (resolve-args-returns t)
-    (resolve-args-enum-known-x t)
+    (resolve-args-enum-known-next t)
     (resolve-args-put-arg-requires t)
     (resolve-args-add-i t)
     (resolve-args-loop-less t)
