@@ -9,51 +9,51 @@ use Rattle.walking.proofs.walk.read_then.Reads as read-then-reads
 use Rattle.walking.proofs.walk.stop.Reads as stop-reads
 use Rattle.semantics.proofs.SimpleLaws.{simple-laws}
 
--- src/simple.rt:94:11
+-- src/simple.rt:156:11
 resolve-expr-requires : tie.Need-resolve-expr-requires
 resolve-expr-requires c κs = search needs
 
--- src/simple.rt:95:18
+-- src/simple.rt:157:18
 enum-known-n : tie.Need-enum-known-n
 enum-known-n c = search needs
 
--- src/simple.rt:95:24
+-- src/simple.rt:157:24
 stop-requires : tie.Need-stop-requires
 stop-requires c κs = search needs
 
--- src/simple.rt:96:23
-enum-known-x : tie.Need-enum-known-x
-enum-known-x c = search needs
+-- src/simple.rt:158:26
+enum-known-next : tie.Need-enum-known-next
+enum-known-next c = search (simple-laws, needs)
 
--- src/simple.rt:96:55
+-- src/simple.rt:159:13
 read-value-requires : tie.Need-read-value-requires
 read-value-requires c κs = search needs
 
--- src/simple.rt:96:45
+-- src/simple.rt:158:45
 read-then-requires : tie.Need-read-then-requires
 read-then-requires c κs = search needs
 
--- src/simple.rt:91:1
+-- src/simple.rt:142:1
 same-length : tie.Need-same-length
 same-length c = search needs
 
--- src/simple.rt:91:1
+-- src/simple.rt:142:1
 same-length-2 : tie.Need-same-length-2
 same-length-2 c = search needs
 
--- src/simple.rt:91:1
+-- src/simple.rt:142:1
 returns : tie.Need-returns
 returns c = search (simple-laws, needs)
 
--- src/simple.rt:91:1
+-- src/simple.rt:142:1
 same-length-3 : tie.Need-same-length-3
 same-length-3 c = search needs
 
--- src/simple.rt:91:1
+-- src/simple.rt:142:1
 same-length-4 : tie.Need-same-length-4
 same-length-4 c = search needs
 
--- src/simple.rt:91:1
+-- src/simple.rt:142:1
 returns-2 : tie.Need-returns-2
 returns-2 c = search (simple-laws, needs)
 
@@ -64,7 +64,7 @@ assign-spec =
     resolve-expr-requires
     enum-known-n
     stop-requires
-    enum-known-x
+    enum-known-next
     read-value-requires
     read-then-requires
     same-length

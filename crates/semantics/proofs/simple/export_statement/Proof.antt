@@ -9,51 +9,51 @@ use Rattle.semantics.proofs.simple.export_of.Reads as export-of-reads
 use Rattle.walking.proofs.walk.stop.Reads as stop-reads
 use Rattle.semantics.proofs.SimpleLaws.{simple-laws}
 
--- src/simple.rt:76:37
+-- src/simple.rt:120:37
 after-requires : tie.Need-after-requires
 after-requires c κs = search needs
 
--- src/simple.rt:76:11
+-- src/simple.rt:120:11
 resolve-expr-requires : tie.Need-resolve-expr-requires
 resolve-expr-requires c κs = search needs
 
--- src/simple.rt:77:18
+-- src/simple.rt:121:18
 enum-known-n : tie.Need-enum-known-n
 enum-known-n c = search needs
 
--- src/simple.rt:77:24
+-- src/simple.rt:121:24
 stop-requires : tie.Need-stop-requires
 stop-requires c κs = search needs
 
--- src/simple.rt:78:23
-enum-known-x : tie.Need-enum-known-x
-enum-known-x c = search needs
+-- src/simple.rt:122:26
+enum-known-next : tie.Need-enum-known-next
+enum-known-next c = search (simple-laws, needs)
 
--- src/simple.rt:78:40
+-- src/simple.rt:122:40
 export-of-requires : tie.Need-export-of-requires
 export-of-requires c κs = search needs
 
--- src/simple.rt:73:1
+-- src/simple.rt:108:1
 same-length : tie.Need-same-length
 same-length c = search needs
 
--- src/simple.rt:73:1
+-- src/simple.rt:108:1
 same-length-2 : tie.Need-same-length-2
 same-length-2 c = search needs
 
--- src/simple.rt:73:1
+-- src/simple.rt:108:1
 returns : tie.Need-returns
 returns c = search (simple-laws, needs)
 
--- src/simple.rt:73:1
+-- src/simple.rt:108:1
 same-length-3 : tie.Need-same-length-3
 same-length-3 c = search needs
 
--- src/simple.rt:73:1
+-- src/simple.rt:108:1
 same-length-4 : tie.Need-same-length-4
 same-length-4 c = search needs
 
--- src/simple.rt:73:1
+-- src/simple.rt:108:1
 returns-2 : tie.Need-returns-2
 returns-2 c = search (simple-laws, needs)
 
@@ -65,7 +65,7 @@ export-statement-spec =
     resolve-expr-requires
     enum-known-n
     stop-requires
-    enum-known-x
+    enum-known-next
     export-of-requires
     same-length
     same-length-2
