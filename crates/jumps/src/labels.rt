@@ -1,11 +1,8 @@
 // Labels. Each has a word in a list of its own: its name, its scope, whether it is placed.
-use pcode::value::get;
-use pcode::value::put;
 use pushing::push::State;
 use walking::walk::Walk;
 ghost use mathlib.Core.Path.{_≡_};
 ghost use Prim.Native.Nat.{_<_};
-ghost use lib.ListN.{getD, set};
 ghost use Rattle.pcode.specs.Base.{listed};
 ghost use Rattle.jumps.specs.Labels.{findLabel, labelKey, getOrInsertLabel, placeLabel, resolveLabel, labelsAfter, labelled};
 
@@ -14,26 +11,13 @@ pub enum Label {
     No(u64),
 }
 
-// The word of label i, and 0 past the end.
-fn label_at(l: &[u64], i: u64) -> u64
-    ensures { λ r. ⌜ r ≡ getD (now (l .entry)) i 0 ⌝ }
-{
-    get(l, 0, i as usize)
-}
-
-fn put_label(l: &mut [u64], i: u64, w: u64)
-    ensures { λ _. ⌜ now (l .exit) ≡ set (now (l .entry)) i w ⌝ }
-{
-    put(l, 0, i as usize, w);
-}
-
 // The first of n labels with this name and scope, or n.
 fn find_label(l: &[u64], n: u64, key: u64) -> u64
     ensures { λ r. ⌜ r ≡ findLabel n 0 (now (l .entry)) key ⌝ }
 {
     let mut i = 0;
     while i < n {
-        if label_at(l, i) % 4294967296 == key {
+        if cells::get(l, i as usize) % 4294967296 == key {
             return i;
         }
         i += 1;
@@ -59,17 +43,17 @@ pub fn get_or_insert_label(l: &mut [u64], name: u64, scope: u64, n: u64) -> Labe
     if 256 <= n {
         return Label::No(14);
     }
-    put_label(l, n, k);
+    cells::put(l, n as usize, k);
     Label::Is(n)
 }
 
 fn place_label(l: &mut [u64], id: u64, name: u64, scope: u64) -> Label
     ensures { λ r. ⌜ listed r (now (l .exit)) ≡ placeLabel (now (l .entry)) id name scope ⌝ }
 {
-    if 4294967296 <= label_at(l, id) {
+    if 4294967296 <= cells::get(l, id as usize) {
         return Label::No(27);
     }
-    put_label(l, id, 4294967296 + key(name, scope));
+    cells::put(l, id as usize, 4294967296 + key(name, scope));
     Label::Is(id)
 }
 
