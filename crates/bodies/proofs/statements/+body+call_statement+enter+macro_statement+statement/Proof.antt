@@ -24,16 +24,16 @@ use Rattle.bodies.proofs.statements.macro_env.Reads as macro-env-reads
 use Rattle.bodies.proofs.statements.other_statement.Reads as other-statement-reads
 use Rattle.bodies.proofs.statements.returned.Reads as returned-reads
 use Rattle.cells.proofs.byte.Reads as byte-reads
-use Rattle.expression.proofs.expr.after.Reads as after-reads
 use Rattle.cells.proofs.u16_in.Reads as u16-in-reads
+use Rattle.expression.proofs.expr.after.Reads as after-reads
 use Rattle.semantics.proofs.calls.called_of.Reads as called-of-reads
 use Rattle.semantics.proofs.calls.macro_args.Reads as macro-args-reads
 use Rattle.semantics.proofs.calls.macro_at.Reads as macro-at-reads
 use Rattle.semantics.proofs.calls.other_call.Reads as other-call-reads
 use Rattle.std.proofs.num.wrapping_add_u64.Reads as wrapping-add-u64-reads
 use Rattle.walking.proofs.walk.stop.Reads as stop-reads
-use Rattle.bodies.proofs.statements.+body+call_statement+enter+macro_statement+statement.{statement}
-use Rattle.bodies.proofs.statements.+body+call_statement+enter+macro_statement+statement.Tie.{close}
+use Rattle.bodies.proofs.statements.+body+call_statement+enter+macro_statement+statement.{ statement, }
+use Rattle.bodies.proofs.statements.+body+call_statement+enter+macro_statement+statement.Tie.{ close, }
 use borrow.Author.Needs.{needs}
 use mathlib.Core.Path.{_≡_}
 use lib.ListN.{length}
@@ -202,7 +202,7 @@ body-add-i : (t : ℕ) → body-lts.Need-add-i (
   statement-below t,
   statement′.Post,
 ) (body-at t) body.Post body-Inv-loop body-μ-loop
-body-add-i t c = omega (arith, c .before .before .before .before .before .before .before .before .before .before .before .before .before .before .loop-test .taken, c .before .before .before .before .before .before .before .before .before .before .before .before .before .before .before .before .before .before .before .before .before .before .fits)
+body-add-i t c = omega (arith, c .before .before .before .before .before .before .before .before .before .before .before .before .before .before .loop-test .taken, c .before .before .before .before .before .before .before .before .before .before .before .before .before .before .before .before .before .before .before .before .before .fits)
 
 -- src/statements.rt:302:5
 body-loop-less : (t : ℕ) → body-lts.Need-loop-less (
@@ -761,7 +761,7 @@ enter-body-requires : (t : ℕ) → enter-lts.Need-body-requires (
   returned-reads.Asked,
   returned-reads.Learnt,
 ) (enter-at t) enter.Post
-enter-body-requires t c κs = search (c .before .before .before .before .before .before .before .before .before .before .before .if1 .left, c .before .before .before .before .before .before .before .before .before .before .before .before .before .before .before .before .before .before .pre, needs)
+enter-body-requires t c κs = search (c .before .before .before .before .before .before .before .before .before .before .before .if1 .left, c .before .before .before .before .before .before .before .before .before .before .before .before .before .before .before .before .before .pre, needs)
 
 -- src/statements.rt:202:5
 enter-returned-requires : (t : ℕ) → enter-lts.Need-returned-requires (
