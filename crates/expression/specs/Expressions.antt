@@ -197,7 +197,7 @@ byCode walk code s t p e pos a m st =
     else if eqb code 7 then resolved (Expr.No 32) a m
     else resolveCall walk s t p e pos a m st
 
--- depth left, the stream, the section's table, the words of the scopes, the walk's own; a position, the two lists, the state
+-- depth left, the stream, the section's table, the parameters of the scope, the walk's own; a position, the two lists, the state
 unfoldable pub resolveExpr : ℕ → List ℕ → List ℕ → List ℕ → Env → ℕ → List ℕ → List ℕ → State → ExprOut
 resolveExpr zero s t p e pos a m st = resolved (Expr.No 4) a m
 resolveExpr (suc d) s t p e pos a m st = byCode (resolveExpr d s t p e) (getD s (pos + 0) 0) s t p e pos a m st

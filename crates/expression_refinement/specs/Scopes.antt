@@ -130,7 +130,7 @@ lookup-as t m w scope n k name h = go (eqb scope 0) (ownLocal t name)
     go false x = unfold if_then_else_ in h
 
 module _ (s t : List ℕ) (e : Env) (p front tail marks rest : List ℕ) (we : WordEnv) where
-  -- The words of the scopes hold the scope: its parameters stand in their slots, and the table and the temporaries give
+  -- The words hold the scope: its parameters stand in their slots, and the table and the temporaries give
   -- its locals.
   pub record Scoped (st : State) : Type 0 where
     pub params : ParamsIn p (we .params) (st .scope .params)

@@ -1,5 +1,5 @@
 -- What a name means: a macro parameter, inst_next, inst_start, a local, a global register or bit range. In all of these s is
--- the stream, t the section's table, p the words of the scopes, m the temporaries.
+-- the stream, t the section's table, p the parameters of the scope, m the temporaries.
 use Prim.Native.Nat.{ℕ, zero, suc, _+_, _-_, _*_, _/_, _%_, _<_}
 use mathlib.Core.Path.{_≡_, refl}
 use mathlib.Core.Bool.{Bool, true, false}

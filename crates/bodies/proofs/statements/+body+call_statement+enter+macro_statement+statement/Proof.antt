@@ -32,8 +32,8 @@ use Rattle.semantics.proofs.calls.macro_at.Reads as macro-at-reads
 use Rattle.semantics.proofs.calls.other_call.Reads as other-call-reads
 use Rattle.std.proofs.num.wrapping_add_u64.Reads as wrapping-add-u64-reads
 use Rattle.walking.proofs.walk.stop.Reads as stop-reads
-use Rattle.bodies.proofs.statements.+body+call_statement+enter+macro_statement+statement.{ statement, }
-use Rattle.bodies.proofs.statements.+body+call_statement+enter+macro_statement+statement.Tie.{ close, }
+use Rattle.bodies.proofs.statements.+body+call_statement+enter+macro_statement+statement.{statement}
+use Rattle.bodies.proofs.statements.+body+call_statement+enter+macro_statement+statement.Tie.{close}
 use borrow.Author.Needs.{needs}
 use mathlib.Core.Path.{_≡_}
 use lib.ListN.{length}
