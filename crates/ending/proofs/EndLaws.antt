@@ -13,7 +13,7 @@ use Rattle.ending.specs.declared.end.Fixed.{Fixed}
 use Rattle.ending.specs.declared.end.Finished.{Finished}
 use Rattle.pcode.specs.Base.{if_then_else_, run, Listed, listed, thenL}
 use Rattle.pcode.specs.Values.{withSize, word, valueOf, valueAt, putValue, place, zeroWord}
-use Rattle.pcode.specs.Sizes.{sizeOf, error, fallsBack}
+use Rattle.pcode.specs.Sizes.{sizeOf, recorded, error, fallsBack}
 use Rattle.ending.specs.End.{fixed, finished, fixSize, putFixed, fixOperand, fixInput, fixInputs, fixOutput, fixOperands, writeCopy, copyOf, subpieceCopy, finishFixed, finishOp, thenF, finishFrom, finishActions, markBuild, markAction, markBuilt, zeroAction, writeBuild, implicitBuild, implicitBuilds, moveWord, moveAction, moveTo, moveDown, zeroFrom, assemble}
 use Rattle.pcode.proofs.LoopLaws.{run-end}
 
@@ -27,8 +27,8 @@ module _ (s t m : List ℕ) (v : Value) (ptr : ℕ) (z : Sizing) (known : ℕ) (
     unfolding fixSize if_then_else_
     fix-fallback w k e = rw (← p, eq-eqb known 65535 h, ← q, k, e)
 
-    pub fix-error : (y : Sizing) → f ≡ false → y ≡ error z → fixed v y ≡ fixSize s t m v ptr z
-    unfolding fixSize if_then_else_
+    pub fix-error : (y : Sizing) → f ≡ false → y ≡ recorded 1 z → fixed v y ≡ fixSize s t m v ptr z
+    unfolding fixSize error if_then_else_
     fix-error y k e = rw (← p, eq-eqb known 65535 h, ← q, k, e)
 
 pub fix-operand-law : (s t a m a1 : List ℕ) (at i ptr : ℕ) (z : Sizing) (v : Value) (f : Fixed) → v ≡ valueAt a at i → f ≡ fixSize s t m v ptr z → a1 ≡ putValue a at i (f .v) → listed (f .z) a1 ≡ fixOperand s t a m at i ptr z

@@ -1,7 +1,7 @@
 // The end: sizes fixed, subpieces turned into copies, the implicit Builds in front, unused words zero.
 use pcode::sizes::Sizing;
-use pcode::sizes::error;
 use pcode::sizes::falls_back;
+use pcode::sizes::record_errors;
 use pcode::sizes::size_of;
 use pcode::value::Value;
 use pcode::value::get;
@@ -37,7 +37,10 @@ pub fn fix_size(s: &[u8], t: &[u16; 3344], m: &[u64], v: Value, ptr: u64, z: Siz
             z,
         };
     }
-    Fixed { v, z: error(z) }
+    Fixed {
+        v,
+        z: record_errors(z, 1),
+    }
 }
 
 fn fix_operand(

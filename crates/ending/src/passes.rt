@@ -1,5 +1,6 @@
 // The two passes over the n actions from a position on: backward, then forward with fallback.
 use pcode::sizes::Sizing;
+use pcode::sizes::record_errors;
 use pushing::passes::pass;
 ghost use mathlib.Core.Path.{_≡_};
 ghost use Rattle.pcode.specs.Sizes.{sized};
@@ -17,7 +18,8 @@ pub fn backward_pass(
 ) -> Sizing
     ensures { λ r. ⌜ sized r (now (a .exit)) (now (m .exit)) ≡ backwardPass (now (s .entry)) (now (t .entry)) (now (a .entry)) (now (m .entry)) base n ptr z ⌝ }
 {
-    pass(s, t, false, a, m, base, n, ptr, z)
+    let k = pass(s, t, false, a, m, base, n, ptr);
+    record_errors(z, k)
 }
 
 pub fn forward_pass(
@@ -32,5 +34,6 @@ pub fn forward_pass(
 ) -> Sizing
     ensures { λ r. ⌜ sized r (now (a .exit)) (now (m .exit)) ≡ forwardPass (now (s .entry)) (now (t .entry)) (now (a .entry)) (now (m .entry)) base n ptr z ⌝ }
 {
-    pass(s, t, true, a, m, base, n, ptr, z)
+    let k = pass(s, t, true, a, m, base, n, ptr);
+    record_errors(z, k)
 }

@@ -15,7 +15,7 @@ use Rattle.pushing.specs.declared.push.Read.{Read}
 use Rattle.pushing.specs.declared.push.Pushed.{Pushed}
 use Rattle.pcode.specs.Base.{if_then_else_, listed, thenL}
 use Rattle.pcode.specs.Values.{local, withSize, absent}
-use Rattle.pcode.specs.Sizes.{sizeOf, settled}
+use Rattle.pcode.specs.Sizes.{sizeOf, settled, recorded, Settles}
 use Rattle.pushing.specs.Pushes.{read, onRead, onTmp, withSizing, addTmp, outputOr, push, opTo, op}
 use Rattle.meaning.specs.declared.scope.ExprValue.{ExprValue}
 use Rattle.meaning.specs.declared.read.Stated.{Stated}
@@ -23,10 +23,10 @@ use Rattle.meaning.specs.Reading.{neededBytes, constant, stated, setSize
 
 -- ---- stated sizes
 module _ (s t m : List ℕ) (v : Value) (size : ℕ) (st : State) where
-  pub set-size-law : (known : ℕ) (z : Sizing) (w : List ℕ) (u : Value) (st1 : State) → known ≡ sizeOf s t m v → listed z w ≡ settled m v known size (st .sizing) →
+  pub set-size-law : (known k : ℕ) (z : Sizing) (w : List ℕ) (u : Value) (st1 : State) → known ≡ sizeOf s t m v → Settles k w (settled m v known size) → z ≡ recorded k (st .sizing) →
       u ≡ withSize size v → st1 ≡ withSizing z st → listed (stated u st1) w ≡ setSize s t m v size st
   unfolding setSize thenL
-  set-size-law known z w u st1 k e p q = rw (← k, ← e, p, q)
+  set-size-law known n z w u st1 k e g p q = rw (← k, ← (e .settles (st .sizing)), p, q, g)
 
   pub stated-none : size ≡ 0 → listed (stated v st) m ≡ setStated s t m v size st
   unfolding setStated if_then_else_

@@ -1,6 +1,7 @@
 // Reading: an expression's value becomes an operand, in the output where one is given.
 use crate::scope::ExprValue;
 use pcode::sizes::Sizing;
+use pcode::sizes::record_errors;
 use pcode::sizes::settle;
 use pcode::sizes::size_of;
 use pcode::value::Value;
@@ -53,7 +54,8 @@ fn set_size(s: &[u8], t: &[u16; 3344], m: &mut [u64], v: Value, size: u64, st: S
     ensures { λ r. ⌜ listed r (now (m .exit)) ≡ setSize (now (s .entry)) (now (t .entry)) (now (m .entry)) v size st ⌝ }
 {
     let known = size_of(s, t, m, v);
-    let z = settle(m, v, known, size, st.sizing);
+    let k = settle(m, v, known, size);
+    let z = record_errors(st.sizing, k);
     Stated {
         v: with_size(v, size),
         st: with_sizing(st, z),
@@ -378,7 +380,9 @@ pub fn read_value(
         }
         ExprValue::AddressOf { base, size } => read_address(a, m, base, size, given, to, st),
         ExprValue::BitRange { v, from, bits } => {
-            read_slice(s, t, a, m, e, v, from, bits, given, to, st)
+            // By a name of its own, so that the answers of the other arms need not go through memory.
+            let r = read_slice(s, t, a, m, e, v, from, bits, given, to, st);
+            r
         }
     }
 }

@@ -1,10 +1,11 @@
 -- Known sizes, and setting one: in the operand, in its temporary, or as a recorded error. In all of these s is the stream, t
 -- the section's table, a the actions and m the temporaries.
-use Prim.Native.Nat.{ℕ, _+_, _*_, _/_, _%_, _^_}
+use Prim.Native.Nat.{ℕ, _+_, _*_, _/_, _%_}
+use mathlib.Core.Path.{_≡_}
 use mathlib.Core.Bool.{Bool, true, false}
 use mathlib.Core.List.{List}
 use lib.ListN.{getD, set}
-use lib.Dec.{eqb}
+use lib.Dec.{eqb, leb}
 use Rattle.cells.specs.Le.{le16}
 use Rattle.pcode.specs.declared.value.Value.{Value}
 use Rattle.pcode.specs.declared.sizes.Sizing.{Sizing}
@@ -52,12 +53,23 @@ sizeOf s t m v = if eqb (v .size) 65535 then sizeOfLocal s t m (v .kind) (v .num
 unfoldable pub sizeAt : List ℕ → List ℕ → List ℕ → List ℕ → ℕ → ℕ → ℕ
 sizeAt s t a m at i = sizeOf s t m (valueAt a at i)
 
--- one more error, the first with its ordinal
+-- the sum, up to the greatest number of a word
+unfoldable pub sumOfErrors : ℕ → ℕ → ℕ
+sumOfErrors x y = if leb (x + y) 18446744073709551615 then x + y else 18446744073709551615
+
+-- so many errors more, the first of all with its ordinal
+unfoldable pub recorded : ℕ → Sizing → Sizing
+recorded n z =
+    if eqb n 0
+    then z
+    else record {
+      begun = z .begun;
+      errors = sumOfErrors (z .errors) n;
+      first = if eqb (z .errors) 0 then z .begun else z .first;
+    }
+
 unfoldable pub error : Sizing → Sizing
-error z =
-    if eqb (z .errors) 0
-    then record { begun = z .begun; errors = 1; first = z .begun }
-    else record { begun = z .begun; errors = (z .errors + 1) % 2 ^ 64; first = z .first }
+error z = recorded 1 z
 
 -- an unknown size on a temporary sizes it everywhere
 unfoldable pub sizeTemporary : List ℕ → Value → ℕ → List ℕ
@@ -149,3 +161,11 @@ setSizeOfTriple s t fallback a m at ptr z =
 -- an operand with no known size takes pointer size
 unfoldable pub setUnsized : List ℕ → List ℕ → List ℕ → List ℕ → ℕ → ℕ → ℕ → Sizing → Sized
 setUnsized s t a m at i ptr z = if eqb (sizeAt s t a m at i) 65535 then setOperand s t a m at i ptr z else sized z a m
+
+-- Whatever the sizing is, n errors are recorded and the list is as f leaves it.
+pub record Settles (n : ℕ) (m : List ℕ) (f : Sizing → Listed Sizing) : Type 0 where
+  pub settles : (z : Sizing) → listed (recorded n z) m ≡ f z
+
+-- the same with both lists
+pub record Counted (n : ℕ) (a m : List ℕ) (f : Sizing → Sized) : Type 0 where
+  pub counted : (z : Sizing) → sized (recorded n z) a m ≡ f z

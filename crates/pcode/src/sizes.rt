@@ -6,8 +6,7 @@ use crate::value::put_size;
 use crate::value::value_at;
 ghost use mathlib.Core.Path.{_≡_};
 ghost use Prim.Native.Nat.{_<_};
-ghost use Rattle.pcode.specs.Base.{listed};
-ghost use Rattle.pcode.specs.Sizes.{sized, entry, listSize, exportSizeOf, tmpSize, listedSize, sizeOf, sizeAt, error, sizeTemporary, settled, setOperand, setTwo, setThree, fallsBack, pairFallback, setSizeOfPair, tripleFallsBack, tripleFallback, shareSize, allEqual, setSizeOfTriple, setUnsized};
+ghost use Rattle.pcode.specs.Sizes.{Settles, Counted, entry, listSize, exportSizeOf, tmpSize, listedSize, sizeOf, sizeAt, sumOfErrors, recorded, sizeTemporary, settled, setOperand, setTwo, setThree, fallsBack, pairFallback, setSizeOfPair, tripleFallsBack, tripleFallback, shareSize, allEqual, setSizeOfTriple, setUnsized};
 
 // The ordinal of the statement begun last, the errors recorded and the first one's ordinal.
 pub struct Sizing {
@@ -86,19 +85,34 @@ fn size_at(s: &[u8], t: &[u16; 3344], a: &[u64], m: &[u64], at: usize, i: usize)
     listed_size(s, t, w % 256, number)
 }
 
-pub fn error(z: Sizing) -> Sizing
-    ensures { λ r. ⌜ r ≡ error z ⌝ }
+// The sum, up to the greatest number of a word.
+pub fn sum_of_errors(x: u64, y: u64) -> u64
+    ensures { λ r. ⌜ r ≡ sumOfErrors x y ⌝ }
 {
+    if y <= 18446744073709551615 - x {
+        return x + y;
+    }
+    18446744073709551615
+}
+
+// So many errors more.
+pub fn record_errors(z: Sizing, n: u64) -> Sizing
+    ensures { λ r. ⌜ r ≡ recorded n z ⌝ }
+{
+    if n == 0 {
+        return z;
+    }
+    let errors = sum_of_errors(z.errors, n);
     if z.errors == 0 {
         return Sizing {
             begun: z.begun,
-            errors: 1,
+            errors,
             first: z.begun,
         };
     }
     Sizing {
         begun: z.begun,
-        errors: std::num::wrapping_add_u64(z.errors, 1),
+        errors,
         first: z.first,
     }
 }
@@ -118,21 +132,21 @@ fn size_temporary(m: &mut [u64], v: Value, size: u64)
     );
 }
 
-// A size set on a value whose known size was that one.
-pub fn settle(m: &mut [u64], v: Value, known: u64, size: u64, z: Sizing) -> Sizing
-    ensures { λ r. ⌜ listed r (now (m .exit)) ≡ settled (now (m .entry)) v known size z ⌝ }
+// A size set on a value whose known size was that one: 1 where that is an error, else 0.
+pub fn settle(m: &mut [u64], v: Value, known: u64, size: u64) -> u64
+    ensures { λ r. ⌜ Settles r (now (m .exit)) (settled (now (m .entry)) v known size) ⌝ }
 {
     if known == 65535 {
         size_temporary(m, v, size);
-        return z;
+        return 0;
     }
     if known == size {
-        return z;
+        return 0;
     }
     if v.kind == 4 {
-        return z;
+        return 0;
     }
-    error(z)
+    1
 }
 
 // Sets the size of the operand i after a position.
@@ -144,15 +158,14 @@ pub fn set_operand(
     at: usize,
     i: usize,
     size: u64,
-    z: Sizing,
-) -> Sizing
+) -> u64
     requires { ⌜ i < 32 ⌝ }
-    ensures { λ r. ⌜ sized r (now (a .exit)) (now (m .exit)) ≡ setOperand (now (s .entry)) (now (t .entry)) (now (a .entry)) (now (m .entry)) at i size z ⌝ }
+    ensures { λ r. ⌜ Counted r (now (a .exit)) (now (m .exit)) (setOperand (now (s .entry)) (now (t .entry)) (now (a .entry)) (now (m .entry)) at i size) ⌝ }
 {
     let v = value_at(a, at, i);
     let known = size_of(s, t, m, v);
     put_size(a, at, i, size);
-    settle(m, v, known, size, z)
+    settle(m, v, known, size)
 }
 
 fn set_two(
@@ -164,13 +177,13 @@ fn set_two(
     i: usize,
     j: usize,
     size: u64,
-    z: Sizing,
-) -> Sizing
+) -> u64
     requires { ⌜ (i < 32) × (j < 32) ⌝ }
-    ensures { λ r. ⌜ sized r (now (a .exit)) (now (m .exit)) ≡ setTwo (now (s .entry)) (now (t .entry)) (now (a .entry)) (now (m .entry)) at i j size z ⌝ }
+    ensures { λ r. ⌜ Counted r (now (a .exit)) (now (m .exit)) (setTwo (now (s .entry)) (now (t .entry)) (now (a .entry)) (now (m .entry)) at i j size) ⌝ }
 {
-    let y = set_operand(s, t, a, m, at, i, size, z);
-    set_operand(s, t, a, m, at, j, size, y)
+    let x = set_operand(s, t, a, m, at, i, size);
+    let y = set_operand(s, t, a, m, at, j, size);
+    sum_of_errors(x, y)
 }
 
 pub fn set_three(
@@ -180,12 +193,12 @@ pub fn set_three(
     m: &mut [u64],
     at: usize,
     size: u64,
-    z: Sizing,
-) -> Sizing
-    ensures { λ r. ⌜ sized r (now (a .exit)) (now (m .exit)) ≡ setThree (now (s .entry)) (now (t .entry)) (now (a .entry)) (now (m .entry)) at size z ⌝ }
+) -> u64
+    ensures { λ r. ⌜ Counted r (now (a .exit)) (now (m .exit)) (setThree (now (s .entry)) (now (t .entry)) (now (a .entry)) (now (m .entry)) at size) ⌝ }
 {
-    let y = set_two(s, t, a, m, at, 6, 8, size, z);
-    set_operand(s, t, a, m, at, 4, size, y)
+    let x = set_two(s, t, a, m, at, 6, 8, size);
+    let y = set_operand(s, t, a, m, at, 4, size);
+    sum_of_errors(x, y)
 }
 
 // Whether a value falls back to pointer size: InstStart, InstNext, a field or a constant.
@@ -212,20 +225,19 @@ fn pair_fallback(
     i: usize,
     j: usize,
     ptr: u64,
-    z: Sizing,
-) -> Sizing
+) -> u64
     requires { ⌜ (i < 32) × (j < 32) ⌝ }
-    ensures { λ r. ⌜ sized r (now (a .exit)) (now (m .exit)) ≡ pairFallback (now (s .entry)) (now (t .entry)) fallback (now (a .entry)) (now (m .entry)) at i j ptr z ⌝ }
+    ensures { λ r. ⌜ Counted r (now (a .exit)) (now (m .exit)) (pairFallback (now (s .entry)) (now (t .entry)) fallback (now (a .entry)) (now (m .entry)) at i j ptr) ⌝ }
 {
     if fallback {
         if falls_back(value_at(a, at, i)) {
-            return set_two(s, t, a, m, at, i, j, ptr, z);
+            return set_two(s, t, a, m, at, i, j, ptr);
         }
         if falls_back(value_at(a, at, j)) {
-            return set_two(s, t, a, m, at, i, j, ptr, z);
+            return set_two(s, t, a, m, at, i, j, ptr);
         }
     }
-    z
+    0
 }
 
 // Two operands have one size.
@@ -239,23 +251,22 @@ pub fn set_size_of_pair(
     i: usize,
     j: usize,
     ptr: u64,
-    z: Sizing,
-) -> Sizing
+) -> u64
     requires { ⌜ (i < 32) × (j < 32) ⌝ }
-    ensures { λ r. ⌜ sized r (now (a .exit)) (now (m .exit)) ≡ setSizeOfPair (now (s .entry)) (now (t .entry)) fallback (now (a .entry)) (now (m .entry)) at i j ptr z ⌝ }
+    ensures { λ r. ⌜ Counted r (now (a .exit)) (now (m .exit)) (setSizeOfPair (now (s .entry)) (now (t .entry)) fallback (now (a .entry)) (now (m .entry)) at i j ptr) ⌝ }
 {
     let x = size_at(s, t, a, m, at, i);
     let y = size_at(s, t, a, m, at, j);
     if x == 65535 {
         if y == 65535 {
-            return pair_fallback(s, t, fallback, a, m, at, i, j, ptr, z);
+            return pair_fallback(s, t, fallback, a, m, at, i, j, ptr);
         }
-        return set_operand(s, t, a, m, at, i, y, z);
+        return set_operand(s, t, a, m, at, i, y);
     }
     if x == y {
-        return z;
+        return 0;
     }
-    set_operand(s, t, a, m, at, j, x, z)
+    set_operand(s, t, a, m, at, j, x)
 }
 
 fn triple_falls_back(a: &[u64], at: usize) -> bool
@@ -278,16 +289,15 @@ fn triple_fallback(
     m: &mut [u64],
     at: usize,
     ptr: u64,
-    z: Sizing,
-) -> Sizing
-    ensures { λ r. ⌜ sized r (now (a .exit)) (now (m .exit)) ≡ tripleFallback (now (s .entry)) (now (t .entry)) fallback (now (a .entry)) (now (m .entry)) at ptr z ⌝ }
+) -> u64
+    ensures { λ r. ⌜ Counted r (now (a .exit)) (now (m .exit)) (tripleFallback (now (s .entry)) (now (t .entry)) fallback (now (a .entry)) (now (m .entry)) at ptr) ⌝ }
 {
     if fallback {
         if triple_falls_back(a, at) {
-            return set_three(s, t, a, m, at, ptr, z);
+            return set_three(s, t, a, m, at, ptr);
         }
     }
-    z
+    0
 }
 
 // The other two take the size of the first known one.
@@ -300,17 +310,16 @@ fn share_size(
     x: u64,
     y: u64,
     w: u64,
-    z: Sizing,
-) -> Sizing
-    ensures { λ r. ⌜ sized r (now (a .exit)) (now (m .exit)) ≡ shareSize (now (s .entry)) (now (t .entry)) (now (a .entry)) (now (m .entry)) at x y w z ⌝ }
+) -> u64
+    ensures { λ r. ⌜ Counted r (now (a .exit)) (now (m .exit)) (shareSize (now (s .entry)) (now (t .entry)) (now (a .entry)) (now (m .entry)) at x y w) ⌝ }
 {
     if x != 65535 {
-        return set_two(s, t, a, m, at, 8, 4, x, z);
+        return set_two(s, t, a, m, at, 8, 4, x);
     }
     if y != 65535 {
-        return set_two(s, t, a, m, at, 6, 4, y, z);
+        return set_two(s, t, a, m, at, 6, 4, y);
     }
-    set_two(s, t, a, m, at, 6, 8, w, z)
+    set_two(s, t, a, m, at, 6, 8, w)
 }
 
 fn all_equal(x: u64, y: u64, w: u64) -> bool
@@ -328,20 +337,19 @@ pub fn set_size_of_triple(
     m: &mut [u64],
     at: usize,
     ptr: u64,
-    z: Sizing,
-) -> Sizing
-    ensures { λ r. ⌜ sized r (now (a .exit)) (now (m .exit)) ≡ setSizeOfTriple (now (s .entry)) (now (t .entry)) fallback (now (a .entry)) (now (m .entry)) at ptr z ⌝ }
+) -> u64
+    ensures { λ r. ⌜ Counted r (now (a .exit)) (now (m .exit)) (setSizeOfTriple (now (s .entry)) (now (t .entry)) fallback (now (a .entry)) (now (m .entry)) at ptr) ⌝ }
 {
     let x = size_at(s, t, a, m, at, 6);
     let y = size_at(s, t, a, m, at, 8);
     let w = size_at(s, t, a, m, at, 4);
     if all_equal(x, y, w) {
         if x == 65535 {
-            return triple_fallback(s, t, fallback, a, m, at, ptr, z);
+            return triple_fallback(s, t, fallback, a, m, at, ptr);
         }
-        return z;
+        return 0;
     }
-    share_size(s, t, a, m, at, x, y, w, z)
+    share_size(s, t, a, m, at, x, y, w)
 }
 
 // An operand with no known size takes pointer size.
@@ -353,13 +361,12 @@ pub fn set_unsized(
     at: usize,
     i: usize,
     ptr: u64,
-    z: Sizing,
-) -> Sizing
+) -> u64
     requires { ⌜ i < 32 ⌝ }
-    ensures { λ r. ⌜ sized r (now (a .exit)) (now (m .exit)) ≡ setUnsized (now (s .entry)) (now (t .entry)) (now (a .entry)) (now (m .entry)) at i ptr z ⌝ }
+    ensures { λ r. ⌜ Counted r (now (a .exit)) (now (m .exit)) (setUnsized (now (s .entry)) (now (t .entry)) (now (a .entry)) (now (m .entry)) at i ptr) ⌝ }
 {
     if size_at(s, t, a, m, at, i) == 65535 {
-        return set_operand(s, t, a, m, at, i, ptr, z);
+        return set_operand(s, t, a, m, at, i, ptr);
     }
-    z
+    0
 }

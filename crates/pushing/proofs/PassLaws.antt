@@ -1,5 +1,5 @@
 -- The turns of a pass: the first, one more, the last; and a pass over one action.
-use mathlib.Core.Path.{_≡_}
+use mathlib.Core.Path.{_≡_, refl}
 use mathlib.Core.Bool.{Bool, true, false}
 use mathlib.Core.List.{List}
 use Prim.Native.Nat.{ℕ, _+_, _-_, _≤_, _<_}
@@ -8,7 +8,8 @@ use borrow.Author.Tests.{eq-eqb, ne-eqb}
 use Rattle.pcode.specs.declared.sizes.Sizing.{Sizing}
 use Rattle.pcode.specs.Base.{if_then_else_, run, runDown}
 use Rattle.pcode.specs.Values.{place}
-use Rattle.pcode.specs.Sizes.{sized, thenS}
+use Rattle.pcode.specs.Sizes.{sized, thenS, sumOfErrors, recorded, Counted}
+use Rattle.pcode.proofs.SizeLaws.{record-sum}
 use Rattle.pcode.proofs.LoopLaws.{run-again, run-end, down-again, down-end}
 use Rattle.pushing.specs.Rules.{updateOperandSizes}
 use Rattle.pushing.specs.Passes.{actionPlace, updateAction, turn, turns, pass}
@@ -31,9 +32,14 @@ turn-backward b n i h = rw h
 
 pub ruleset place-laws = (place-first, place-later, turn-forward, turn-backward)
 
-pub update-action-law : (s t a m a1 m1 : List ℕ) (fallback : Bool) (base ptr i p : ℕ) (z y : Sizing) → p ≡ actionPlace base i → sized y a1 m1 ≡ updateOperandSizes s t fallback a m p ptr z → sized y a1 m1 ≡ updateAction s t fallback base ptr i (sized z a m)
+pub update-action-law : (s t a m a1 m1 : List ℕ) (fallback : Bool) (base ptr i p k x y : ℕ) (z : Sizing) → p ≡ actionPlace base i → Counted x a1 m1 (updateOperandSizes s t fallback a m p ptr) → y ≡ sumOfErrors k x → sized (recorded y z) a1 m1 ≡ updateAction s t fallback base ptr i (sized (recorded k z) a m)
 unfolding updateAction thenS
-update-action-law s t a m a1 m1 fallback base ptr i p z y h e = rw (← h) e
+update-action-law s t a m a1 m1 fallback base ptr i p k x y z h e g = rw (g, record-sum z k x, ← h) (e .counted (recorded k z))
+
+-- a pass that begins
+pub pass-start : (s t a m : List ℕ) (fallback : Bool) (base n ptr : ℕ) (z : Sizing) → turns fallback n 0 (updateAction s t fallback base ptr) (sized (recorded 0 z) a m) ≡ pass s t fallback a m base n ptr z
+unfolding pass recorded if_then_else_
+pass-start s t a m fallback base n ptr z = refl
 
 pub turns-again : {A : Type 0} (b : Bool) (n i k : ℕ) (f : ℕ → A → A) (x y w : A) → i < n → k ≡ turn b n i → turns b n i f x ≡ w → y ≡ f k x → turns b n (i + 1) f y ≡ w
 unfolding turn turns if_then_else_
@@ -48,9 +54,13 @@ unfolding turns if_then_else_
 turns-end true n i f x w h e = run-end n i f x w h e
 turns-end false n i f x w h e = down-end (n - i) f x w (omega arith) e
 
-pub pass-one : (s t a m a1 m1 : List ℕ) (at ptr : ℕ) (z y : Sizing) → sized y a1 m1 ≡ pass s t false a m at 1 ptr z → sized y a1 m1 ≡ updateOperandSizes s t false a m at ptr z
+-- a pass whose errors are then recorded
+pub pass-recorded : (s t a m a1 m1 : List ℕ) (fallback : Bool) (base n ptr k : ℕ) (z y : Sizing) → Counted k a1 m1 (pass s t fallback a m base n ptr) → y ≡ recorded k z → sized y a1 m1 ≡ pass s t fallback a m base n ptr z
+pass-recorded s t a m a1 m1 fallback base n ptr k z y h e = rw e (h .counted z)
+
+pub pass-one : (s t a m a1 m1 : List ℕ) (at ptr k : ℕ) (z y : Sizing) → Counted k a1 m1 (pass s t false a m at 1 ptr) → y ≡ recorded k z → sized y a1 m1 ≡ updateOperandSizes s t false a m at ptr z
 unfolding pass turns runDown updateAction actionPlace thenS if_then_else_
-pass-one s t a m a1 m1 at ptr z y e = e
+pass-one s t a m a1 m1 at ptr k z y h e = rw e (h .counted z)
 
 module _ (s t a m : List ℕ) (base n ptr : ℕ) (z : Sizing) where
   none : n - 0 ≡ n

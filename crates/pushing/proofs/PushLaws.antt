@@ -15,7 +15,7 @@ use Rattle.pushing.specs.declared.push.Read.{Read}
 use Rattle.pushing.specs.declared.push.Pushed.{Pushed}
 use Rattle.pcode.specs.Base.{if_then_else_, run, listed}
 use Rattle.pcode.specs.Values.{local, valueAt, putValue, zeroWord}
-use Rattle.pcode.specs.Sizes.{sized, thenS}
+use Rattle.pcode.specs.Sizes.{sized, thenS, recorded, Counted}
 use Rattle.pushing.specs.Passes.{pass}
 use Rattle.pushing.proofs.PassLaws.{pass-one}
 use Rattle.pushing.specs.Pushes.{read, pushed, state, onPushed, onTmp, onPush, onState, withEnd, withTemporaries, withSizing, tmpWord, addTmp, outputOr, writeOperands, writeZeros, writeHead, write, push, updateLast, pushOp, opTo, op}
@@ -80,9 +80,9 @@ module _ (a : List ℕ) (kind op number count : ℕ) (out x y : Value) (st : Sta
   unfolding push if_then_else_
   push-full h = rw (← p, h)
 
-pub update-last-law : (s t a m a1 m1 : List ℕ) (at ptr : ℕ) (st : State) (z : Sizing) → sized z a1 m1 ≡ pass s t false a m at 1 ptr (st .sizing) → state (withSizing z st) a1 m1 ≡ updateLast s t a m at ptr st
+pub update-last-law : (s t a m a1 m1 : List ℕ) (at ptr k : ℕ) (st : State) (z : Sizing) → Counted k a1 m1 (pass s t false a m at 1 ptr) → z ≡ recorded k (st .sizing) → state (withSizing z st) a1 m1 ≡ updateLast s t a m at ptr st
 unfolding updateLast thenS
-update-last-law s t a m a1 m1 at ptr st z e = rw (← pass-one s t a m a1 m1 at ptr (st .sizing) z e)
+update-last-law s t a m a1 m1 at ptr k st z h e = rw (← pass-one s t a m a1 m1 at ptr k (st .sizing) z h e)
 
 module _ (s t a m : List ℕ) (e : Env) (code number count : ℕ) (out x y : Value) (st : State) (r : Pushed) (a1 : List ℕ) (p : listed r a1 ≡ push a 0 code number count out x y st) where
   pub push-op-full : (n : ℕ) → r ≡ Pushed.No n → pushed (Pushed.No n) a1 m ≡ pushOp s t a m e code number count out x y st

@@ -9,7 +9,8 @@ use lib.Dec.{eqb, ltb}
 use borrow.Author.Tests.{eq-eqb, ne-eqb, eqb-true, lt-ltb, le-ltb}
 use Rattle.pcode.specs.declared.sizes.Sizing.{Sizing}
 use Rattle.pcode.specs.Base.{if_then_else_}
-use Rattle.pcode.specs.Sizes.{sized, thenS, setOperand, setThree, setSizeOfPair, setSizeOfTriple, setUnsized}
+use Rattle.pcode.specs.Sizes.{sized, thenS, sumOfErrors, recorded, setOperand, setThree, setSizeOfPair, setSizeOfTriple, setUnsized, Counted}
+use Rattle.pcode.proofs.SizeLaws.{counted-then}
 use Rattle.pushing.specs.Rules.{ruleOfOperator, ruleOfOneInput, ruleOfOther, ruleOf, shift, comparison, pairs, partner, pairRule, boolNot, branch, fewOperands, applyRule, updateOperandSizes}
 
 -- the steps of a chain of tests
@@ -151,91 +152,91 @@ pub partner-output : (rule : ℕ) → (rule ≡ 4 → ⊥) → 4 ≡ partner rul
 unfolding partner if_then_else_
 partner-output rule h = rw (ne-eqb rule 4 h)
 
-module _ (s t : List ℕ) (rule : ℕ) (fallback : Bool) (a m : List ℕ) (at ptr j : ℕ) (z y : Sizing) (a1 m1 : List ℕ) (is : (j ≡ partner rule) × (j < 32)) (paired : sized y a1 m1 ≡ setSizeOfPair s t fallback a m at 6 j ptr z) where
-  pub pair-shift : (x : Sizing) (a2 m2 : List ℕ) → rule ≡ 2 → sized x a2 m2 ≡ setUnsized s t a1 m1 at 8 ptr y → sized x a2 m2 ≡ pairRule s t rule fallback a m at ptr z
-  unfolding pairRule shift thenS if_then_else_
-  pair-shift x a2 m2 h e =
+module _ (s t : List ℕ) (rule : ℕ) (fallback : Bool) (a m : List ℕ) (at ptr j x : ℕ) (a1 m1 : List ℕ) (is : (j ≡ partner rule) × (j < 32)) (paired : Counted x a1 m1 (setSizeOfPair s t fallback a m at 6 j ptr)) where
+  pub pair-shift : (y r : ℕ) (a2 m2 : List ℕ) → rule ≡ 2 → Counted y a2 m2 (setUnsized s t a1 m1 at 8 ptr) → r ≡ sumOfErrors x y → Counted r a2 m2 (pairRule s t rule fallback a m at ptr)
+  unfolding pairRule shift if_then_else_
+  pair-shift y r a2 m2 h e g =
       let four : j ≡ 4 = is .0 ∙ sym (partner-output rule (λ k. omega arith)) in
-      rw (h, ← (rw four at paired)) e
+      rw h (counted-then (λ z b w. setUnsized s t b w at 8 ptr z) g (rw four at paired) e (λ z. refl))
 
-  pub pair-comparison : (x : Sizing) (a2 m2 : List ℕ) → rule ≡ 4 → sized x a2 m2 ≡ setOperand s t a1 m1 at 4 1 y → sized x a2 m2 ≡ pairRule s t rule fallback a m at ptr z
-  unfolding pairRule comparison thenS if_then_else_
-  pair-comparison x a2 m2 h e =
+  pub pair-comparison : (y r : ℕ) (a2 m2 : List ℕ) → rule ≡ 4 → Counted y a2 m2 (setOperand s t a1 m1 at 4 1) → r ≡ sumOfErrors x y → Counted r a2 m2 (pairRule s t rule fallback a m at ptr)
+  unfolding pairRule comparison if_then_else_
+  pair-comparison y r a2 m2 h e g =
       let eight : j ≡ 8 = is .0 ∙ sym (partner-second rule h) in
-      rw (h, ← (rw eight at paired)) e
+      rw h (counted-then (λ z b w. setOperand s t b w at 4 1 z) g (rw eight at paired) e (λ z. refl))
 
-  pub pair-alone : (rule ≡ 2 → ⊥) → (rule ≡ 4 → ⊥) → sized y a1 m1 ≡ pairRule s t rule fallback a m at ptr z
+  pub pair-alone : (rule ≡ 2 → ⊥) → (rule ≡ 4 → ⊥) → Counted x a1 m1 (pairRule s t rule fallback a m at ptr)
   unfolding pairRule if_then_else_
   pair-alone n2 n4 =
       let four : j ≡ 4 = is .0 ∙ sym (partner-output rule n4) in
-      rw (ne-eqb rule 2 n2, ne-eqb rule 4 n4) (rw four at paired)
+      record { counted = λ z. rw (ne-eqb rule 2 n2, ne-eqb rule 4 n4) ((rw four at paired) .counted z) }
 
-pub bool-not-law : (s t a m a1 m1 a2 m2 : List ℕ) (at : ℕ) (z y x : Sizing) → sized y a1 m1 ≡ setOperand s t a m at 6 1 z → sized x a2 m2 ≡ setOperand s t a1 m1 at 4 1 y → sized x a2 m2 ≡ boolNot s t a m at z
-unfolding boolNot thenS
-bool-not-law s t a m a1 m1 a2 m2 at z y x p e = rw (← p) e
+pub bool-not-law : (s t a m a1 m1 a2 m2 : List ℕ) (at x y r : ℕ) → Counted x a1 m1 (setOperand s t a m at 6 1) → Counted y a2 m2 (setOperand s t a1 m1 at 4 1) → r ≡ sumOfErrors x y → Counted r a2 m2 (boolNot s t a m at)
+unfolding boolNot
+bool-not-law s t a m a1 m1 a2 m2 at x y r p e g = counted-then (λ z b w. setOperand s t b w at 4 1 z) g p e (λ z. refl)
 
-pub branch-law : (s t a m a1 m1 a2 m2 : List ℕ) (at ptr : ℕ) (z y x : Sizing) → sized y a1 m1 ≡ setOperand s t a m at 6 1 z → sized x a2 m2 ≡ setUnsized s t a1 m1 at 8 ptr y → sized x a2 m2 ≡ branch s t a m at ptr z
-unfolding branch thenS
-branch-law s t a m a1 m1 a2 m2 at ptr z y x p e = rw (← p) e
+pub branch-law : (s t a m a1 m1 a2 m2 : List ℕ) (at ptr x y r : ℕ) → Counted x a1 m1 (setOperand s t a m at 6 1) → Counted y a2 m2 (setUnsized s t a1 m1 at 8 ptr) → r ≡ sumOfErrors x y → Counted r a2 m2 (branch s t a m at ptr)
+unfolding branch
+branch-law s t a m a1 m1 a2 m2 at ptr x y r p e g = counted-then (λ z b w. setUnsized s t b w at 8 ptr z) g p e (λ z. refl)
 
-module _ (s t : List ℕ) (rule : ℕ) (a m : List ℕ) (at ptr : ℕ) (z y : Sizing) (a1 m1 : List ℕ) where
-  pub few-not : rule ≡ 6 → sized y a1 m1 ≡ boolNot s t a m at z → sized y a1 m1 ≡ fewOperands s t rule a m at ptr z
+module _ (s t : List ℕ) (rule : ℕ) (a m : List ℕ) (at ptr y : ℕ) (a1 m1 : List ℕ) where
+  pub few-not : rule ≡ 6 → Counted y a1 m1 (boolNot s t a m at) → Counted y a1 m1 (fewOperands s t rule a m at ptr)
   unfolding fewOperands if_then_else_
-  few-not h e = rw h e
+  few-not h e = record { counted = λ z. rw h (e .counted z) }
 
-  pub few-nan : rule ≡ 7 → sized y a1 m1 ≡ setOperand s t a m at 4 1 z → sized y a1 m1 ≡ fewOperands s t rule a m at ptr z
+  pub few-nan : rule ≡ 7 → Counted y a1 m1 (setOperand s t a m at 4 1) → Counted y a1 m1 (fewOperands s t rule a m at ptr)
   unfolding fewOperands if_then_else_
-  few-nan h e = rw h e
+  few-nan h e = record { counted = λ z. rw h (e .counted z) }
 
-  pub few-pointer : rule ≡ 8 → sized y a1 m1 ≡ setOperand s t a m at 6 ptr z → sized y a1 m1 ≡ fewOperands s t rule a m at ptr z
+  pub few-pointer : rule ≡ 8 → Counted y a1 m1 (setOperand s t a m at 6 ptr) → Counted y a1 m1 (fewOperands s t rule a m at ptr)
   unfolding fewOperands if_then_else_
-  few-pointer h e = rw h e
+  few-pointer h e = record { counted = λ z. rw h (e .counted z) }
 
-  pub few-branch : rule ≡ 9 → sized y a1 m1 ≡ branch s t a m at ptr z → sized y a1 m1 ≡ fewOperands s t rule a m at ptr z
+  pub few-branch : rule ≡ 9 → Counted y a1 m1 (branch s t a m at ptr) → Counted y a1 m1 (fewOperands s t rule a m at ptr)
   unfolding fewOperands if_then_else_
-  few-branch h e = rw h e
+  few-branch h e = record { counted = λ z. rw h (e .counted z) }
 
-  pub few-condition : rule ≡ 10 → sized y a1 m1 ≡ setOperand s t a m at 6 1 z → sized y a1 m1 ≡ fewOperands s t rule a m at ptr z
+  pub few-condition : rule ≡ 10 → Counted y a1 m1 (setOperand s t a m at 6 1) → Counted y a1 m1 (fewOperands s t rule a m at ptr)
   unfolding fewOperands if_then_else_
-  few-condition h e = rw h e
+  few-condition h e = record { counted = λ z. rw h (e .counted z) }
 
-pub few-none : (s t : List ℕ) (rule : ℕ) (a m : List ℕ) (at ptr : ℕ) (z : Sizing) → (rule ≡ 6 → ⊥) → (rule ≡ 7 → ⊥) → (rule ≡ 8 → ⊥) → (rule ≡ 9 → ⊥) → (rule ≡ 10 → ⊥) → sized z a m ≡ fewOperands s t rule a m at ptr z
-unfolding fewOperands if_then_else_
-few-none s t rule a m at ptr z n6 n7 n8 n9 n10 = rw (ne-eqb rule 6 n6, ne-eqb rule 7 n7, ne-eqb rule 8 n8, ne-eqb rule 9 n9, ne-eqb rule 10 n10)
+pub few-none : (s t : List ℕ) (rule : ℕ) (a m : List ℕ) (at ptr : ℕ) → (rule ≡ 6 → ⊥) → (rule ≡ 7 → ⊥) → (rule ≡ 8 → ⊥) → (rule ≡ 9 → ⊥) → (rule ≡ 10 → ⊥) → Counted 0 a m (fewOperands s t rule a m at ptr)
+unfolding recorded fewOperands if_then_else_
+few-none s t rule a m at ptr n6 n7 n8 n9 n10 = record { counted = λ z. rw (ne-eqb rule 6 n6, ne-eqb rule 7 n7, ne-eqb rule 8 n8, ne-eqb rule 9 n9, ne-eqb rule 10 n10) }
 
-module _ (s t : List ℕ) (rule : ℕ) (fallback : Bool) (a m : List ℕ) (at ptr : ℕ) (z y : Sizing) (a1 m1 : List ℕ) where
-  pub apply-pair : (b : Bool) → b ≡ pairs rule → b ≡ true → sized y a1 m1 ≡ pairRule s t rule fallback a m at ptr z → sized y a1 m1 ≡ applyRule s t rule fallback a m at ptr z
+module _ (s t : List ℕ) (rule : ℕ) (fallback : Bool) (a m : List ℕ) (at ptr y : ℕ) (a1 m1 : List ℕ) where
+  pub apply-pair : (b : Bool) → b ≡ pairs rule → b ≡ true → Counted y a1 m1 (pairRule s t rule fallback a m at ptr) → Counted y a1 m1 (applyRule s t rule fallback a m at ptr)
   unfolding applyRule pairRule pairs if_then_else_
   apply-pair b f h e = go (eqb rule 1) (eqb rule 2) (eqb rule 4) refl refl refl
     where
       is : pairs rule ≡ true
       is = sym f ∙ h
 
-      go : (x w v : Bool) → eqb rule 1 ≡ x → eqb rule 2 ≡ w → eqb rule 4 ≡ v → sized y a1 m1 ≡ applyRule s t rule fallback a m at ptr z
+      go : (x w v : Bool) → eqb rule 1 ≡ x → eqb rule 2 ≡ w → eqb rule 4 ≡ v → Counted y a1 m1 (applyRule s t rule fallback a m at ptr)
       go true w v p q r = let k = eqb-true rule 1 p in rw k (rw k at e)
       go false true v p q r = let k = eqb-true rule 2 q in rw k (rw k at e)
       go false false true p q r = let k = eqb-true rule 4 r in rw k (rw k at e)
       go false false false p q r = absurd (let z : false ≡ true = rw (p, q, r) at is in let u : _≡_ {A = ℕ} 0 1 = cc in omega arith)
 
-  pub apply-triple : rule ≡ 3 → sized y a1 m1 ≡ setSizeOfTriple s t fallback a m at ptr z → sized y a1 m1 ≡ applyRule s t rule fallback a m at ptr z
+  pub apply-triple : rule ≡ 3 → Counted y a1 m1 (setSizeOfTriple s t fallback a m at ptr) → Counted y a1 m1 (applyRule s t rule fallback a m at ptr)
   unfolding applyRule if_then_else_
-  apply-triple h e = rw h e
+  apply-triple h e = record { counted = λ z. rw h (e .counted z) }
 
-  pub apply-boolean : rule ≡ 5 → sized y a1 m1 ≡ setThree s t a m at 1 z → sized y a1 m1 ≡ applyRule s t rule fallback a m at ptr z
+  pub apply-boolean : rule ≡ 5 → Counted y a1 m1 (setThree s t a m at 1) → Counted y a1 m1 (applyRule s t rule fallback a m at ptr)
   unfolding applyRule if_then_else_
-  apply-boolean h e = rw h e
+  apply-boolean h e = record { counted = λ z. rw h (e .counted z) }
 
-  pub apply-few : (b : Bool) → b ≡ pairs rule → b ≡ false → (rule ≡ 3 → ⊥) → (rule ≡ 5 → ⊥) → sized y a1 m1 ≡ fewOperands s t rule a m at ptr z → sized y a1 m1 ≡ applyRule s t rule fallback a m at ptr z
+  pub apply-few : (b : Bool) → b ≡ pairs rule → b ≡ false → (rule ≡ 3 → ⊥) → (rule ≡ 5 → ⊥) → Counted y a1 m1 (fewOperands s t rule a m at ptr) → Counted y a1 m1 (applyRule s t rule fallback a m at ptr)
   unfolding applyRule if_then_else_
-  apply-few b f h n3 n5 e = let n = no-pair rule b f h in rw (ne-eqb rule 1 (n .0), ne-eqb rule 2 (n .1 .0), ne-eqb rule 3 n3, ne-eqb rule 4 (n .1 .1), ne-eqb rule 5 n5) e
+  apply-few b f h n3 n5 e = let n = no-pair rule b f h in record { counted = λ z. rw (ne-eqb rule 1 (n .0), ne-eqb rule 2 (n .1 .0), ne-eqb rule 3 n3, ne-eqb rule 4 (n .1 .1), ne-eqb rule 5 n5) (e .counted z) }
 
-module _ (s t : List ℕ) (fallback : Bool) (a m : List ℕ) (at ptr : ℕ) (z : Sizing) (k : ℕ) (p : k ≡ getD a (at + 0) 0) where
-  pub update-other : (k ≡ 0 → ⊥) → sized z a m ≡ updateOperandSizes s t fallback a m at ptr z
+module _ (s t : List ℕ) (fallback : Bool) (a m : List ℕ) (at ptr k : ℕ) (p : k ≡ getD a (at + 0) 0) where
+  pub update-other : (k ≡ 0 → ⊥) → Counted 0 a m (updateOperandSizes s t fallback a m at ptr)
+  unfolding recorded updateOperandSizes if_then_else_
+  update-other h = record { counted = λ z. rw (← p, ne-eqb k 0 h) }
+
+  pub update-op : (op rule y : ℕ) (a1 m1 : List ℕ) → k ≡ 0 → op ≡ getD a (at + 1) 0 → rule ≡ ruleOf op → Counted y a1 m1 (applyRule s t rule fallback a m at ptr) → Counted y a1 m1 (updateOperandSizes s t fallback a m at ptr)
   unfolding updateOperandSizes if_then_else_
-  update-other h = rw (← p, ne-eqb k 0 h)
-
-  pub update-op : (op rule : ℕ) (y : Sizing) (a1 m1 : List ℕ) → k ≡ 0 → op ≡ getD a (at + 1) 0 → rule ≡ ruleOf op → sized y a1 m1 ≡ applyRule s t rule fallback a m at ptr z → sized y a1 m1 ≡ updateOperandSizes s t fallback a m at ptr z
-  unfolding updateOperandSizes if_then_else_
-  update-op op rule y a1 m1 h q o e = rw (← p, eq-eqb k 0 h, ← q, ← o) e
+  update-op op rule y a1 m1 h q o e = record { counted = λ z. rw (← p, eq-eqb k 0 h, ← q, ← o) (e .counted z) }
 
 pub ruleset rule-laws = (pairs-equal, pairs-shift, pairs-compared, pairs-not, partner-second, partner-output, pair-shift, pair-comparison, pair-alone, bool-not-law, branch-law, few-not, few-nan, few-pointer, few-branch, few-condition, few-none, apply-pair, apply-triple, apply-boolean, apply-few, update-other, update-op)

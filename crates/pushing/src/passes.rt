@@ -1,11 +1,11 @@
 // A pass over actions: the rule of each, applied in place. A push is a pass over the one action that it has pushed, so that
 // the rules are compiled into one loop.
 use crate::rules::update_operand_sizes;
-use pcode::sizes::Sizing;
+use pcode::sizes::sum_of_errors;
 use pcode::value::place;
 ghost use mathlib.Core.Path.{_≡_};
 ghost use Prim.Native.Nat.{_<_};
-ghost use Rattle.pcode.specs.Sizes.{sized};
+ghost use Rattle.pcode.specs.Sizes.{Counted};
 ghost use Rattle.pushing.specs.Passes.{actionPlace, turn, pass};
 
 // Where action i stands of those from a position on; the first may stand anywhere.
@@ -23,7 +23,7 @@ fn turn(forward: bool, n: usize, i: usize) -> usize
     if forward { i } else { n - 1 - i }
 }
 
-// The n actions from a position on: forward with fallback, or backward without.
+// The n actions from a position on, forward with fallback or backward without: how many errors.
 pub fn pass(
     s: &[u8],
     t: &[u16; 3344],
@@ -33,14 +33,13 @@ pub fn pass(
     base: usize,
     n: usize,
     ptr: u64,
-    z: Sizing,
-) -> Sizing
-    ensures { λ r. ⌜ sized r (now (a .exit)) (now (m .exit)) ≡ pass (now (s .entry)) (now (t .entry)) fallback (now (a .entry)) (now (m .entry)) base n ptr z ⌝ }
+) -> u64
+    ensures { λ r. ⌜ Counted r (now (a .exit)) (now (m .exit)) (pass (now (s .entry)) (now (t .entry)) fallback (now (a .entry)) (now (m .entry)) base n ptr) ⌝ }
 {
-    let mut z = z;
+    let mut k = 0;
     for i in 0..n {
         let at = action_place(base, turn(fallback, n, i));
-        z = update_operand_sizes(s, t, fallback, a, m, at, ptr, z);
+        k = sum_of_errors(k, update_operand_sizes(s, t, fallback, a, m, at, ptr));
     }
-    z
+    k
 }

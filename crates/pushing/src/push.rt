@@ -1,6 +1,7 @@
 // Temporaries and pushes. Actions are pushed behind room for the Builds of all subtables, up to the end of the lent list.
 use crate::passes::pass;
 use pcode::sizes::Sizing;
+use pcode::sizes::record_errors;
 use pcode::value::Value;
 use pcode::value::local;
 use pcode::value::put;
@@ -159,7 +160,8 @@ fn update_last(
 ) -> State
     ensures { λ r. ⌜ state r (now (a .exit)) (now (m .exit)) ≡ updateLast (now (s .entry)) (now (t .entry)) (now (a .entry)) (now (m .entry)) at ptr st ⌝ }
 {
-    let z = pass(s, t, false, a, m, at, 1, ptr, st.sizing);
+    let k = pass(s, t, false, a, m, at, 1, ptr);
+    let z = record_errors(st.sizing, k);
     State {
         end: st.end,
         temporaries: st.temporaries,

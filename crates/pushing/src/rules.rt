@@ -1,14 +1,14 @@
-// The size rule of each operation, applied in place to an action of the list.
-use pcode::sizes::Sizing;
+// The size rule of each operation, applied in place to an action of the list, and how many errors that gives.
 use pcode::sizes::set_operand;
 use pcode::sizes::set_size_of_pair;
 use pcode::sizes::set_size_of_triple;
 use pcode::sizes::set_three;
 use pcode::sizes::set_unsized;
+use pcode::sizes::sum_of_errors;
 use pcode::value::get;
 ghost use mathlib.Core.Path.{_≡_};
 ghost use Prim.Native.Nat.{_<_};
-ghost use Rattle.pcode.specs.Sizes.{sized};
+ghost use Rattle.pcode.specs.Sizes.{Counted};
 ghost use Rattle.pushing.specs.Rules.{ruleOfOperator, ruleOfOneInput, ruleOfOther, ruleOf, pairs, partner, pairRule, boolNot, branch, fewOperands, applyRule, updateOperandSizes};
 
 // Which rule an operation has: 0 none, 1 pair, 2 shift, 3 triple, 4 comparison, 5 boolean, 6 not, 7 nan, 8 pointer,
@@ -94,38 +94,31 @@ fn pair_rule(
     m: &mut [u64],
     at: usize,
     ptr: u64,
-    z: Sizing,
-) -> Sizing
-    ensures { λ r. ⌜ sized r (now (a .exit)) (now (m .exit)) ≡ pairRule (now (s .entry)) (now (t .entry)) rule fallback (now (a .entry)) (now (m .entry)) at ptr z ⌝ }
+) -> u64
+    ensures { λ r. ⌜ Counted r (now (a .exit)) (now (m .exit)) (pairRule (now (s .entry)) (now (t .entry)) rule fallback (now (a .entry)) (now (m .entry)) at ptr) ⌝ }
 {
-    let y = set_size_of_pair(s, t, fallback, a, m, at, 6, partner(rule), ptr, z);
+    let x = set_size_of_pair(s, t, fallback, a, m, at, 6, partner(rule), ptr);
     match rule {
-        2 => set_unsized(s, t, a, m, at, 8, ptr, y),
-        4 => set_operand(s, t, a, m, at, 4, 1, y),
-        _ => y,
+        2 => sum_of_errors(x, set_unsized(s, t, a, m, at, 8, ptr)),
+        4 => sum_of_errors(x, set_operand(s, t, a, m, at, 4, 1)),
+        _ => x,
     }
 }
 
-fn bool_not(s: &[u8], t: &[u16; 3344], a: &mut [u64], m: &mut [u64], at: usize, z: Sizing) -> Sizing
-    ensures { λ r. ⌜ sized r (now (a .exit)) (now (m .exit)) ≡ boolNot (now (s .entry)) (now (t .entry)) (now (a .entry)) (now (m .entry)) at z ⌝ }
+fn bool_not(s: &[u8], t: &[u16; 3344], a: &mut [u64], m: &mut [u64], at: usize) -> u64
+    ensures { λ r. ⌜ Counted r (now (a .exit)) (now (m .exit)) (boolNot (now (s .entry)) (now (t .entry)) (now (a .entry)) (now (m .entry)) at) ⌝ }
 {
-    let y = set_operand(s, t, a, m, at, 6, 1, z);
-    set_operand(s, t, a, m, at, 4, 1, y)
+    let x = set_operand(s, t, a, m, at, 6, 1);
+    let y = set_operand(s, t, a, m, at, 4, 1);
+    sum_of_errors(x, y)
 }
 
-fn branch(
-    s: &[u8],
-    t: &[u16; 3344],
-    a: &mut [u64],
-    m: &mut [u64],
-    at: usize,
-    ptr: u64,
-    z: Sizing,
-) -> Sizing
-    ensures { λ r. ⌜ sized r (now (a .exit)) (now (m .exit)) ≡ branch (now (s .entry)) (now (t .entry)) (now (a .entry)) (now (m .entry)) at ptr z ⌝ }
+fn branch(s: &[u8], t: &[u16; 3344], a: &mut [u64], m: &mut [u64], at: usize, ptr: u64) -> u64
+    ensures { λ r. ⌜ Counted r (now (a .exit)) (now (m .exit)) (branch (now (s .entry)) (now (t .entry)) (now (a .entry)) (now (m .entry)) at ptr) ⌝ }
 {
-    let y = set_operand(s, t, a, m, at, 6, 1, z);
-    set_unsized(s, t, a, m, at, 8, ptr, y)
+    let x = set_operand(s, t, a, m, at, 6, 1);
+    let y = set_unsized(s, t, a, m, at, 8, ptr);
+    sum_of_errors(x, y)
 }
 
 fn few_operands(
@@ -136,17 +129,16 @@ fn few_operands(
     m: &mut [u64],
     at: usize,
     ptr: u64,
-    z: Sizing,
-) -> Sizing
-    ensures { λ r. ⌜ sized r (now (a .exit)) (now (m .exit)) ≡ fewOperands (now (s .entry)) (now (t .entry)) rule (now (a .entry)) (now (m .entry)) at ptr z ⌝ }
+) -> u64
+    ensures { λ r. ⌜ Counted r (now (a .exit)) (now (m .exit)) (fewOperands (now (s .entry)) (now (t .entry)) rule (now (a .entry)) (now (m .entry)) at ptr) ⌝ }
 {
     match rule {
-        6 => bool_not(s, t, a, m, at, z),
-        7 => set_operand(s, t, a, m, at, 4, 1, z),
-        8 => set_operand(s, t, a, m, at, 6, ptr, z),
-        9 => branch(s, t, a, m, at, ptr, z),
-        10 => set_operand(s, t, a, m, at, 6, 1, z),
-        _ => z,
+        6 => bool_not(s, t, a, m, at),
+        7 => set_operand(s, t, a, m, at, 4, 1),
+        8 => set_operand(s, t, a, m, at, 6, ptr),
+        9 => branch(s, t, a, m, at, ptr),
+        10 => set_operand(s, t, a, m, at, 6, 1),
+        _ => 0,
     }
 }
 
@@ -159,17 +151,16 @@ fn apply_rule(
     m: &mut [u64],
     at: usize,
     ptr: u64,
-    z: Sizing,
-) -> Sizing
-    ensures { λ r. ⌜ sized r (now (a .exit)) (now (m .exit)) ≡ applyRule (now (s .entry)) (now (t .entry)) rule fallback (now (a .entry)) (now (m .entry)) at ptr z ⌝ }
+) -> u64
+    ensures { λ r. ⌜ Counted r (now (a .exit)) (now (m .exit)) (applyRule (now (s .entry)) (now (t .entry)) rule fallback (now (a .entry)) (now (m .entry)) at ptr) ⌝ }
 {
     if pairs(rule) {
-        return pair_rule(s, t, rule, fallback, a, m, at, ptr, z);
+        return pair_rule(s, t, rule, fallback, a, m, at, ptr);
     }
     match rule {
-        3 => set_size_of_triple(s, t, fallback, a, m, at, ptr, z),
-        5 => set_three(s, t, a, m, at, 1, z),
-        _ => few_operands(s, t, rule, a, m, at, ptr, z),
+        3 => set_size_of_triple(s, t, fallback, a, m, at, ptr),
+        5 => set_three(s, t, a, m, at, 1),
+        _ => few_operands(s, t, rule, a, m, at, ptr),
     }
 }
 
@@ -182,12 +173,11 @@ pub fn update_operand_sizes(
     m: &mut [u64],
     at: usize,
     ptr: u64,
-    z: Sizing,
-) -> Sizing
-    ensures { λ r. ⌜ sized r (now (a .exit)) (now (m .exit)) ≡ updateOperandSizes (now (s .entry)) (now (t .entry)) fallback (now (a .entry)) (now (m .entry)) at ptr z ⌝ }
+) -> u64
+    ensures { λ r. ⌜ Counted r (now (a .exit)) (now (m .exit)) (updateOperandSizes (now (s .entry)) (now (t .entry)) fallback (now (a .entry)) (now (m .entry)) at ptr) ⌝ }
 {
     if get(a, at, 0) != 0 {
-        return z;
+        return 0;
     }
-    apply_rule(s, t, rule_of(get(a, at, 1)), fallback, a, m, at, ptr, z)
+    apply_rule(s, t, rule_of(get(a, at, 1)), fallback, a, m, at, ptr)
 }

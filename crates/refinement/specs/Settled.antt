@@ -1,6 +1,6 @@
 -- Known sizes, and setting one, as the words have them: in the temporaries, among the errors and in the operand.
 use Prim.Native.Nat.{ℕ, zero, suc, _+_, _*_, _/_, _%_, _^_, _≤_, _<_}
-use mathlib.Core.Path.{_≡_, refl, sym, ap, subst}
+use mathlib.Core.Path.{_≡_, refl, sym, _∙_, ap, subst}
 use mathlib.Core.Bool.{Bool, true, false, _||_}
 use mathlib.Core.List.{List, [], _∷_, _++_}
 use mathlib.Core.Option.{Option, none, some}
@@ -17,7 +17,8 @@ use Rattle.definition.specs.Sizes.{Operand, in0, in1, out, at, put, Sizing, siz
 use Rattle.definition.specs.ActionList.{orNone}
 use Rattle.pcode.specs.declared.sizes.Sizing.{Sizing as WordSizing}
 use Rattle.pcode.specs.Base.{if_then_else_, Listed, listed}
-use Rattle.pcode.specs.Sizes.{tmpSize, listedSize, sizeOfLocal, sizeOf, error, sizeTemporary, settled}
+use Rattle.pcode.specs.Sizes.{tmpSize, listedSize, sizeOfLocal, sizeOf, sumOfErrors, recorded, error, sizeTemporary, settled}
+use Rattle.pcode.proofs.SizeLaws.{sum-below}
 use Rattle.refinement.specs.Encoding.{encV, markedWord, temporaryWords, temporariesIn, firstError, encZ, Within, Sound, SoundTmp, Each, EachOption, SoundAction, SizesHold}
 use Rattle.refinement.specs.Operands.{size-word}
 
@@ -80,18 +81,22 @@ each-at P (y ∷ xs) (suc i) x h e = each-at P xs i x (h .1) e
 -- errors
 
 pub error-is : (z : Sizing) → length (z .errors) + 1 < 2 ^ 64 → error (encZ z) ≡ encZ (d.error z)
-unfolding error if_then_else_ firstError
+unfolding error recorded if_then_else_ firstError
 error-is z h = go (z .errors) h
   where
     go : (es : List (Option ℕ)) → length es + 1 < 2 ^ 64
-        → _≡_ {A = WordSizing} (if eqb (length es) 0 then record { begun = orNone (z .begun); errors = 1; first = orNone (z .begun) } else
-        record { begun = orNone (z .begun); errors = (length es + 1) % 2 ^ 64; first = firstError es })
+        → _≡_ {A = WordSizing} (record {
+          begun = orNone (z .begun);
+          errors = sumOfErrors (length es) 1;
+          first = if eqb (length es) 0 then orNone (z .begun) else firstError es;
+        })
         (record { begun = orNone (z .begun); errors = length (es ++ (z .begun ∷ [])); first = firstError (es ++ (z .begun ∷ [])) })
-    go [] j = refl
+    go [] j = λ i. record { begun = orNone (z .begun); errors = sym (sum-below 0 1 (omega arith)) i; first = orNone (z .begun) }
     go (e ∷ es) j = rw (eqb·suc-zero (length es)) (λ i. record { begun = orNone (z .begun); errors = count i; first = orNone e })
       where
-        count : (suc (length es) + 1) % 2 ^ 64 ≡ suc (length (es ++ (z .begun ∷ [])))
-        count = rw (length-append es (z .begun ∷ [])) (omega arith)
+        count : sumOfErrors (suc (length es)) 1 ≡ suc (length (es ++ (z .begun ∷ [])))
+        count =
+            sym (sum-below (suc (length es)) 1 (omega arith)) ∙ (rw (length-append es (z .begun ∷ [])) (omega arith))
 
 -- the sizes
 

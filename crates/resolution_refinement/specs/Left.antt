@@ -21,7 +21,7 @@ use Rattle.ending.specs.declared.end.Fixed.{Fixed}
 use Rattle.ending.specs.declared.end.Finished.{Finished}
 use Rattle.pcode.specs.Base.{if_then_else_, run, Listed, listed, thenL}
 use Rattle.pcode.specs.Values.{withSize, valueAt, putValue, place}
-use Rattle.pcode.specs.Sizes.{sizeOf, error, fallsBack}
+use Rattle.pcode.specs.Sizes.{sizeOf, recorded, error, fallsBack}
 use Rattle.ending.specs.End.{fixed, finished, fixSize, putFixed, fixOperand, fixInput, fixInputs, fixOutput, fixOperands, writeCopy, copyOf, subpieceCopy, finishFixed, finishOp, thenF, finishFrom, finishActions}
 
 -- the words
@@ -30,12 +30,8 @@ abbrev begunIn : WordSizing → ℕ
 begunIn z = z .begun
 
 error-begun : (z : WordSizing) → error z .begun ≡ z .begun
-unfolding error if_then_else_
-error-begun z = go (eqb (z .errors) 0)
-  where
-    go : (b : Bool) → begunIn (if b then record { begun = z .begun; errors = 1; first = z .begun } else record { begun = z .begun; errors = (z .errors + 1) % 2 ^ 64; first = z .first }) ≡ z .begun
-    go true = refl
-    go false = refl
+unfolding error recorded if_then_else_
+error-begun z = refl
 
 fix-begun : (s t m : List ℕ) (v : WordValue) (ptr : ℕ) (z : WordSizing) → fixSize s t m v ptr z .z .begun ≡ z .begun
 unfolding fixSize if_then_else_

@@ -3,8 +3,8 @@ use Rattle.ending.proofs.end.fix_size.Statement.{statement}
 use Rattle.ending.proofs.end.fix_size.Tie as tie
 use Rattle.ending.proofs.end.fix_size.Reads as reads
 use Rattle.ending.proofs.end.fix_size.Lts as lts
-use Rattle.pcode.proofs.sizes.error.Reads as error-reads
 use Rattle.pcode.proofs.sizes.falls_back.Reads as falls-back-reads
+use Rattle.pcode.proofs.sizes.record_errors.Reads as record-errors-reads
 use Rattle.pcode.proofs.sizes.size_of.Reads as size-of-reads
 use Rattle.pcode.proofs.value.with_size.Reads as with-size-reads
 use Rattle.ending.proofs.EndLaws.{end-laws}
@@ -33,9 +33,9 @@ with-size-requires-2 c κs = search (end-laws, needs)
 returns-2 : tie.Need-returns-2
 returns-2 c = search (end-laws, needs)
 
--- src/end.rt:40:19
-error-requires : tie.Need-error-requires
-error-requires c κs = search (end-laws, needs)
+-- src/end.rt:42:12
+record-errors-requires : tie.Need-record-errors-requires
+record-errors-requires c κs = search (end-laws, needs)
 
 -- src/end.rt:24:1
 returns-3 : tie.Need-returns-3
@@ -51,5 +51,5 @@ fix-size-spec =
     falls-back-requires
     with-size-requires-2
     returns-2
-    error-requires
+    record-errors-requires
     returns-3)

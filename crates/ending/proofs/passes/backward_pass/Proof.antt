@@ -3,24 +3,30 @@ use Rattle.ending.proofs.passes.backward_pass.Statement.{statement}
 use Rattle.ending.proofs.passes.backward_pass.Tie as tie
 use Rattle.ending.proofs.passes.backward_pass.Reads as reads
 use Rattle.ending.proofs.passes.backward_pass.Lts as lts
+use Rattle.pcode.proofs.sizes.record_errors.Reads as record-errors-reads
 use Rattle.pushing.proofs.passes.pass.Reads as pass-reads
 use Rattle.ending.proofs.PassLaws.{pass-laws}
 
--- src/passes.rt:20:5
+-- src/passes.rt:21:9
 pass-requires : tie.Need-pass-requires
 pass-requires c κs = search (pass-laws, needs)
 
--- src/passes.rt:8:1
+-- src/passes.rt:22:5
+record-errors-requires : tie.Need-record-errors-requires
+record-errors-requires c κs = search (pass-laws, needs)
+
+-- src/passes.rt:9:1
 same-length : tie.Need-same-length
 same-length c = search (pass-laws, needs)
 
--- src/passes.rt:8:1
+-- src/passes.rt:9:1
 same-length-2 : tie.Need-same-length-2
 same-length-2 c = search (pass-laws, needs)
 
--- src/passes.rt:8:1
+-- src/passes.rt:9:1
 returns : tie.Need-returns
 returns c = search (pass-laws, needs)
 
 pub backward-pass-spec : {M : Type 1} → statement M
-backward-pass-spec = tie.close (tie.spec pass-requires same-length same-length-2 returns)
+backward-pass-spec =
+    tie.close (tie.spec pass-requires record-errors-requires same-length same-length-2 returns)

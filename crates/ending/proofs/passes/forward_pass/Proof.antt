@@ -3,24 +3,30 @@ use Rattle.ending.proofs.passes.forward_pass.Statement.{statement}
 use Rattle.ending.proofs.passes.forward_pass.Tie as tie
 use Rattle.ending.proofs.passes.forward_pass.Reads as reads
 use Rattle.ending.proofs.passes.forward_pass.Lts as lts
+use Rattle.pcode.proofs.sizes.record_errors.Reads as record-errors-reads
 use Rattle.pushing.proofs.passes.pass.Reads as pass-reads
 use Rattle.ending.proofs.PassLaws.{pass-laws}
 
--- src/passes.rt:35:5
+-- src/passes.rt:37:9
 pass-requires : tie.Need-pass-requires
 pass-requires c κs = search (pass-laws, needs)
 
--- src/passes.rt:23:1
+-- src/passes.rt:38:5
+record-errors-requires : tie.Need-record-errors-requires
+record-errors-requires c κs = search (pass-laws, needs)
+
+-- src/passes.rt:25:1
 same-length : tie.Need-same-length
 same-length c = search (pass-laws, needs)
 
--- src/passes.rt:23:1
+-- src/passes.rt:25:1
 same-length-2 : tie.Need-same-length-2
 same-length-2 c = search (pass-laws, needs)
 
--- src/passes.rt:23:1
+-- src/passes.rt:25:1
 returns : tie.Need-returns
 returns c = search (pass-laws, needs)
 
 pub forward-pass-spec : {M : Type 1} → statement M
-forward-pass-spec = tie.close (tie.spec pass-requires same-length same-length-2 returns)
+forward-pass-spec =
+    tie.close (tie.spec pass-requires record-errors-requires same-length same-length-2 returns)

@@ -3,46 +3,33 @@ use Rattle.pcode.proofs.sizes.settle.Statement.{statement}
 use Rattle.pcode.proofs.sizes.settle.Tie as tie
 use Rattle.pcode.proofs.sizes.settle.Reads as reads
 use Rattle.pcode.proofs.sizes.settle.Lts as lts
-use Rattle.pcode.proofs.sizes.error.Reads as error-reads
 use Rattle.pcode.proofs.sizes.size_temporary.Reads as size-temporary-reads
 use Rattle.pcode.proofs.SizeLaws.{size-laws}
 
--- src/sizes.rt:113:9
+-- src/sizes.rt:140:9
 size-temporary-requires : tie.Need-size-temporary-requires
 size-temporary-requires c κs = search (size-laws, needs)
 
--- src/sizes.rt:114:9
+-- src/sizes.rt:141:9
 same-length : tie.Need-same-length
 same-length c = search (size-laws, needs)
 
--- src/sizes.rt:114:9
+-- src/sizes.rt:141:9
 returns : tie.Need-returns
 returns c = search (size-laws, needs)
 
--- src/sizes.rt:117:9
+-- src/sizes.rt:144:9
 returns-2 : tie.Need-returns-2
 returns-2 c = search (size-laws, needs)
 
--- src/sizes.rt:120:9
+-- src/sizes.rt:147:9
 returns-3 : tie.Need-returns-3
 returns-3 c = search (size-laws, needs)
 
--- src/sizes.rt:122:5
-error-requires : tie.Need-error-requires
-error-requires c κs = search (size-laws, needs)
-
--- src/sizes.rt:109:1
+-- src/sizes.rt:136:1
 returns-4 : tie.Need-returns-4
 returns-4 c = search (size-laws, needs)
 
 pub settle-spec : {M : Type 1} → statement M
 settle-spec =
-    tie.close
-    (tie.spec
-    size-temporary-requires
-    same-length
-    returns
-    returns-2
-    returns-3
-    error-requires
-    returns-4)
+    tie.close (tie.spec size-temporary-requires same-length returns returns-2 returns-3 returns-4)
