@@ -13,7 +13,7 @@ use Rattle.section.specs.Cursors.{cursor, refuse, u8, code, name, nameOr
 use Rattle.section.specs.Expressions.{addressOf, space, call, counted, Kind, kindOf, afterCode, expr, exprs}
 use Rattle.section.specs.Expressions as e
 use Rattle.section.specs.Statements.{Jump, jumpOf, afterJump, jumpLabel, Target, targetOf, afterTarget, branchDst, Form, formOf, afterForm, statement, body}
-use Rattle.section.proofs.CursorLaws.{both-true, refuse-new, number-short, number-got, u16-cut, u16-got, u16-out, run-end}
+use Rattle.section.proofs.CursorLaws.{both-true, refuse-new, number-short, number-got, run-end}
 
 pub deepest : (d : ℕ) (s : List ℕ) (m : ℕ) (c k r : Cursor) → d ≡ 0 → k ≡ code s 9 c → r ≡ refuse 4 k → r ≡ expr d s m c
 unfolding expr
@@ -177,7 +177,7 @@ pub statement-placed : (s : List ℕ) (m : ℕ) (c k r : Cursor) → k ≡ code 
 unfolding afterForm formOf
 statement-placed s m c k r e n0 n1 n2 n3 n4 n5 n6 n7 n8 n9 p0 = statement-arm s m c k r Form.placed e (form-rest (k .val) n0 n1 n2 n3 n4 n5 n6 n7 n8 n9) p0
 
--- A name and an integer that are read at once.
+-- A code, and an integer, that are read at once.
 
 pub integer-cut : (s : List ℕ) (p : ℕ) → p ≤ length s → length s - p < 8 → cursor p 3 0 ≡ skip s 8 (cursor p 0 1)
 unfolding skip
@@ -210,4 +210,4 @@ pub counted-law : (f : Cursor → Cursor) (n i : ℕ) (c₀ c : Cursor) → n �
 unfolding counted
 counted-law f n i c₀ c z h e = run-end n i (λ _. f) c _ h (e ∙ rw z)
 
-pub ruleset code-laws = (u16-cut, u16-got, u16-out, integer-cut, integer-got, expr-name, expr-number, deepest, expr-ident, expr-integer, expr-address, expr-truncate, expr-slice, expr-operator, expr-deref, expr-pool, expr-calling, jumpLabel-toName, jumpLabel-toInteger, branchDst-direct, branchDst-indirect, branchDst-label, statement-unimplemented, statement-export, statement-local, statement-assignment, statement-build, statement-copy, statement-store, statement-calling, statement-branch, statement-condBranch, statement-placed)
+pub ruleset code-laws = (integer-cut, integer-got, expr-name, expr-number, deepest, expr-ident, expr-integer, expr-address, expr-truncate, expr-slice, expr-operator, expr-deref, expr-pool, expr-calling, jumpLabel-toName, jumpLabel-toInteger, branchDst-direct, branchDst-indirect, branchDst-label, statement-unimplemented, statement-export, statement-local, statement-assignment, statement-build, statement-copy, statement-store, statement-calling, statement-branch, statement-condBranch, statement-placed)

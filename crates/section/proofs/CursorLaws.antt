@@ -7,7 +7,7 @@ use native.Mathlib.Nat.{add-zero}
 use native.Mathlib.Omega.{arith}
 use lib.ListN.{length, getD}
 use lib.Dec.{eqb, leb, ltb}
-use borrow.Author.Tests.{eq-eqb, ne-eqb, le-leb, lt-leb, lt-ltb, le-ltb, eqb-true, eqb-false, ltb-true}
+use borrow.Author.Tests.{eq-eqb, ne-eqb, le-leb, lt-leb, lt-ltb, le-ltb, eqb-true, eqb-false, ltb-true, ltb-false}
 use Rattle.definition.specs.Base.{if_then_else_}
 use Rattle.cells.specs.Le.{le16}
 use Rattle.section.specs.declared.cursor.Cursor.{Cursor}
@@ -77,35 +77,59 @@ pub u8-law : (s : List ℕ) (lim k v : ℕ) (c r : Cursor) → (v ≡ getD s (c 
 unfolding u8
 u8-law s lim k v c r h e = e ∙ rw (h .0, add-zero)
 
-pub u16-law : (s : List ℕ) (lim k v : ℕ) (c r : Cursor) → (v ≡ le16 s (c .at)) × (v < 65536) → r ≡ number v 2 (length s) lim k c → r ≡ u16 s lim k c
-unfolding u16
-u16-law s lim k v c r h e = e ∙ rw (h .0)
+pub u16-none : (s : List ℕ) (lim k v : ℕ) (c r : Cursor) → v ≡ le16 s (c .at) → v ≡ 65535 → r ≡ u16 s 65536 k c → r ≡ u16or s lim k c
+unfolding u16 u16or if_then_else_
+u16-none s lim k v c r h z e = e ∙ rw (eq-eqb (le16 s (c .at)) 65535 (sym h ∙ z))
 
-pub u16-none : (s : List ℕ) (lim k v : ℕ) (c r : Cursor) → (v ≡ le16 s (c .at)) × (v < 65536) → v ≡ 65535 → r ≡ number v 2 (length s) 65536 k c → r ≡ u16or s lim k c
-unfolding u16or if_then_else_
-u16-none s lim k v c r h z e = rw (← h .0, eq-eqb v 65535 z) e
-
-pub u16-some : (s : List ℕ) (lim k v : ℕ) (c r : Cursor) → (v ≡ le16 s (c .at)) × (v < 65536) → (v ≡ 65535 → ⊥) → r ≡ number v 2 (length s) lim k c → r ≡ u16or s lim k c
-unfolding u16or if_then_else_
-u16-some s lim k v c r h z e = rw (← h .0, ne-eqb v 65535 z) e
+pub u16-some : (s : List ℕ) (lim k v : ℕ) (c r : Cursor) → v ≡ le16 s (c .at) → (v ≡ 65535 → ⊥) → r ≡ u16 s lim k c → r ≡ u16or s lim k c
+unfolding u16 u16or if_then_else_
+u16-some s lim k v c r h z e = e ∙ rw (ne-eqb (le16 s (c .at)) 65535 (λ q. z (h ∙ q)))
 
 pub skip-law : (s : List ℕ) (n : ℕ) (c r : Cursor) → r ≡ number 0 n (length s) 1 0 c → r ≡ skip s n c
 unfolding skip
 skip-law s n c r e = e
 
--- the same of a cursor at p that is not refused
+-- where a cursor is that is not refused and stands inside the stream
 
-pub u16-cut : (s : List ℕ) (lim k p w : ℕ) → p ≤ length s → length s - p < 2 → cursor p 3 0 ≡ u16 s lim k (cursor p 0 w)
-unfolding u16
-u16-cut s lim k p w l h = number-short (le16 s p) 2 (length s) lim k (cursor p 0 w) (cursor p 3 0) refl l h (refuse-new 3 (cursor p 0 w) refl)
+pub inside : (p n b : ℕ) → (ltb p n && eqb b 0) ≡ true → p ≤ n
+inside p n b e = omega (arith, ltb-true p n (both-true (ltb p n) (eqb b 0) e .0))
 
-pub u16-got : (s : List ℕ) (lim k p w v : ℕ) → p ≤ length s → 2 ≤ length s - p → v ≡ le16 s p → v < lim → cursor (p + 2) 0 v ≡ u16 s lim k (cursor p 0 w)
-unfolding u16
-u16-got s lim k p w v l h e b = rw (← e) (number-got v 2 (length s) lim k (cursor p 0 w) refl l h b)
+good : (p n b : ℕ) → (ltb p n && eqb b 0) ≡ true → b ≡ 0
+good p n b e = eqb-true b 0 (both-true (ltb p n) (eqb b 0) e .1)
 
-pub u16-out : (s : List ℕ) (lim k p w v : ℕ) → p ≤ length s → 2 ≤ length s - p → v ≡ le16 s p → lim ≤ v → cursor p k 0 ≡ u16 s lim k (cursor p 0 w)
+-- a number that is read at once
+
+pub u16-cut : (s : List ℕ) (lim k : ℕ) (c : Cursor) → (ltb (c .at) (length s) && eqb (c .bad) 0) ≡ true → length s - c .at < 2 → cursor (c .at) 3 0 ≡ u16 s lim k c
 unfolding u16
-u16-out s lim k p w v l h e b = rw (← e) (number-out v 2 (length s) lim k (cursor p 0 w) (cursor p k 0) refl l h b (refuse-new k (cursor p 0 w) refl))
+u16-cut s lim k c t h =
+    let b = good (c .at) (length s) (c .bad) t in
+    number-short (le16 s (c .at)) 2 (length s) lim k c (cursor (c .at) 3 0) b (inside (c .at) (length s) (c .bad) t) h (refuse-new 3 c b)
+
+pub u16-got : (s : List ℕ) (lim k v : ℕ) (c : Cursor) → (ltb (c .at) (length s) && eqb (c .bad) 0) ≡ true → 2 ≤ length s - c .at → (v ≡ le16 s (c .at)) × (v < 65536) → v < lim → cursor (c .at + 2) 0 v ≡ u16 s lim k c
+unfolding u16
+u16-got s lim k v c t h e l = rw (← e .0) (number-got v 2 (length s) lim k c (good (c .at) (length s) (c .bad) t) (inside (c .at) (length s) (c .bad) t) h l)
+
+pub u16-out : (s : List ℕ) (lim k v : ℕ) (c : Cursor) → (ltb (c .at) (length s) && eqb (c .bad) 0) ≡ true → 2 ≤ length s - c .at → (v ≡ le16 s (c .at)) × (v < 65536) → lim ≤ v → cursor (c .at) k 0 ≡ u16 s lim k c
+unfolding u16
+u16-out s lim k v c t h e l =
+    let b = good (c .at) (length s) (c .bad) t in
+    rw (← e .0) (number-out v 2 (length s) lim k c (cursor (c .at) k 0) b (inside (c .at) (length s) (c .bad) t) h l (refuse-new k c b))
+
+-- of a cursor that is refused, or stands at the end, the number is not asked
+number-any : (v w n len lim k : ℕ) (c : Cursor) → 0 < n → (ltb (c .at) len && eqb (c .bad) 0) ≡ false → number v n len lim k c ≡ number w n len lim k c
+unfolding number if_then_else_
+number-any v w n len lim k c z e = go (eqb (c .bad) 0) (ltb (c .at) len) refl e
+  where
+    go : (a b : Bool) → ltb (c .at) len ≡ b → (b && a) ≡ false →
+        (if a then (if leb (c .at + n) len then (if ltb v lim then cursor (c .at + n) 0 v else cursor (c .at) k 0) else cursor (c .at) 3 0) else c)
+        ≡ (if a then (if leb (c .at + n) len then (if ltb w lim then cursor (c .at + n) 0 w else cursor (c .at) k 0) else cursor (c .at) 3 0) else c)
+    go false b p h = refl
+    go true true p h = absurd (false≢true (sym h))
+    go true false p h = rw (lt-leb (c .at + n) len (omega (arith, ltb-false (c .at) len p)))
+
+pub u16-rest : (s : List ℕ) (lim k : ℕ) (c r : Cursor) → (ltb (c .at) (length s) && eqb (c .bad) 0) ≡ false → r ≡ number 0 2 (length s) lim k c → r ≡ u16 s lim k c
+unfolding u16
+u16-rest s lim k c r t e = e ∙ number-any 0 (le16 s (c .at)) 2 (length s) lim k c (omega arith) t
 
 pub chain : {A : Type 0} (f g : A → A) (x y z : A) → y ≡ f x → z ≡ g y → z ≡ g (f x)
 chain f g x y z p q = rw (← p) q
@@ -125,4 +149,4 @@ pub run-end : {A : Type 0} (n i : ℕ) (f : ℕ → A → A) (x w : A) → n ≤
 unfolding run
 run-end n i f x w h e = let z : n - i ≡ 0 = omega arith in rw z at e
 
-pub ruleset cursor-laws = (refuse-kept, refuse-new, number-kept, number-past, number-short, number-got, number-out, u8-law, u16-law, u16-none, u16-some, skip-law)
+pub ruleset cursor-laws = (refuse-kept, refuse-new, number-kept, number-past, number-short, number-got, number-out, u8-law, inside, u16-cut, u16-got, u16-out, u16-rest, u16-none, u16-some, skip-law)

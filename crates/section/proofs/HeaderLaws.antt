@@ -12,7 +12,7 @@ use Rattle.cells.specs.Le.{le16}
 use Rattle.section.specs.declared.cursor.Cursor.{Cursor}
 use Rattle.section.specs.Cursors.{cursor, number, u16, u16or, name}
 use Rattle.section.specs.Headers.{globalCounts, counts, roles, globalsHold, countsHold, rolesHold, header}
-use Rattle.section.proofs.CursorLaws.{both-true, number-got, u16-got, u16-read, u16or-read}
+use Rattle.section.proofs.CursorLaws.{both-true, number-got, u16-read, u16or-read}
 
 pub global-counts-law : (s : List ℕ) (c c0 c1 c2 c3 c4 c5 c6 c7 r : Cursor) → c0 ≡ u16 s 1 4 c → c1 ≡ u16 s 1025 4 c0 → c2 ≡ u16 s 9 4 c1 → c3 ≡ u16 s 1025 4 c2 → c4 ≡ u16 s 1025 4 c3 → c5 ≡ u16 s 257 4 c4 → c6 ≡ u16 s 257 4 c5 → c7 ≡ u16 s 129 4 c6 → r ≡ u16 s 1025 4 c7 → r ≡ globalCounts s c
 unfolding globalCounts
@@ -57,9 +57,13 @@ u16or-got s lim k p v l e = go (eqb (le16 s p) 65535) refl e
     go true f h = sym (number-got (le16 s p) 2 (length s) 65536 k (cursor p 0 v) refl (omega arith) (omega arith) (omega (arith, eqb-true (le16 s p) 65535 f)))
     go false f h = sym (number-got (le16 s p) 2 (length s) lim k (cursor p 0 v) refl (omega arith) (omega arith) (ltb-true _ _ h))
 
+u16-here : (s : List ℕ) (lim k p w v : ℕ) → p ≤ length s → 2 ≤ length s - p → v ≡ le16 s p → v < lim → cursor (p + 2) 0 v ≡ u16 s lim k (cursor p 0 w)
+unfolding u16
+u16-here s lim k p w v l h e b = rw (← e) (number-got v 2 (length s) lim k (cursor p 0 w) refl l h b)
+
 -- one field more
 next : (s : List ℕ) (lim k : ℕ) {b : Bool} {c : Cursor} {p v : ℕ} → p + 2 ≤ length s → Holds b c p v → Holds (b && ltb (le16 s p) lim) (u16 s lim k c) (p + 2) (le16 s p)
-next s lim k {b} {c} {p} {v} l h = record { at = λ e. let f = both-true _ _ e in rw (h .at (f .0)) (sym (u16-got s lim k p v (le16 s p) (omega arith) (omega arith) refl (ltb-true _ _ (f .1)))) }
+next s lim k {b} {c} {p} {v} l h = record { at = λ e. let f = both-true _ _ e in rw (h .at (f .0)) (sym (u16-here s lim k p v (le16 s p) (omega arith) (omega arith) refl (ltb-true _ _ (f .1)))) }
 
 module _ (s : List ℕ) (l : 34 ≤ length s) where
   globals-held : Holds (globalsHold s) (globalCounts s (cursor 0 0 0)) 18 (le16 s 16)

@@ -1,5 +1,6 @@
 // A cursor over the stream, and the fields that it reads. A refused cursor passes every read unchanged, so that the first
 // position that is wrong gives the refusal.
+use cells::inside::two;
 ghost use mathlib.Core.Path.{_≡_};
 ghost use Rattle.section.specs.Cursors.{refuse, number, u8, u16, u16or, skip, code, smallCount, name, nameOr, size, sizeOr, bits};
 
@@ -52,21 +53,36 @@ pub fn u8_below(s: &[u8], lim: u64, k: u64, c: Cursor) -> Cursor
     number(cells::byte(s, c.at, 0), 1, s.len(), lim, k, c)
 }
 
+// Read at once inside the stream. A refused cursor, and one at the end, is left to `number`, which then asks for no number.
 pub fn u16_below(s: &[u8], lim: u64, k: u64, c: Cursor) -> Cursor
     ensures { λ r. ⌜ r ≡ u16 (now (s .entry)) lim k c ⌝ }
 {
-    number(cells::u16_at(s, c.at), 2, s.len(), lim, k, c)
+    let at = c.at;
+    if (at < s.len()) & (c.bad == 0) {
+        if 2 <= s.len() - at {
+            let v = two(s, at);
+            if v < lim {
+                return Cursor {
+                    at: at + 2,
+                    bad: 0,
+                    val: v,
+                };
+            }
+            return Cursor { at, bad: k, val: 0 };
+        }
+        return Cursor { at, bad: 3, val: 0 };
+    }
+    number(0, 2, s.len(), lim, k, c)
 }
 
 // The same, or 65,535, which stands for absent.
 pub fn u16_or(s: &[u8], lim: u64, k: u64, c: Cursor) -> Cursor
     ensures { λ r. ⌜ r ≡ u16or (now (s .entry)) lim k c ⌝ }
 {
-    let v = cells::u16_at(s, c.at);
-    if v == 65535 {
-        return number(v, 2, s.len(), 65536, k, c);
+    if cells::u16_at(s, c.at) == 65535 {
+        return u16_below(s, 65536, k, c);
     }
-    number(v, 2, s.len(), lim, k, c)
+    u16_below(s, lim, k, c)
 }
 
 pub fn skip(s: &[u8], n: usize, c: Cursor) -> Cursor

@@ -10,11 +10,10 @@ use crate::cursor::size;
 use crate::cursor::size_or;
 use crate::cursor::skip;
 use crate::cursor::small_count;
-use cells::inside::two;
 ghost use mathlib.Core.Path.{_≡_};
 ghost use Prim.Native.Nat.{_≤_};
 ghost use lib.ListN.{length};
-ghost use Rattle.section.specs.Cursors.{cursor, skip, name};
+ghost use Rattle.section.specs.Cursors.{cursor, skip};
 ghost use Rattle.section.specs.Expressions.{addressOf, space, call, expr, exprs};
 
 fn address_of(s: &[u8], m: u64, c: Cursor) -> Cursor
@@ -35,33 +34,6 @@ pub fn call(s: &[u8], m: u64, c: Cursor) -> Cursor
     ensures { λ r. ⌜ r ≡ call (now (s .entry)) m c ⌝ }
 {
     small_count(s, name(s, m, c))
-}
-
-// The name at a place of the stream.
-fn name_here(s: &[u8], m: u64, at: usize) -> Cursor
-    requires { ⌜ at ≤ length (now s) ⌝ }
-    ensures { λ r. ⌜ r ≡ name (now (s .entry)) m (cursor at 0 0) ⌝ }
-{
-    if s.len() - at < 2 {
-        return Cursor {
-            at: at,
-            bad: 3,
-            val: 0,
-        };
-    }
-    let v = two(s, at);
-    if v < m {
-        return Cursor {
-            at: at + 2,
-            bad: 0,
-            val: v,
-        };
-    }
-    Cursor {
-        at: at,
-        bad: 5,
-        val: 0,
-    }
 }
 
 // The integer at a place of the stream, after its code, which is 1.
@@ -92,7 +64,12 @@ pub fn expr(depth: u64, s: &[u8], m: u64, c: Cursor) -> Cursor
         if at < s.len() {
             let kind = s[at];
             if kind == 0 {
-                return name_here(s, m, at + 1);
+                let named = Cursor {
+                    at: at + 1,
+                    bad: 0,
+                    val: 0,
+                };
+                return name(s, m, named);
             }
             if kind == 1 {
                 return integer_here(s, at + 1);

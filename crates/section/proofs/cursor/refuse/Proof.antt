@@ -5,11 +5,11 @@ use Rattle.section.proofs.cursor.refuse.Lts as lts
 use Rattle.section.proofs.CursorLaws.{cursor-laws}
 use borrow.Author.Needs.{needs}
 
--- src/cursor.rt:17:9
+-- src/cursor.rt:18:9
 returns : tie.Need-returns
 returns c = search (cursor-laws, needs)
 
--- src/cursor.rt:13:1
+-- src/cursor.rt:14:1
 returns-2 : tie.Need-returns-2
 returns-2 c = search (cursor-laws, needs)
 

@@ -7,15 +7,15 @@ use Rattle.cells.proofs.byte.Reads as byte-reads
 use Rattle.section.proofs.cursor.number.Reads as number-reads
 use Rattle.section.proofs.CursorLaws.{cursor-laws}
 
--- src/cursor.rt:52:12
+-- src/cursor.rt:53:12
 byte-requires : tie.Need-byte-requires
 byte-requires c κs = search (cursor-laws, needs)
 
--- src/cursor.rt:52:5
+-- src/cursor.rt:53:5
 number-requires : tie.Need-number-requires
 number-requires c κs = search (cursor-laws, needs)
 
--- src/cursor.rt:49:1
+-- src/cursor.rt:50:1
 returns : tie.Need-returns
 returns c = search (cursor-laws, needs)
 

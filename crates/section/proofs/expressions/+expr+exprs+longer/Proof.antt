@@ -20,7 +20,6 @@ use Rattle.section.proofs.cursor.small_count.Reads as small-count-reads
 use Rattle.section.proofs.expressions.address_of.Reads as address-of-reads
 use Rattle.section.proofs.expressions.call.Reads as call-reads
 use Rattle.section.proofs.expressions.integer_here.Reads as integer-here-reads
-use Rattle.section.proofs.expressions.name_here.Reads as name-here-reads
 use Rattle.section.proofs.expressions.space.Reads as space-reads
 use Rattle.section.proofs.expressions.+expr+exprs+longer.{statement}
 use Rattle.section.proofs.expressions.+expr+exprs+longer.Tie.{close}
@@ -59,10 +58,10 @@ longer-at t = and 1 longer-kinds.ps (is 1 longer-kinds.ps μ-longer t) longer.Pr
 abbrev longer-below : ℕ → In 1 longer-kinds.ps
 longer-below t = and 1 longer-kinds.ps (falls 1 longer-kinds.ps _<_ μ-longer t) longer.Pre
 
--- src/expressions.rt:93:24
+-- src/expressions.rt:65:24
 expr-shared-slice-read-kind : (t : ℕ) → expr-lts.Need-shared-slice-read-kind (
-  name-here-reads.Asked,
-  name-here-reads.Learnt,
+  name-reads.Asked,
+  name-reads.Learnt,
   integer-here-reads.Asked,
   integer-here-reads.Learnt,
   longer-below t,
@@ -70,32 +69,32 @@ expr-shared-slice-read-kind : (t : ℕ) → expr-lts.Need-shared-slice-read-kind
 ) (expr-at t) expr.Post
 expr-shared-slice-read-kind t c = search (code-laws, needs)
 
--- src/expressions.rt:95:40
-expr-add-name-here : (t : ℕ) → expr-lts.Need-add-name-here (
-  name-here-reads.Asked,
-  name-here-reads.Learnt,
+-- src/expressions.rt:68:25
+expr-add-t16 : (t : ℕ) → expr-lts.Need-add-t16 (
+  name-reads.Asked,
+  name-reads.Learnt,
   integer-here-reads.Asked,
   integer-here-reads.Learnt,
   longer-below t,
   longer.Post,
 ) (expr-at t) expr.Post
-expr-add-name-here t c = search (code-laws, needs)
+expr-add-t16 t c = search (code-laws, needs)
 
--- src/expressions.rt:95:17
-expr-name-here-requires : (t : ℕ) → expr-lts.Need-name-here-requires (
-  name-here-reads.Asked,
-  name-here-reads.Learnt,
+-- src/expressions.rt:72:17
+expr-name-requires : (t : ℕ) → expr-lts.Need-name-requires (
+  name-reads.Asked,
+  name-reads.Learnt,
   integer-here-reads.Asked,
   integer-here-reads.Learnt,
   longer-below t,
   longer.Post,
 ) (expr-at t) expr.Post
-expr-name-here-requires t c κs = search (code-laws, needs)
+expr-name-requires t c κs = search (code-laws, needs)
 
--- src/expressions.rt:95:17
+-- src/expressions.rt:72:17
 expr-returns : (t : ℕ) → expr-lts.Need-returns (
-  name-here-reads.Asked,
-  name-here-reads.Learnt,
+  name-reads.Asked,
+  name-reads.Learnt,
   integer-here-reads.Asked,
   integer-here-reads.Learnt,
   longer-below t,
@@ -103,10 +102,10 @@ expr-returns : (t : ℕ) → expr-lts.Need-returns (
 ) (expr-at t) expr.Post
 expr-returns t c = search (code-laws, needs)
 
--- src/expressions.rt:98:40
+-- src/expressions.rt:75:40
 expr-add-integer-here : (t : ℕ) → expr-lts.Need-add-integer-here (
-  name-here-reads.Asked,
-  name-here-reads.Learnt,
+  name-reads.Asked,
+  name-reads.Learnt,
   integer-here-reads.Asked,
   integer-here-reads.Learnt,
   longer-below t,
@@ -114,10 +113,10 @@ expr-add-integer-here : (t : ℕ) → expr-lts.Need-add-integer-here (
 ) (expr-at t) expr.Post
 expr-add-integer-here t c = search (code-laws, needs)
 
--- src/expressions.rt:98:17
+-- src/expressions.rt:75:17
 expr-integer-here-requires : (t : ℕ) → expr-lts.Need-integer-here-requires (
-  name-here-reads.Asked,
-  name-here-reads.Learnt,
+  name-reads.Asked,
+  name-reads.Learnt,
   integer-here-reads.Asked,
   integer-here-reads.Learnt,
   longer-below t,
@@ -125,10 +124,10 @@ expr-integer-here-requires : (t : ℕ) → expr-lts.Need-integer-here-requires (
 ) (expr-at t) expr.Post
 expr-integer-here-requires t c κs = search (code-laws, needs)
 
--- src/expressions.rt:98:17
+-- src/expressions.rt:75:17
 expr-returns-2 : (t : ℕ) → expr-lts.Need-returns-2 (
-  name-here-reads.Asked,
-  name-here-reads.Learnt,
+  name-reads.Asked,
+  name-reads.Learnt,
   integer-here-reads.Asked,
   integer-here-reads.Learnt,
   longer-below t,
@@ -136,10 +135,10 @@ expr-returns-2 : (t : ℕ) → expr-lts.Need-returns-2 (
 ) (expr-at t) expr.Post
 expr-returns-2 t c = search (code-laws, needs)
 
--- src/expressions.rt:102:5
+-- src/expressions.rt:79:5
 expr-longer-requires : (t : ℕ) → expr-lts.Need-longer-requires (
-  name-here-reads.Asked,
-  name-here-reads.Learnt,
+  name-reads.Asked,
+  name-reads.Learnt,
   integer-here-reads.Asked,
   integer-here-reads.Learnt,
   longer-below t,
@@ -147,10 +146,10 @@ expr-longer-requires : (t : ℕ) → expr-lts.Need-longer-requires (
 ) (expr-at t) expr.Post
 expr-longer-requires t c κs = search (code-laws, needs)
 
--- src/expressions.rt:87:1
+-- src/expressions.rt:59:1
 expr-returns-3 : (t : ℕ) → expr-lts.Need-returns-3 (
-  name-here-reads.Asked,
-  name-here-reads.Learnt,
+  name-reads.Asked,
+  name-reads.Learnt,
   integer-here-reads.Asked,
   integer-here-reads.Learnt,
   longer-below t,
@@ -164,7 +163,7 @@ exprs-Inv-loop depth s m n c₀ i₀ c i = (i ≤ n) × (n ≡ c₀ .val) × (ru
 abbrev exprs-μ-loop : exprs-lts.MeasureT-loop
 exprs-μ-loop depth s m n c₀ i₀ c i = n - i
 
--- src/expressions.rt:134:5
+-- src/expressions.rt:111:5
 exprs-loop-holds :
     (t : ℕ) →
     exprs-lts.Need-loop-holds
@@ -175,7 +174,7 @@ exprs-loop-holds :
     exprs-μ-loop
 exprs-loop-holds t c = (omega arith, refl, run-start _ _ _)
 
--- src/expressions.rt:135:9
+-- src/expressions.rt:112:9
 exprs-expr-requires :
     (t : ℕ) →
     exprs-lts.Need-expr-requires
@@ -186,7 +185,7 @@ exprs-expr-requires :
     exprs-μ-loop
 exprs-expr-requires t c κs = search (code-laws, needs)
 
--- src/expressions.rt:134:9
+-- src/expressions.rt:111:9
 exprs-add-i :
     (t : ℕ) →
     exprs-lts.Need-add-i
@@ -197,7 +196,7 @@ exprs-add-i :
     exprs-μ-loop
 exprs-add-i t c = search (code-laws, needs)
 
--- src/expressions.rt:134:5
+-- src/expressions.rt:111:5
 exprs-loop-less :
     (t : ℕ) →
     exprs-lts.Need-loop-less
@@ -208,7 +207,7 @@ exprs-loop-less :
     exprs-μ-loop
 exprs-loop-less t c = search (code-laws, needs)
 
--- src/expressions.rt:134:5
+-- src/expressions.rt:111:5
 exprs-loop-again :
     (t : ℕ) →
     exprs-lts.Need-loop-again
@@ -219,7 +218,7 @@ exprs-loop-again :
     exprs-μ-loop
 exprs-loop-again t c = (omega arith, c .before .before .loop .inv .1, run-again _ _ _ _ _ _ (omega arith) (c .before .before .loop .inv .2) (c .expr .ensures))
 
--- src/expressions.rt:129:1
+-- src/expressions.rt:106:1
 exprs-returns :
     (t : ℕ) →
     exprs-lts.Need-returns
@@ -230,7 +229,7 @@ exprs-returns :
     exprs-μ-loop
 exprs-returns t c = counted-law _ _ _ _ _ (c .before .loop .inv .1) (omega arith) (c .before .loop .inv .2)
 
--- src/expressions.rt:109:9
+-- src/expressions.rt:86:9
 longer-code-requires : (t : ℕ) → longer-lts.Need-code-requires (
   code-reads.Asked,
   code-reads.Learnt,
@@ -259,7 +258,7 @@ longer-code-requires : (t : ℕ) → longer-lts.Need-code-requires (
 ) (longer-at t) longer.Post
 longer-code-requires t c κs = search (code-laws, needs)
 
--- src/expressions.rt:111:9
+-- src/expressions.rt:88:9
 longer-refuse-requires : (t : ℕ) → longer-lts.Need-refuse-requires (
   code-reads.Asked,
   code-reads.Learnt,
@@ -288,7 +287,7 @@ longer-refuse-requires : (t : ℕ) → longer-lts.Need-refuse-requires (
 ) (longer-at t) longer.Post
 longer-refuse-requires t c κs = search (code-laws, needs)
 
--- src/expressions.rt:111:9
+-- src/expressions.rt:88:9
 longer-returns : (t : ℕ) → longer-lts.Need-returns (
   code-reads.Asked,
   code-reads.Learnt,
@@ -317,7 +316,7 @@ longer-returns : (t : ℕ) → longer-lts.Need-returns (
 ) (longer-at t) longer.Post
 longer-returns t c = search (code-laws, needs)
 
--- src/expressions.rt:113:13
+-- src/expressions.rt:90:13
 longer-sub-d : (t : ℕ) → longer-lts.Need-sub-d (
   code-reads.Asked,
   code-reads.Learnt,
@@ -346,7 +345,7 @@ longer-sub-d : (t : ℕ) → longer-lts.Need-sub-d (
 ) (longer-at t) longer.Post
 longer-sub-d t c = omega arith
 
--- src/expressions.rt:116:14
+-- src/expressions.rt:93:14
 longer-name-requires : (t : ℕ) → longer-lts.Need-name-requires (
   code-reads.Asked,
   code-reads.Learnt,
@@ -375,7 +374,7 @@ longer-name-requires : (t : ℕ) → longer-lts.Need-name-requires (
 ) (longer-at t) longer.Post
 longer-name-requires t c κs = search (code-laws, needs)
 
--- src/expressions.rt:117:14
+-- src/expressions.rt:94:14
 longer-skip-requires : (t : ℕ) → longer-lts.Need-skip-requires (
   code-reads.Asked,
   code-reads.Learnt,
@@ -404,7 +403,7 @@ longer-skip-requires : (t : ℕ) → longer-lts.Need-skip-requires (
 ) (longer-at t) longer.Post
 longer-skip-requires t c κs = search (code-laws, needs)
 
--- src/expressions.rt:118:14
+-- src/expressions.rt:95:14
 longer-address-of-requires : (t : ℕ) → longer-lts.Need-address-of-requires (
   code-reads.Asked,
   code-reads.Learnt,
@@ -433,7 +432,7 @@ longer-address-of-requires : (t : ℕ) → longer-lts.Need-address-of-requires (
 ) (longer-at t) longer.Post
 longer-address-of-requires t c κs = search (code-laws, needs)
 
--- src/expressions.rt:119:22
+-- src/expressions.rt:96:22
 longer-expr-requires : (t : ℕ) → longer-lts.Need-expr-requires (
   code-reads.Asked,
   code-reads.Learnt,
@@ -462,7 +461,7 @@ longer-expr-requires : (t : ℕ) → longer-lts.Need-expr-requires (
 ) (longer-at t) longer.Post
 longer-expr-requires t c κs = search (code-laws, needs)
 
--- src/expressions.rt:119:14
+-- src/expressions.rt:96:14
 longer-size-requires : (t : ℕ) → longer-lts.Need-size-requires (
   code-reads.Asked,
   code-reads.Learnt,
@@ -491,7 +490,7 @@ longer-size-requires : (t : ℕ) → longer-lts.Need-size-requires (
 ) (longer-at t) longer.Post
 longer-size-requires t c κs = search (code-laws, needs)
 
--- src/expressions.rt:120:22
+-- src/expressions.rt:97:22
 longer-expr-requires-2 : (t : ℕ) → longer-lts.Need-expr-requires-2 (
   code-reads.Asked,
   code-reads.Learnt,
@@ -520,7 +519,7 @@ longer-expr-requires-2 : (t : ℕ) → longer-lts.Need-expr-requires-2 (
 ) (longer-at t) longer.Post
 longer-expr-requires-2 t c κs = search (code-laws, needs)
 
--- src/expressions.rt:120:14
+-- src/expressions.rt:97:14
 longer-bits-requires : (t : ℕ) → longer-lts.Need-bits-requires (
   code-reads.Asked,
   code-reads.Learnt,
@@ -549,7 +548,7 @@ longer-bits-requires : (t : ℕ) → longer-lts.Need-bits-requires (
 ) (longer-at t) longer.Post
 longer-bits-requires t c κs = search (code-laws, needs)
 
--- src/expressions.rt:121:40
+-- src/expressions.rt:98:40
 longer-expr-requires-3 : (t : ℕ) → longer-lts.Need-expr-requires-3 (
   code-reads.Asked,
   code-reads.Learnt,
@@ -578,7 +577,7 @@ longer-expr-requires-3 : (t : ℕ) → longer-lts.Need-expr-requires-3 (
 ) (longer-at t) longer.Post
 longer-expr-requires-3 t c κs = search (code-laws, needs)
 
--- src/expressions.rt:121:28
+-- src/expressions.rt:98:28
 longer-code-requires-2 : (t : ℕ) → longer-lts.Need-code-requires-2 (
   code-reads.Asked,
   code-reads.Learnt,
@@ -607,7 +606,7 @@ longer-code-requires-2 : (t : ℕ) → longer-lts.Need-code-requires-2 (
 ) (longer-at t) longer.Post
 longer-code-requires-2 t c κs = search (code-laws, needs)
 
--- src/expressions.rt:121:14
+-- src/expressions.rt:98:14
 longer-expr-requires-4 : (t : ℕ) → longer-lts.Need-expr-requires-4 (
   code-reads.Asked,
   code-reads.Learnt,
@@ -636,7 +635,7 @@ longer-expr-requires-4 : (t : ℕ) → longer-lts.Need-expr-requires-4 (
 ) (longer-at t) longer.Post
 longer-expr-requires-4 t c κs = search (code-laws, needs)
 
--- src/expressions.rt:122:28
+-- src/expressions.rt:99:28
 longer-space-requires : (t : ℕ) → longer-lts.Need-space-requires (
   code-reads.Asked,
   code-reads.Learnt,
@@ -665,7 +664,7 @@ longer-space-requires : (t : ℕ) → longer-lts.Need-space-requires (
 ) (longer-at t) longer.Post
 longer-space-requires t c κs = search (code-laws, needs)
 
--- src/expressions.rt:122:14
+-- src/expressions.rt:99:14
 longer-expr-requires-5 : (t : ℕ) → longer-lts.Need-expr-requires-5 (
   code-reads.Asked,
   code-reads.Learnt,
@@ -694,7 +693,7 @@ longer-expr-requires-5 : (t : ℕ) → longer-lts.Need-expr-requires-5 (
 ) (longer-at t) longer.Post
 longer-expr-requires-5 t c κs = search (code-laws, needs)
 
--- src/expressions.rt:123:29
+-- src/expressions.rt:100:29
 longer-small-count-requires : (t : ℕ) → longer-lts.Need-small-count-requires (
   code-reads.Asked,
   code-reads.Learnt,
@@ -723,7 +722,7 @@ longer-small-count-requires : (t : ℕ) → longer-lts.Need-small-count-requires
 ) (longer-at t) longer.Post
 longer-small-count-requires t c κs = search (code-laws, needs)
 
--- src/expressions.rt:123:14
+-- src/expressions.rt:100:14
 longer-exprs-requires : (t : ℕ) → longer-lts.Need-exprs-requires (
   code-reads.Asked,
   code-reads.Learnt,
@@ -752,7 +751,7 @@ longer-exprs-requires : (t : ℕ) → longer-lts.Need-exprs-requires (
 ) (longer-at t) longer.Post
 longer-exprs-requires t c κs = search (code-laws, needs)
 
--- src/expressions.rt:124:29
+-- src/expressions.rt:101:29
 longer-call-requires : (t : ℕ) → longer-lts.Need-call-requires (
   code-reads.Asked,
   code-reads.Learnt,
@@ -781,7 +780,7 @@ longer-call-requires : (t : ℕ) → longer-lts.Need-call-requires (
 ) (longer-at t) longer.Post
 longer-call-requires t c κs = search (code-laws, needs)
 
--- src/expressions.rt:124:14
+-- src/expressions.rt:101:14
 longer-exprs-requires-2 : (t : ℕ) → longer-lts.Need-exprs-requires-2 (
   code-reads.Asked,
   code-reads.Learnt,
@@ -810,7 +809,7 @@ longer-exprs-requires-2 : (t : ℕ) → longer-lts.Need-exprs-requires-2 (
 ) (longer-at t) longer.Post
 longer-exprs-requires-2 t c κs = search (code-laws, needs)
 
--- src/expressions.rt:106:1
+-- src/expressions.rt:83:1
 longer-returns-2 : (t : ℕ) → longer-lts.Need-returns-2 (
   code-reads.Asked,
   code-reads.Learnt,
@@ -839,7 +838,7 @@ longer-returns-2 : (t : ℕ) → longer-lts.Need-returns-2 (
 ) (longer-at t) longer.Post
 longer-returns-2 t c = search (code-laws, needs)
 
--- src/expressions.rt:106:1
+-- src/expressions.rt:83:1
 longer-returns-3 : (t : ℕ) → longer-lts.Need-returns-3 (
   code-reads.Asked,
   code-reads.Learnt,
@@ -868,7 +867,7 @@ longer-returns-3 : (t : ℕ) → longer-lts.Need-returns-3 (
 ) (longer-at t) longer.Post
 longer-returns-3 t c = search (code-laws, needs)
 
--- src/expressions.rt:106:1
+-- src/expressions.rt:83:1
 longer-returns-4 : (t : ℕ) → longer-lts.Need-returns-4 (
   code-reads.Asked,
   code-reads.Learnt,
@@ -897,7 +896,7 @@ longer-returns-4 : (t : ℕ) → longer-lts.Need-returns-4 (
 ) (longer-at t) longer.Post
 longer-returns-4 t c = search (code-laws, needs)
 
--- src/expressions.rt:106:1
+-- src/expressions.rt:83:1
 longer-returns-5 : (t : ℕ) → longer-lts.Need-returns-5 (
   code-reads.Asked,
   code-reads.Learnt,
@@ -926,7 +925,7 @@ longer-returns-5 : (t : ℕ) → longer-lts.Need-returns-5 (
 ) (longer-at t) longer.Post
 longer-returns-5 t c = search (code-laws, needs)
 
--- src/expressions.rt:106:1
+-- src/expressions.rt:83:1
 longer-returns-6 : (t : ℕ) → longer-lts.Need-returns-6 (
   code-reads.Asked,
   code-reads.Learnt,
@@ -955,7 +954,7 @@ longer-returns-6 : (t : ℕ) → longer-lts.Need-returns-6 (
 ) (longer-at t) longer.Post
 longer-returns-6 t c = search (code-laws, needs)
 
--- src/expressions.rt:106:1
+-- src/expressions.rt:83:1
 longer-returns-7 : (t : ℕ) → longer-lts.Need-returns-7 (
   code-reads.Asked,
   code-reads.Learnt,
@@ -984,7 +983,7 @@ longer-returns-7 : (t : ℕ) → longer-lts.Need-returns-7 (
 ) (longer-at t) longer.Post
 longer-returns-7 t c = search (code-laws, needs)
 
--- src/expressions.rt:106:1
+-- src/expressions.rt:83:1
 longer-returns-8 : (t : ℕ) → longer-lts.Need-returns-8 (
   code-reads.Asked,
   code-reads.Learnt,
@@ -1013,7 +1012,7 @@ longer-returns-8 : (t : ℕ) → longer-lts.Need-returns-8 (
 ) (longer-at t) longer.Post
 longer-returns-8 t c = search (code-laws, needs)
 
--- src/expressions.rt:106:1
+-- src/expressions.rt:83:1
 longer-returns-9 : (t : ℕ) → longer-lts.Need-returns-9 (
   code-reads.Asked,
   code-reads.Learnt,
@@ -1042,7 +1041,7 @@ longer-returns-9 : (t : ℕ) → longer-lts.Need-returns-9 (
 ) (longer-at t) longer.Post
 longer-returns-9 t c = search (code-laws, needs)
 
--- src/expressions.rt:106:1
+-- src/expressions.rt:83:1
 longer-returns-10 : (t : ℕ) → longer-lts.Need-returns-10 (
   code-reads.Asked,
   code-reads.Learnt,
@@ -1073,8 +1072,8 @@ longer-returns-10 t c = search (code-laws, needs)
 
 pub +expr+exprs+longer-spec : {M : Type 1} → statement M
 +expr+exprs+longer-spec = close μ-expr μ-exprs μ-longer (λ t. expr-lts.spec (
-  name-here-reads.Asked,
-  name-here-reads.Learnt,
+  name-reads.Asked,
+  name-reads.Learnt,
   integer-here-reads.Asked,
   integer-here-reads.Learnt,
   longer-below t,
@@ -1083,8 +1082,8 @@ pub +expr+exprs+longer-spec : {M : Type 1} → statement M
     (expr-at t)
     expr.Post
     (expr-shared-slice-read-kind t)
-    (expr-add-name-here t)
-    (expr-name-here-requires t)
+    (expr-add-t16 t)
+    (expr-name-requires t)
     (expr-returns t)
     (expr-add-integer-here t)
     (expr-integer-here-requires t)
