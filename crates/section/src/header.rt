@@ -1,14 +1,10 @@
-// The header: rule set, counts, default space and the four names, each a u16 at its fixed offset. A header
-// within all limits is passed at once; any other is read field by field, for its first refusal.
+// The header: rule set, counts, default space and the four names, each a u16 at its fixed offset.
 use crate::cursor::Cursor;
 use crate::cursor::name;
 use crate::cursor::u16_below;
 use crate::cursor::u16_or;
-use cells::inside::two;
 ghost use mathlib.Core.Path.{_≡_};
-ghost use Prim.Native.Nat.{_≤_};
-ghost use lib.ListN.{length};
-ghost use Rattle.section.specs.Headers.{globalCounts, counts, roles, globalsHold, countsHold, rolesHold, header};
+ghost use Rattle.section.specs.Headers.{globalCounts, counts, roles, header};
 
 // Rule set, names and the counts of the globals.
 fn global_counts(s: &[u8], c: Cursor) -> Cursor
@@ -46,56 +42,9 @@ fn roles(s: &[u8], c: Cursor) -> Cursor
     name(s, m, constant)
 }
 
-// Whether all that `global_counts` reads is within its limits.
-fn globals_hold(s: &[u8]) -> bool
-    requires { ⌜ 34 ≤ length (now s) ⌝ }
-    ensures { λ r. ⌜ r ≡ globalsHold (now (s .entry)) ⌝ }
-{
-    (two(s, 0) < 1)
-        & (two(s, 2) < 1025)
-        & (two(s, 4) < 9)
-        & (two(s, 6) < 1025)
-        & (two(s, 8) < 1025)
-        & (two(s, 10) < 257)
-        & (two(s, 12) < 257)
-        & (two(s, 14) < 129)
-        & (two(s, 16) < 1025)
-}
-
-// Whether all that `counts` reads is within its limits.
-fn counts_hold(s: &[u8]) -> bool
-    requires { ⌜ 34 ≤ length (now s) ⌝ }
-    ensures { λ r. ⌜ r ≡ countsHold (now (s .entry)) ⌝ }
-{
-    (two(s, 18) < 65) & (two(s, 20) < 33) & (two(s, 22) < 1025)
-}
-
-// Whether all that `roles` reads is within its limits.
-fn roles_hold(s: &[u8]) -> bool
-    requires { ⌜ 34 ≤ length (now s) ⌝ }
-    ensures { λ r. ⌜ r ≡ rolesHold (now (s .entry)) ⌝ }
-{
-    let m = two(s, 2);
-    let space = two(s, 24);
-    ((space == 65535) | (space < two(s, 4)))
-        & (two(s, 26) < m)
-        & (two(s, 28) < m)
-        & (two(s, 30) < m)
-        & (two(s, 32) < m)
-}
-
 pub fn header(s: &[u8]) -> Cursor
     ensures { λ r. ⌜ r ≡ header (now (s .entry)) ⌝ }
 {
-    if 34 <= s.len() {
-        if globals_hold(s) & counts_hold(s) & roles_hold(s) {
-            return Cursor {
-                at: 34,
-                bad: 0,
-                val: two(s, 32),
-            };
-        }
-    }
     let start = Cursor {
         at: 0,
         bad: 0,
