@@ -21,14 +21,14 @@ ghost use mathlib.Core.Path.{_≡_};
 ghost use Rattle.section.specs.Stream.{statements, answer, readStream};
 ghost use Rattle.section.specs.Names.{reading};
 
-pub mod chains;
+mod chains;
 pub mod cursor;
 pub mod expressions;
-pub mod header;
-pub mod lists;
-pub mod names;
+mod header;
+mod lists;
+mod names;
 pub mod statements;
-pub mod zeros;
+mod zeros;
 
 // The section's own statements, and the end.
 fn own_statements(s: &[u8], c: Cursor, t: &mut [u16]) -> Cursor
