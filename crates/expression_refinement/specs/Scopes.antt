@@ -27,12 +27,11 @@ use Rattle.refinement.specs.Encoding.{encV, temporariesIn, Sound, SoundTmp, Eac
 use Rattle.refinement.specs.Marks.{tmp-at, tmp-name, tmp-mark}
 use Rattle.meaning.specs.declared.scope.ExprValue.{ExprValue as WordExpr}
 use Rattle.meaning.specs.declared.scope.Meaning.{Meaning as WordMeaning}
-use Rattle.meaning.specs.declared.scope.Found.{Found}
 use Rattle.expression.specs.Answers.{resolved}
 use Rattle.expression.specs.Expressions.{meansAt}
 use Rattle.meaning.specs.Slots.{ofSlot, slotAt, paramPlace}
 use Rattle.meaning.specs.Scopes as words
-use Rattle.meaning.specs.Scopes.{findParam, isLocal, ownLocal, tmpLocal, orTmp, lookupLocal, global, bitsAt, bitRange, foundOr, paramOr}
+use Rattle.meaning.specs.Scopes.{Found, findParam, isLocal, ownLocal, tmpLocal, orTmp, lookupLocal, global, bitsAt, bitRange, foundOr, paramOr}
 use Rattle.expression_refinement.specs.Encodings.{encX, SoundX, nameAt, tmps, count, Stood, Later}
 use Rattle.expression_refinement.specs.Tree.{grown-plain}
 use Rattle.expression_refinement.specs.Answers.{acts, temps, word, Refines, refines-done, refines-stopped, seenExpr}

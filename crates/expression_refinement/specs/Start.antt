@@ -15,8 +15,7 @@ use Rattle.definition.specs.Scope.{find, locals, sectionScope}
 use Rattle.definition.specs.ActionList.{orNone}
 use Rattle.pcode.specs.Base.{if_then_else_}
 use Rattle.section_refinement.specs.Holds.{Holds, localWord}
-use Rattle.meaning.specs.declared.scope.Found.{Found}
-use Rattle.meaning.specs.Scopes.{ownOf, ownLocal, findLocal, tmpOf, tmpLocal, orTmp, lookupLocal}
+use Rattle.meaning.specs.Scopes.{Found, ownOf, ownLocal, findLocal, tmpOf, tmpLocal, orTmp, lookupLocal}
 use Rattle.expression_refinement.specs.Scopes.{encF}
 
 pub find-append : {A : Type 0} (n : ℕ) (xs ys : List (ℕ × A)) → find n (xs ++ ys) ≡ find n xs or find n ys

@@ -12,8 +12,7 @@ use lib.Dec.{eqb, ltb}
 use borrow.Author.Tests.{eqb-true, eqb-false, ltb-true, ltb-false, lt-ltb, le-ltb}
 use Rattle.pcode.specs.Base.{if_then_else_}
 use Rattle.pcode.specs.Values.{local}
-use Rattle.meaning.specs.declared.scope.Found.{Found}
-use Rattle.meaning.specs.Scopes.{isLocal, path, link, linked, inside, onward, onward-far, findLocal, attach, tmpOf, tmpLocal}
+use Rattle.meaning.specs.Scopes.{Found, isLocal, path, link, linked, inside, onward, onward-far, findLocal, attach, tmpOf, tmpLocal}
 
 -- Links.
 

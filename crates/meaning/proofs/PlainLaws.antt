@@ -15,9 +15,8 @@ use Rattle.pcode.specs.Base.{if_then_else_}
 use Rattle.pcode.specs.Values.{local}
 use Rattle.meaning.specs.declared.scope.ExprValue.{ExprValue}
 use Rattle.meaning.specs.declared.scope.Meaning.{Meaning}
-use Rattle.meaning.specs.declared.scope.Found.{Found}
 use Rattle.meaning.specs.Slots.{ofSlot, slotAt, paramPlace}
-use Rattle.meaning.specs.Scopes.{findParam, isLocal, path, link, inside, onward, findLocal, ownOf, ownLocal, tmpOf, tmpLocal, orTmp, lookupLocal, global, bitRange, globalMeaning, foundOr, innerMeaning, paramOr, resolveIdent, plain, plainFound, plainGlobal, plainOr, plainInner, plainLocal}
+use Rattle.meaning.specs.Scopes.{findParam, isLocal, path, link, inside, onward, findLocal, Found, ownOf, ownLocal, tmpOf, tmpLocal, orTmp, lookupLocal, global, bitRange, globalMeaning, otherGlobal, foundOr, innerMeaning, paramOr, resolveIdent, plain, plainFound, plainGlobal, plainOr, plainInner, plainLocal}
 
 -- ---- a temporary that is found is one of the first 512, since links have nine bits
 link-small : (w h : ℕ) → link w h < 512
@@ -104,21 +103,21 @@ module _ (t m : List ℕ) (scope n name q : ℕ) where
   plain-own z e k = e ∙ rw (eq-eqb scope 0 z) (sym (or-other (ownLocal t name) m n name scope (λ y. k (e ∙ y))))
 
 -- ---- globals
-module _ (t : List ℕ) (name g : ℕ) (e : g ≡ getD t (1024 + name % 1024) 0) where
+module _ (t : List ℕ) (name g : ℕ) (e : g ≡ global t name) where
   pub plain-global-none : g ≡ 0 → 1 ≡ plainGlobal (global t name)
-  unfolding global plainGlobal if_then_else_
+  unfolding plainGlobal if_then_else_
   plain-global-none z = rw (← e, z)
 
   pub plain-register : (g ≡ 0 → ⊥) → (g - 1) % 8 ≡ 1 → 2 + 8 * ((g - 1) / 8 + 1) ≡ plainGlobal (global t name)
-  unfolding global plainGlobal if_then_else_
+  unfolding plainGlobal if_then_else_
   plain-register z k = rw (← e, ne-eqb g 0 z, eq-eqb ((g - 1) % 8) 1 k)
 
   pub plain-bits : (g ≡ 0 → ⊥) → (g - 1) % 8 ≡ 2 → 0 ≡ plainGlobal (global t name)
-  unfolding global plainGlobal if_then_else_
+  unfolding plainGlobal if_then_else_
   plain-bits z k = rw (← e, ne-eqb g 0 z, k)
 
   pub plain-wrong-kind : (g ≡ 0 → ⊥) → ((g - 1) % 8 ≡ 1 → ⊥) → ((g - 1) % 8 ≡ 2 → ⊥) → 1 ≡ plainGlobal (global t name)
-  unfolding global plainGlobal if_then_else_
+  unfolding plainGlobal if_then_else_
   plain-wrong-kind z k l = rw (← e, ne-eqb g 0 z, ne-eqb ((g - 1) % 8) 1 k, ne-eqb ((g - 1) % 8) 2 l)
 
 -- ---- names
@@ -230,6 +229,39 @@ inner-told s t m e st name = go (eqb name (le16 s 28)) (eqb name (le16 s 26))
     go false true = told 0 0 (omega arith) refl refl
     go false false = found-told _ _ _ (lookup-sure t m (e .scope) (st .temporaries) name) (global-told s t (global t name))
 
+-- a number below 8 tells that neither a local nor a register is meant
+global-else : (s t : List ℕ) (g : ℕ) → plainGlobal g < 8 → globalMeaning s t g ≡ otherGlobal s t g
+unfolding plainGlobal globalMeaning otherGlobal if_then_else_
+global-else s t g = go (eqb g 0) (eqb ((g - 1) % 8) 1)
+  where
+    go : (a b : Bool) → (if a then 1 else (if b then plain 2 ((g - 1) / 8) else (if eqb ((g - 1) % 8) 2 then 0 else 1))) < 8
+        → (if a then Meaning.Wrong 22 else (if b then Meaning.Means (ExprValue.Local (local 2 ((g - 1) / 8))) else (if eqb ((g - 1) % 8) 2 then Meaning.Means (bitRange s t ((g - 1) / 8)) else Meaning.Wrong 23)))
+        ≡ (if a then Meaning.Wrong 22 else (if eqb ((g - 1) % 8) 2 then Meaning.Means (bitRange s t ((g - 1) / 8)) else Meaning.Wrong 23))
+    go true b l = refl
+    go false true l = absurd (omega arith)
+    go false false l = refl
+
+found-else : (x : Found) (q : ℕ) (y z : Meaning) → plainOr (plainFound x) q < 8 → (q < 8 → y ≡ z) → foundOr x y ≡ z
+unfolding plainOr plainFound foundOr if_then_else_
+found-else (Found.Is v) q y z l f =
+    let k : eqb (plain (v .kind) (v .number)) 0 ≡ false = ne-eqb (plain (v .kind) (v .number)) 0 (λ w. omega arith) in
+    let h : plain (v .kind) (v .number) < 8 = rw k at l in
+    absurd (omega arith)
+found-else Found.Nothing q y z l f = f l
+
+inner-else : (s t m : List ℕ) (e : Env) (st : State) (name : ℕ) → plainInner s t m e st name < 8 → innerMeaning s t m e st name ≡ otherGlobal s t (global t name)
+unfolding plainInner innerMeaning if_then_else_
+inner-else s t m e st name = go (eqb name (le16 s 28)) (eqb name (le16 s 26))
+  where
+    x : Found
+    x = lookupLocal t m (e .scope) (st .temporaries) name
+
+    go : (a b : Bool) → (if a then plain 1 0 else (if b then plain 0 0 else plainOr (plainFound x) (plainGlobal (global t name)))) < 8
+        → (if a then Meaning.Means (ExprValue.Local (local 1 0)) else (if b then Meaning.Means (ExprValue.Local (local 0 0)) else foundOr x (globalMeaning s t (global t name)))) ≡ otherGlobal s t (global t name)
+    go true b l = absurd (omega arith)
+    go false true l = absurd (omega arith)
+    go false false l = found-else x (plainGlobal (global t name)) _ _ l (global-else s t (global t name))
+
 ident-told : (s t p m : List ℕ) (e : Env) (st : State) (name : ℕ) → Told (plainLocal s t p m e st name) (resolveIdent s t p m e st name)
 unfolding plainLocal resolveIdent paramOr if_then_else_
 ident-told s t p m e st name = go (ltb 0 (findParam (e .count) p (e .params) name))
@@ -253,6 +285,14 @@ least-told : (q : ℕ) (x : Meaning) → Told q x → 2 ≤ q → 8 ≤ q
 least-told q x (told k n l a b) h = omega arith
 least-told q x (toldWrong n a b) h = absurd (omega arith)
 least-told q x (untold a) h = absurd (omega arith)
+
+-- what a name means that is no parameter
+module _ (s t m : List ℕ) (e : Env) (st : State) (name q : ℕ) (f : q ≡ plainInner s t m e st name) where
+  pub inner-plain : 8 ≤ q → innerMeaning s t m e st name ≡ Meaning.Means (ExprValue.Local (local (q % 8) (q / 8 - 1)))
+  inner-plain = means-told q _ (rw f (inner-told s t m e st name))
+
+  pub inner-other : q < 8 → innerMeaning s t m e st name ≡ otherGlobal s t (global t name)
+  inner-other l = inner-else s t m e st name (rw f at l)
 
 -- some refusal
 pub record Refused (x : Meaning) : Type 0 where

@@ -1,5 +1,5 @@
 -- One law for each way out of the functions over names.
-use mathlib.Core.Path.{_≡_, _∙_}
+use mathlib.Core.Path.{_≡_, refl, _∙_, sym}
 use mathlib.Core.Bool.{Bool, true, false}
 use mathlib.Core.List.{List}
 use Prim.Native.Nat.{ℕ, zero, suc, _+_, _-_, _*_, _/_, _%_, _≤_, _<_}
@@ -18,10 +18,10 @@ use Rattle.pcode.specs.Sizes.{entry}
 use Rattle.pushing.specs.Pushes.{addTmp, onTmp}
 use Rattle.meaning.specs.declared.scope.ExprValue.{ExprValue}
 use Rattle.meaning.specs.declared.scope.Meaning.{Meaning}
-use Rattle.meaning.specs.declared.scope.Found.{Found}
 use Rattle.meaning.specs.declared.scope.Slot.{Slot}
 use Rattle.meaning.specs.Slots.{ofSlot, slotAt, paramPlace}
-use Rattle.meaning.specs.Scopes.{findParam, isLocal, path, link, linked, inside, onward, onward-far, findLocal, attach, ownOf, ownLocal, tmpOf, tmpLocal, orTmp, lookupLocal, global, bitsAt, bitRange, globalMeaning, foundOr, innerMeaning, paramOr, resolveIdent, undeclared, namedTmp}
+use Rattle.meaning.specs.Scopes.{findParam, isLocal, path, link, linked, inside, onward, onward-far, findLocal, attach, Found, lookupLocal, global, bitsAt, bitRange, otherGlobal, innerMeaning, paramOr, resolveIdent, plainFound, plainInner, undeclared, namedTmp}
+use Rattle.meaning.proofs.PlainLaws.{inner-plain, inner-other}
 
 -- ---- parameters, from the last one down
 pub param-hit : (p : List ℕ) (params name i at w r : ℕ) → 0 < i → at ≡ paramPlace params (i - 1) → w ≡ getD p (at + 0) 0 → w ≡ name →
@@ -153,43 +153,6 @@ module _ (n i h : ℕ) (m : List ℕ) (w : ℕ) (r : List ℕ) (f : Attaching n 
       go zero s = unfold attach in s
       go (suc k) s = unfold attach if_then_else_ in (rw (le-ltb i n l) at s)
 
--- ---- locals
-pub own-none : (t : List ℕ) (name k : ℕ) → k ≡ getD t (2048 + name % 1024) 0 → k ≡ 0 → Found.Nothing ≡ ownLocal t name
-unfolding ownLocal ownOf if_then_else_
-own-none t name k e z = rw (← e, z)
-
-pub own-field : (t : List ℕ) (name k : ℕ) (v : Value) → k ≡ getD t (2048 + name % 1024) 0 → (k ≡ 0 → ⊥) → k % 2 ≡ 1 → v ≡ local 3 (k / 2) → Found.Is v ≡ ownLocal t name
-unfolding ownLocal ownOf if_then_else_
-own-field t name k v e z o q = rw (← e, ne-eqb k 0 z, eq-eqb (k % 2) 1 o, q)
-
-pub own-subtable : (t : List ℕ) (name k : ℕ) (v : Value) → k ≡ getD t (2048 + name % 1024) 0 → (k ≡ 0 → ⊥) → (k % 2 ≡ 1 → ⊥) → v ≡ local 4 (k / 2 - 1) → Found.Is v ≡ ownLocal t name
-unfolding ownLocal ownOf if_then_else_
-own-subtable t name k v e z o q = rw (← e, ne-eqb k 0 z, ne-eqb (k % 2) 1 o, q)
-
-pub tmp-found : (m : List ℕ) (n name scope i : ℕ) (v : Value) → i ≡ findLocal n 0 (path name scope) n m name scope → i < n → v ≡ local 6 i → Found.Is v ≡ tmpLocal m n name scope
-unfolding tmpLocal tmpOf if_then_else_
-tmp-found m n name scope i v e h q = rw (← e, lt-ltb i n h, q)
-
-pub tmp-none : (m : List ℕ) (n name scope i : ℕ) → i ≡ findLocal n 0 (path name scope) n m name scope → n ≤ i → Found.Nothing ≡ tmpLocal m n name scope
-unfolding tmpLocal tmpOf if_then_else_
-tmp-none m n name scope i e h = rw (← e, le-ltb i n h)
-
-pub or-is : (x : Found) (m : List ℕ) (n name scope : ℕ) (v : Value) → x ≡ Found.Is v → Found.Is v ≡ orTmp x m n name scope
-unfolding orTmp
-or-is x m n name scope v q = rw q
-
-pub or-none : (x : Found) (m : List ℕ) (n name scope : ℕ) (r : Found) → x ≡ Found.Nothing → r ≡ tmpLocal m n name scope → r ≡ orTmp x m n name scope
-unfolding orTmp
-or-none x m n name scope r q e = rw q e
-
-pub lookup-own : (t m : List ℕ) (scope n name : ℕ) (x r : Found) → scope ≡ 0 → x ≡ ownLocal t name → r ≡ orTmp x m n name scope → r ≡ lookupLocal t m scope n name
-unfolding lookupLocal if_then_else_
-lookup-own t m scope n name x r z e q = rw (eq-eqb scope 0 z, ← e) q
-
-pub lookup-tmp : (t m : List ℕ) (scope n name : ℕ) (r : Found) → (scope ≡ 0 → ⊥) → r ≡ tmpLocal m n name scope → r ≡ lookupLocal t m scope n name
-unfolding lookupLocal if_then_else_
-lookup-tmp t m scope n name r z q = rw (ne-eqb scope 0 z) q
-
 -- ---- globals
 pub global-law : (t : List ℕ) (name k : ℕ) → k ≡ getD t (1024 + name % 1024) 0 → k ≡ global t name
 unfolding global
@@ -201,64 +164,65 @@ unfolding bitRange bitsAt
 bit-range-law s t i at a b c v e ea q eb ec = rw (← e, q, ← ea, ← eb, ← ec)
 
 module _ (s t : List ℕ) (name g : ℕ) (e : g ≡ global t name) where
-  pub global-none : g ≡ 0 → Meaning.Wrong 22 ≡ globalMeaning s t (global t name)
-  unfolding globalMeaning if_then_else_
-  global-none z = rw (← e, z)
+  pub other-none : g ≡ 0 → Meaning.Wrong 22 ≡ otherGlobal s t (global t name)
+  unfolding otherGlobal if_then_else_
+  other-none z = rw (← e, z)
 
-  pub global-register : (v : Value) → (g ≡ 0 → ⊥) → (g - 1) % 8 ≡ 1 → v ≡ local 2 ((g - 1) / 8) → Meaning.Means (ExprValue.Local v) ≡ globalMeaning s t (global t name)
-  unfolding globalMeaning if_then_else_
-  global-register v z k q = rw (← e, ne-eqb g 0 z, eq-eqb ((g - 1) % 8) 1 k, q)
+  pub other-bits : (x : ExprValue) → (g ≡ 0 → ⊥) → (g - 1) % 8 ≡ 2 → x ≡ bitRange s t ((g - 1) / 8) → Meaning.Means x ≡ otherGlobal s t (global t name)
+  unfolding otherGlobal if_then_else_
+  other-bits x z k q = rw (← e, ne-eqb g 0 z, eq-eqb ((g - 1) % 8) 2 k, q)
 
-  pub global-bits : (x : ExprValue) → (g ≡ 0 → ⊥) → (g - 1) % 8 ≡ 2 → x ≡ bitRange s t ((g - 1) / 8) → Meaning.Means x ≡ globalMeaning s t (global t name)
-  unfolding globalMeaning if_then_else_
-  global-bits x z k q = rw (← e, ne-eqb g 0 z, k, q)
-
-  pub global-other : (g ≡ 0 → ⊥) → ((g - 1) % 8 ≡ 1 → ⊥) → ((g - 1) % 8 ≡ 2 → ⊥) → Meaning.Wrong 23 ≡ globalMeaning s t (global t name)
-  unfolding globalMeaning if_then_else_
-  global-other z k l = rw (← e, ne-eqb g 0 z, ne-eqb ((g - 1) % 8) 1 k, ne-eqb ((g - 1) % 8) 2 l)
+  pub other-wrong : (g ≡ 0 → ⊥) → ((g - 1) % 8 ≡ 2 → ⊥) → Meaning.Wrong 23 ≡ otherGlobal s t (global t name)
+  unfolding otherGlobal if_then_else_
+  other-wrong z k = rw (← e, ne-eqb g 0 z, ne-eqb ((g - 1) % 8) 2 k)
 
 -- ---- what a name means
-module _ (s t m : List ℕ) (e : Env) (st : State) (name : ℕ) (a : ℕ) (ea : a ≡ le16 s 28) where
-  pub inner-next : (v : Value) → name ≡ a → v ≡ local 1 0 → Meaning.Means (ExprValue.Local v) ≡ innerMeaning s t m e st name
-  unfolding innerMeaning if_then_else_
-  inner-next v h q = rw (← ea, eq-eqb name a h, q)
-
-  module _ (h : name ≡ a → ⊥) (b : ℕ) (eb : b ≡ le16 s 26) where
-    pub inner-start : (v : Value) → name ≡ b → v ≡ local 0 0 → Meaning.Means (ExprValue.Local v) ≡ innerMeaning s t m e st name
-    unfolding innerMeaning if_then_else_
-    inner-start v k q = rw (← ea, ne-eqb name a h, ← eb, eq-eqb name b k, q)
-
-    module _ (k : name ≡ b → ⊥) (x : Found) (l : x ≡ lookupLocal t m (e .scope) (st .temporaries) name) where
-      pub inner-local : (v : Value) → x ≡ Found.Is v → Meaning.Means (ExprValue.Local v) ≡ innerMeaning s t m e st name
-      unfolding innerMeaning if_then_else_ foundOr
-      inner-local v q = rw (← ea, ne-eqb name a h, ← eb, ne-eqb name b k, ← l, q)
-
-      pub inner-global : (r : Meaning) → x ≡ Found.Nothing → r ≡ globalMeaning s t (global t name) → r ≡ innerMeaning s t m e st name
-      unfolding innerMeaning if_then_else_ foundOr
-      inner-global r q f = rw (← ea, ne-eqb name a h, ← eb, ne-eqb name b k, ← l, q) f
-
 module _ (s t p m : List ℕ) (e : Env) (st : State) (name i : ℕ) (f : i ≡ findParam (e .count) p (e .params) name) where
   pub ident-param : (at : ℕ) (k : Slot) (x : ExprValue) → 0 < i → at ≡ paramPlace (e .params) (i - 1) → k ≡ slotAt p at → x ≡ ofSlot k → Meaning.Means x ≡ resolveIdent s t p m e st name
   unfolding resolveIdent paramOr if_then_else_
   ident-param at k x h a q r = rw (← f, lt-ltb 0 i h, ← a, ← q, r)
 
-  pub ident-inner : (r : Meaning) → i ≤ 0 → r ≡ innerMeaning s t m e st name → r ≡ resolveIdent s t p m e st name
+  ident-inner : (r : Meaning) → i ≤ 0 → r ≡ innerMeaning s t m e st name → r ≡ resolveIdent s t p m e st name
   unfolding resolveIdent paramOr if_then_else_
   ident-inner r h q = rw (← f, le-ltb 0 i h) q
 
+  module _ (h : i ≤ 0) (q : ℕ) (g : q ≡ plainInner s t m e st name) where
+    pub ident-plain : (v : Value) → 8 ≤ q → v ≡ local (q % 8) (q / 8 - 1) → Meaning.Means (ExprValue.Local v) ≡ resolveIdent s t p m e st name
+    ident-plain v l k = rw k (ident-inner _ h (sym (inner-plain s t m e st name q g l)))
+
+    pub ident-other : (r : Meaning) → q < 8 → r ≡ otherGlobal s t (global t name) → r ≡ resolveIdent s t p m e st name
+    ident-other r l k = ident-inner r h (k ∙ sym (inner-other s t m e st name q g l))
+
 -- ---- a named temporary
+module _ (x : Found) (v : Value) (st : State) (m n : List ℕ) where
+  declared-twice : (plainFound x ≡ 0 → ⊥) → undeclared x v st m n ≡ listed (Read.No 21) m
+  unfolding undeclared plainFound
+  declared-twice z = go x z
+    where
+      go : (x : Found) → (plainFound x ≡ 0 → ⊥) → undeclared x v st m n ≡ listed (Read.No 21) m
+      go (Found.Is w) z = refl
+      go Found.Nothing z = absurd (z refl)
+
+  declared-new : plainFound x ≡ 0 → undeclared x v st m n ≡ listed (Read.Value v st) n
+  unfolding undeclared plainFound
+  declared-new z = go x z
+    where
+      go : (x : Found) → plainFound x ≡ 0 → undeclared x v st m n ≡ listed (Read.Value v st) n
+      go (Found.Is w) z = absurd (omega arith)
+      go Found.Nothing z = refl
+
 module _ (t m : List ℕ) (e : Env) (name size : ℕ) (st : State) (r : Read) (w : List ℕ) (f : listed r w ≡ addTmp m name size (e .scope) st) where
   pub named-none : (n : ℕ) → r ≡ Read.No n → listed (Read.No n) w ≡ namedTmp t m e name size st
   unfolding namedTmp onTmp
   named-none n q = rw (← f, q)
 
-  module _ (v : Value) (st1 : State) (q : r ≡ Read.Value v st1) (x : Found) (l : x ≡ lookupLocal t w (e .scope) (st .temporaries) name) where
-    pub named-twice : (u : Value) → x ≡ Found.Is u → listed (Read.No 21) w ≡ namedTmp t m e name size st
-    unfolding namedTmp onTmp undeclared
-    named-twice u k = rw (← f, q, ← l, k)
+  module _ (v : Value) (st1 : State) (q : r ≡ Read.Value v st1) (x : ℕ) (l : x ≡ plainFound (lookupLocal t w (e .scope) (st .temporaries) name)) where
+    pub named-twice : (x ≡ 0 → ⊥) → listed (Read.No 21) w ≡ namedTmp t m e name size st
+    unfolding namedTmp onTmp
+    named-twice k = rw (← f, q) (sym (declared-twice (lookupLocal t w (e .scope) (st .temporaries) name) v st1 w _ (λ z. k (l ∙ z))))
 
-    pub named-new : (u : List ℕ) → x ≡ Found.Nothing → u ≡ attach (st .temporaries) 0 (path name (e .scope)) (st .temporaries) w → listed (Read.Value v st1) u ≡ namedTmp t m e name size st
-    unfolding namedTmp onTmp undeclared
-    named-new u k a = rw (← f, q, ← l, k, a)
+    pub named-new : (u : List ℕ) → x ≡ 0 → u ≡ attach (st .temporaries) 0 (path name (e .scope)) (st .temporaries) w → listed (Read.Value v st1) u ≡ namedTmp t m e name size st
+    unfolding namedTmp onTmp
+    named-new u k a = rw (← f, q, a) (sym (declared-new (lookupLocal t w (e .scope) (st .temporaries) name) v st1 w _ (sym l ∙ k)))
 
-pub ruleset scope-laws = (local-same, local-other, link-left, link-right, linked-left, linked-right, onward-in, onward-out, onward-none, own-none, own-field, own-subtable, tmp-found, tmp-none, or-is, or-none, lookup-own, lookup-tmp, global-law, bit-range-law, global-none, global-register, global-bits, global-other, inner-next, inner-start, inner-local, inner-global, ident-param, ident-inner, named-none, named-twice, named-new)
+pub ruleset scope-laws = (local-same, local-other, link-left, link-right, linked-left, linked-right, onward-in, onward-out, onward-none, global-law, bit-range-law, other-none, other-bits, other-wrong, ident-param, ident-plain, ident-other, named-none, named-twice, named-new)

@@ -18,7 +18,6 @@ use Rattle.pcode.specs.Sizes.{entry}
 use Rattle.pushing.specs.Pushes.{addTmp, onTmp}
 use Rattle.meaning.specs.declared.scope.ExprValue.{ExprValue}
 use Rattle.meaning.specs.declared.scope.Meaning.{Meaning}
-use Rattle.meaning.specs.declared.scope.Found.{Found}
 use Rattle.meaning.specs.Slots.{ofSlot, slotAt, paramPlace}
 
 -- one more than the number of the last of so many parameters that has the name, or 0
@@ -79,6 +78,11 @@ attach (suc k) i h n m =
     then (if eqb (onward (getD m i 0) i h n) n then set m i (linked (getD m i 0) h n) else attach k (onward (getD m i 0) i h n) (h / 2) n m)
     else m
 
+-- what a search for a local gives
+pub data Found : Type 0 where
+  Is : Value → Found
+  Nothing : Found
+
 -- a field is 1 + 2 × its number, a subtable 2 + 2 × its number
 unfoldable pub ownOf : ℕ → Found
 ownOf k =
@@ -118,6 +122,13 @@ unfoldable pub globalMeaning : List ℕ → List ℕ → ℕ → Meaning
 globalMeaning s t g =
     if eqb g 0 then Meaning.Wrong 22
     else if eqb ((g - 1) % 8) 1 then Meaning.Means (ExprValue.Local (local 2 ((g - 1) / 8)))
+    else if eqb ((g - 1) % 8) 2 then Meaning.Means (bitRange s t ((g - 1) / 8))
+    else Meaning.Wrong 23
+
+-- what a global means that is no register
+unfoldable pub otherGlobal : List ℕ → List ℕ → ℕ → Meaning
+otherGlobal s t g =
+    if eqb g 0 then Meaning.Wrong 22
     else if eqb ((g - 1) % 8) 2 then Meaning.Means (bitRange s t ((g - 1) / 8))
     else Meaning.Wrong 23
 

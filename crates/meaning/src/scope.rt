@@ -15,7 +15,7 @@ ghost use mathlib.Core.Path.{_≡_};
 ghost use Prim.Native.Nat.{_+_, _<_};
 ghost use Rattle.pcode.specs.Base.{listed};
 ghost use Rattle.meaning.specs.Slots.{oneValue, slotOf, ofSlot, putSlot, slotAt, paramPlace};
-ghost use Rattle.meaning.specs.Scopes.{findParam, isLocal, path, link, linked, onward, findLocal, attach, ownLocal, tmpLocal, orTmp, lookupLocal, global, bitRange, globalMeaning, innerMeaning, resolveIdent, plainFound, plainGlobal, plainInner, plainLocal, namedTmp};
+ghost use Rattle.meaning.specs.Scopes.{findParam, isLocal, path, link, linked, onward, findLocal, attach, ownLocal, tmpLocal, lookupLocal, global, bitRange, otherGlobal, resolveIdent, plainFound, plainGlobal, plainInner, plainLocal, namedTmp};
 
 // What an expression means before it is read.
 pub enum ExprValue {
@@ -274,119 +274,6 @@ fn attach(m: &mut [u64], n: usize, name: u64, scope: u64)
     }
 }
 
-pub enum Found {
-    Is(Value),
-    Nothing,
-}
-
-// A field or a subtable, which only the section's own scope has.
-fn own_local(t: &[u16; 3344], name: u64) -> Found
-    ensures { λ r. ⌜ r ≡ ownLocal (now (t .entry)) name ⌝ }
-{
-    let k = cells::get_u16(t, 2048 + (name % 1024) as usize) as u64;
-    if k == 0 {
-        return Found::Nothing;
-    }
-    if k % 2 == 1 {
-        return Found::Is(local(3, k / 2));
-    }
-    Found::Is(local(4, k / 2 - 1))
-}
-
-fn tmp_local(m: &[u64], n: usize, name: u64, scope: u64) -> Found
-    ensures { λ r. ⌜ r ≡ tmpLocal (now (m .entry)) n name scope ⌝ }
-{
-    let i = find_local(m, n, name, scope);
-    if i < n {
-        return Found::Is(local(6, i as u64));
-    }
-    Found::Nothing
-}
-
-fn or_tmp(x: Found, m: &[u64], n: usize, name: u64, scope: u64) -> Found
-    ensures { λ r. ⌜ r ≡ orTmp x (now (m .entry)) n name scope ⌝ }
-{
-    match x {
-        Found::Is(v) => Found::Is(v),
-        Found::Nothing => tmp_local(m, n, name, scope),
-    }
-}
-
-fn lookup_local(t: &[u16; 3344], m: &[u64], scope: u64, n: usize, name: u64) -> Found
-    ensures { λ r. ⌜ r ≡ lookupLocal (now (t .entry)) (now (m .entry)) scope n name ⌝ }
-{
-    if scope == 0 {
-        return or_tmp(own_local(t, name), m, n, name, scope);
-    }
-    tmp_local(m, n, name, scope)
-}
-
-// A global of a name: 0, or 1 + kind + 8 × its place in that kind's list.
-pub fn global(t: &[u16; 3344], name: u64) -> u64
-    ensures { λ r. ⌜ r ≡ global (now (t .entry)) name ⌝ }
-{
-    cells::get_u16(t, 1024 + (name % 1024) as usize) as u64
-}
-
-fn bit_range(s: &[u8], t: &[u16; 3344], i: u64) -> ExprValue
-    ensures { λ r. ⌜ r ≡ bitRange (now (s .entry)) (now (t .entry)) i ⌝ }
-{
-    let at = entry(t, 2, i % 65536 * 8);
-    ExprValue::BitRange {
-        v: local(2, cells::u16_in(s, at, 2)),
-        from: cells::u16_in(s, at, 4),
-        bits: cells::u16_in(s, at, 6),
-    }
-}
-
-fn global_meaning(s: &[u8], t: &[u16; 3344], name: u64) -> Meaning
-    ensures { λ r. ⌜ r ≡ globalMeaning (now (s .entry)) (now (t .entry)) (global (now (t .entry)) name) ⌝ }
-{
-    let g = global(t, name);
-    if g == 0 {
-        return Meaning::Wrong(22);
-    }
-    let kind = (g - 1) % 8;
-    match kind {
-        1 => Meaning::Means(ExprValue::Local(local(2, (g - 1) / 8))),
-        2 => Meaning::Means(bit_range(s, t, (g - 1) / 8)),
-        _ => Meaning::Wrong(23),
-    }
-}
-
-fn inner_meaning(s: &[u8], t: &[u16; 3344], m: &[u64], e: Env, st: State, name: u64) -> Meaning
-    ensures { λ r. ⌜ r ≡ innerMeaning (now (s .entry)) (now (t .entry)) (now (m .entry)) e st name ⌝ }
-{
-    if name == cells::u16_at(s, 28) {
-        return Meaning::Means(ExprValue::Local(local(1, 0)));
-    }
-    if name == cells::u16_at(s, 26) {
-        return Meaning::Means(ExprValue::Local(local(0, 0)));
-    }
-    match lookup_local(t, m, e.scope, st.temporaries, name) {
-        Found::Is(v) => Meaning::Means(ExprValue::Local(v)),
-        Found::Nothing => global_meaning(s, t, name),
-    }
-}
-
-pub fn resolve_ident(
-    s: &[u8],
-    t: &[u16; 3344],
-    p: &[u64],
-    m: &[u64],
-    e: Env,
-    st: State,
-    name: u64,
-) -> Meaning
-    ensures { λ r. ⌜ r ≡ resolveIdent (now (s .entry)) (now (t .entry)) (now (p .entry)) (now (m .entry)) e st name ⌝ }
-{
-    let i = find_param(p, e.params, e.count, name);
-    if 0 < i {
-        return Meaning::Means(of_slot(slot_at(p, param_place(e.params, i - 1))));
-    }
-    inner_meaning(s, t, m, e, st, name)
-}
-
 // A field or a subtable as one number: kind + 8 × (1 + number), or 0 where there is none.
 fn plain_own(t: &[u16; 3344], name: u64) -> u64
     ensures { λ r. ⌜ r ≡ plainFound (ownLocal (now (t .entry)) name) ⌝ }
@@ -424,11 +311,29 @@ fn plain_found(t: &[u16; 3344], m: &[u64], scope: u64, n: usize, name: u64) -> u
     q
 }
 
+// A global of a name: 0, or 1 + kind + 8 × its place in that kind's list.
+pub fn global(t: &[u16; 3344], name: u64) -> u64
+    ensures { λ r. ⌜ (r ≡ global (now (t .entry)) name) × (r < 65536) ⌝ }
+{
+    cells::get_u16(t, 1024 + (name % 1024) as usize) as u64
+}
+
+fn bit_range(s: &[u8], t: &[u16; 3344], i: u64) -> ExprValue
+    ensures { λ r. ⌜ r ≡ bitRange (now (s .entry)) (now (t .entry)) i ⌝ }
+{
+    let at = entry(t, 2, i % 65536 * 8);
+    ExprValue::BitRange {
+        v: local(2, cells::u16_in(s, at, 2)),
+        from: cells::u16_in(s, at, 4),
+        bits: cells::u16_in(s, at, 6),
+    }
+}
+
 // A global register as one number; 0 for a bit range, 1 where a name means nothing or a wrong thing.
 fn plain_global(t: &[u16; 3344], name: u64) -> u64
     ensures { λ r. ⌜ r ≡ plainGlobal (global (now (t .entry)) name) ⌝ }
 {
-    let g = cells::get_u16(t, 1024 + (name % 1024) as usize) as u64;
+    let g = global(t, name);
     if g == 0 {
         return 1;
     }
@@ -475,18 +380,54 @@ pub fn plain_local(
     plain_inner(s, t, m, e, st, name)
 }
 
+// What a global means that is no register.
+fn other_global(s: &[u8], t: &[u16; 3344], name: u64) -> Meaning
+    ensures { λ r. ⌜ r ≡ otherGlobal (now (s .entry)) (now (t .entry)) (global (now (t .entry)) name) ⌝ }
+{
+    let g = global(t, name);
+    if g == 0 {
+        return Meaning::Wrong(22);
+    }
+    if (g - 1) % 8 == 2 {
+        return Meaning::Means(bit_range(s, t, (g - 1) / 8));
+    }
+    Meaning::Wrong(23)
+}
+
+pub fn resolve_ident(
+    s: &[u8],
+    t: &[u16; 3344],
+    p: &[u64],
+    m: &[u64],
+    e: Env,
+    st: State,
+    name: u64,
+) -> Meaning
+    ensures { λ r. ⌜ r ≡ resolveIdent (now (s .entry)) (now (t .entry)) (now (p .entry)) (now (m .entry)) e st name ⌝ }
+{
+    let i = find_param(p, e.params, e.count, name);
+    if 0 < i {
+        return Meaning::Means(of_slot(slot_at(p, param_place(e.params, i - 1))));
+    }
+    let q = plain_inner(s, t, m, e, st, name);
+    if 8 <= q {
+        return Meaning::Means(ExprValue::Local(local(q % 8, q / 8 - 1)));
+    }
+    other_global(s, t, name)
+}
+
 // A named temporary is made, then declared.
 pub fn named_tmp(t: &[u16; 3344], m: &mut [u64], e: Env, name: u64, size: u64, st: State) -> Read
     ensures { λ r. ⌜ listed r (now (m .exit)) ≡ namedTmp (now (t .entry)) (now (m .entry)) e name size st ⌝ }
 {
     match add_tmp(m, name, size, e.scope, st) {
         Read::No(n) => Read::No(n),
-        Read::Value { v, st: next } => match lookup_local(t, m, e.scope, st.temporaries, name) {
-            Found::Is(_) => Read::No(21),
-            Found::Nothing => {
-                attach(m, st.temporaries, name, e.scope);
-                Read::Value { v, st: next }
+        Read::Value { v, st: next } => {
+            if plain_found(t, m, e.scope, st.temporaries, name) != 0 {
+                return Read::No(21);
             }
-        },
+            attach(m, st.temporaries, name, e.scope);
+            Read::Value { v, st: next }
+        }
     }
 }

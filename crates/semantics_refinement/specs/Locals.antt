@@ -27,8 +27,7 @@ use Rattle.refinement.specs.Encoding.{encV, markedWord, temporaryWords, tempora
 use Rattle.refinement.specs.Marks.{marked-same, marked-other, uppers, uppers-length, uppers-at, words-again}
 use Rattle.refinement.specs.Pushes.{Stands, Made, marked, words-marked, words-length, tmps-length, marked-length, each-snoc, named-is, add-done}
 use Rattle.refinement.specs.Seen.{seenTmp, outcome}
-use Rattle.meaning.specs.declared.scope.Found.{Found}
-use Rattle.meaning.specs.Scopes.{isLocal, path, attach, ownLocal, tmpOf, tmpLocal, orTmp, lookupLocal, undeclared, namedTmp}
+use Rattle.meaning.specs.Scopes.{Found, isLocal, path, attach, ownLocal, tmpOf, tmpLocal, orTmp, lookupLocal, undeclared, namedTmp}
 use Rattle.expression_refinement.specs.Encodings.{Small, nameAt, tmps, count, Stood, params-more, mapping-more, actions-more}
 use Rattle.expression_refinement.specs.Answers.{acts, temps, word, Halts, halts-done, halts-here, halts-on}
 use Rattle.expression_refinement.specs.Pushing.{add-halts}

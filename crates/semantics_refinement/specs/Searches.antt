@@ -15,9 +15,8 @@ use Rattle.definition.specs.Walk.{ExprValue, Label}
 use Rattle.definition.specs.Scope.{find}
 use Rattle.pcode.specs.Base.{if_then_else_}
 use Rattle.pcode.specs.Values.{valueAt}
-use Rattle.meaning.specs.declared.scope.Found.{Found}
 use Rattle.meaning.specs.Slots.{slotAt, paramPlace}
-use Rattle.meaning.specs.Scopes.{isLocal, lookupLocal}
+use Rattle.meaning.specs.Scopes.{Found, isLocal, lookupLocal}
 use Rattle.jumps.specs.Labels.{findLabel, labelKey}
 use Rattle.expression_refinement.specs.Tree.{none-local}
 use Rattle.expression_refinement.specs.Scopes.{ParamsIn}

@@ -27,7 +27,7 @@ symbol-of-requires c κs = search needs
 
 -- src/calls.rt:67:1
 returns-2 : tie.Need-returns-2
-returns-2 c = called-symbol _ _ _ _ (c .before .before .before .u16-at .ensures) _ _ (c .before .before .if1 .left) (c .before .global .ensures) (c .symbol-of .ensures)
+returns-2 c = called-symbol _ _ _ _ (c .before .before .before .u16-at .ensures) _ _ (c .before .before .if1 .left) (c .before .global .ensures .0) (c .symbol-of .ensures)
 
 pub called-of-spec : {M : Type 1} → statement M
 called-of-spec =
