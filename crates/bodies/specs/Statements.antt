@@ -70,7 +70,7 @@ returnedTo next (walked r l a m) = walked (returned next r) l a m
 
 -- a macro's parameters stand in the words of its own call
 abbrev pub macroEnv : ℕ → ℕ → Env → Env
-macroEnv scope count e = record { pointer = e .pointer; scope = scope; params = 0; count = count }
+macroEnv scope count e = record { pointer = e .pointer; scope = scope; count = count }
 
 -- where the body of a macro with n parameters begins, behind their names
 unfoldable pub bodyAt : ℕ → ℕ → ℕ

@@ -150,7 +150,6 @@ fn macro_env(e: Env, scope: u64, count: u64) -> Env
     Env {
         pointer: e.pointer,
         scope,
-        params: 0,
         count: count as usize,
     }
 }

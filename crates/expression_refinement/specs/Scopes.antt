@@ -52,9 +52,9 @@ encF none = Found.Nothing
 encF (some v) = Found.Is (encV v)
 
 -- Parameters: the last one is in front. The slot of each has its name and what it means.
-abbrev pub ParamsIn : List ℕ → ℕ → List (ℕ × ExprValue) → Type 0
-ParamsIn p params [] = Unit {0}
-ParamsIn p params (x ∷ xs) = (getD p (paramPlace params (length xs) + 0) 0 ≡ x .0) × (ofSlot (slotAt p (paramPlace params (length xs))) ≡ encX (x .1)) × ParamsIn p params xs
+abbrev pub ParamsIn : List ℕ → List (ℕ × ExprValue) → Type 0
+ParamsIn p [] = Unit {0}
+ParamsIn p (x ∷ xs) = (getD p (paramPlace (length xs) + 0) 0 ≡ x .0) × (ofSlot (slotAt p (paramPlace (length xs))) ≡ encX (x .1)) × ParamsIn p xs
 
 -- what an option holds, as a meaning
 unfoldable pub meansOr : Option ExprValue → WordMeaning → WordMeaning
@@ -62,17 +62,17 @@ meansOr (some x) other = WordMeaning.Means (encX x)
 meansOr none other = other
 
 -- the search, with the meaning that it finds
-found : ℕ → List ℕ → ℕ → WordMeaning → WordMeaning
+found : ℕ → List ℕ → WordMeaning → WordMeaning
 unfolding if_then_else_
-found i p params other = if ltb 0 i then WordMeaning.Means (ofSlot (slotAt p (paramPlace params (i - 1)))) else other
+found i p other = if ltb 0 i then WordMeaning.Means (ofSlot (slotAt p (paramPlace (i - 1)))) else other
 
-param-is : (ps : List (ℕ × ExprValue)) (p : List ℕ) (params name : ℕ) (other : WordMeaning) → ParamsIn p params ps → found (findParam (length ps) p params name) p params other ≡ meansOr (find name ps) other
+param-is : (ps : List (ℕ × ExprValue)) (p : List ℕ) (name : ℕ) (other : WordMeaning) → ParamsIn p ps → found (findParam (length ps) p name) p other ≡ meansOr (find name ps) other
 unfolding found findParam find first meansOr base-opens if_then_else_
-param-is [] p params name other h = refl
-param-is (x ∷ xs) p params name other h = rw (h .0, eqb-swap (x .0) name) (go (eqb name (x .0)) (param-is xs p params name other (h .2)))
+param-is [] p name other h = refl
+param-is (x ∷ xs) p name other h = rw (h .0, eqb-swap (x .0) name) (go (eqb name (x .0)) (param-is xs p name other (h .2)))
   where
-    go : (b : Bool) → found (findParam (length xs) p params name) p params other ≡ meansOr (find name xs) other
-        → found (if b then suc (length xs) else findParam (length xs) p params name) p params other ≡ meansOr ((definition.if_then_else_ b (some (x .1)) none) or (find name xs)) other
+    go : (b : Bool) → found (findParam (length xs) p name) p other ≡ meansOr (find name xs) other
+        → found (if b then suc (length xs) else findParam (length xs) p name) p other ≡ meansOr ((definition.if_then_else_ b (some (x .1)) none) or (find name xs)) other
     go true q =
         let i : ltb 0 (suc (length xs)) ≡ true = lt-ltb 0 (suc (length xs)) (omega arith) in
         let j : suc (length xs) - 1 ≡ length xs = omega arith in
@@ -132,7 +132,7 @@ module _ (s t : List ℕ) (e : Env) (p front tail marks rest : List ℕ) (we : W
   -- The words hold the scope: its parameters stand in their slots, and the table and the temporaries give
   -- its locals.
   pub record Scoped (st : State) : Type 0 where
-    pub params : ParamsIn p (we .params) (st .scope .params)
+    pub params : ParamsIn p (st .scope .params)
     pub counted : we .count ≡ length (st .scope .params)
     pub locals : (name : ℕ) → name < 1024 → lookupLocal t (temps (e .section) front tail marks rest st) (we .scope) (count st) name ≡ encF (find name (st .scope .mapping))
 
@@ -280,7 +280,7 @@ module _ (s t : List ℕ) (e : Env) (p front tail marks rest : List ℕ) (we : W
   unfolding words.resolveIdent paramOr found innerMeaning words.innerMeaning
   ident-is =
       rw (scoped .counted)
-      (param-is (st .scope .params) p (we .params) name _ (scoped .params) ∙ go (find name (st .scope .params)))
+      (param-is (st .scope .params) p name _ (scoped .params) ∙ go (find name (st .scope .params)))
     where
       go : (x : Option ExprValue) → meansOr x (words.innerMeaning s t (temps (e .section) front tail marks rest st) we (word (e .section) front tail marks rest st) name)
           ≡ encM (meaningOf (e .section) (x or (definition.if_then_else_ (eqb name (e .section .instNext)) (some (ExprValue.Local (local Kind.InstNext 0))) none) or (definition.if_then_else_ (eqb name (e .section .instStart)) (some (ExprValue.Local (local Kind.InstStart 0))) none)

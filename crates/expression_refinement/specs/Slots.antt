@@ -218,12 +218,12 @@ slot-other p at i k h = rw (get 1 (omega arith), get 2 (omega arith), get 3 (ome
 
 pub arg-length : (args : List ℕ) (i : ℕ) (x : WordExpr) → length (putArg args i x) ≡ length args
 unfolding putArg
-arg-length args i x = put-length args (paramPlace 0 i) (slotOf x)
+arg-length args i x = put-length args (paramPlace i) (slotOf x)
 
 pub arg-again : (sec : Section) (n : ℕ) (args : List ℕ) (i : ℕ) (x : ExprValue) → length args ≡ 64 → SoundX sec n x → argAt (putArg args i (encX x)) i ≡ encX x
 unfolding argAt putArg paramPlace
-arg-again sec n args i x h f = slot-again sec n args (0 % 2048 + i % 8 * 8) x (omega arith) f
+arg-again sec n args i x h f = slot-again sec n args (i % 8 * 8) x (omega arith) f
 
 pub arg-other : (args : List ℕ) (i j : ℕ) (x : WordExpr) → i < j → j < 8 → argAt (putArg args j x) i ≡ argAt args i
 unfolding argAt putArg paramPlace
-arg-other args i j x h l = ap ofSlot (slot-other args (0 % 2048 + j % 8 * 8) (0 % 2048 + i % 8 * 8) (slotOf x) (before (omega arith)))
+arg-other args i j x h l = ap ofSlot (slot-other args (j % 8 * 8) (i % 8 * 8) (slotOf x) (before (omega arith)))

@@ -140,7 +140,7 @@ module _ (s t m : List ℕ) (e : Env) (st : State) (name : ℕ) (a : ℕ) (ea : 
       unfolding plainInner plainOr if_then_else_
       plain-inner-local z = rw (← ea, ne-eqb name a h, ← eb, ne-eqb name b k, ← l, ne-eqb q 0 z)
 
-module _ (s t p m : List ℕ) (e : Env) (st : State) (name i : ℕ) (f : i ≡ findParam (e .count) p (e .params) name) where
+module _ (s t p m : List ℕ) (e : Env) (st : State) (name i : ℕ) (f : i ≡ findParam (e .count) p name) where
   pub plain-param : 0 < i → 0 ≡ plainLocal s t p m e st name
   unfolding plainLocal if_then_else_
   plain-param h = rw (← f, lt-ltb 0 i h)
@@ -264,10 +264,10 @@ inner-else s t m e st name = go (eqb name (le16 s 28)) (eqb name (le16 s 26))
 
 ident-told : (s t p m : List ℕ) (e : Env) (st : State) (name : ℕ) → Told (plainLocal s t p m e st name) (resolveIdent s t p m e st name)
 unfolding plainLocal resolveIdent paramOr if_then_else_
-ident-told s t p m e st name = go (ltb 0 (findParam (e .count) p (e .params) name))
+ident-told s t p m e st name = go (ltb 0 (findParam (e .count) p name))
   where
     x : Meaning
-    x = Meaning.Means (ofSlot (slotAt p (paramPlace (e .params) (findParam (e .count) p (e .params) name - 1))))
+    x = Meaning.Means (ofSlot (slotAt p (paramPlace (findParam (e .count) p name - 1))))
 
     go : (a : Bool) → Told (if a then 0 else plainInner s t m e st name) (if a then x else innerMeaning s t m e st name)
     go true = untold refl

@@ -24,28 +24,28 @@ use Rattle.meaning.specs.Scopes.{findParam, isLocal, path, link, linked,
 use Rattle.meaning.proofs.PlainLaws.{inner-plain, inner-other}
 
 -- ---- parameters, from the last one down
-pub param-hit : (p : List ℕ) (params name i at w r : ℕ) → 0 < i → at ≡ paramPlace params (i - 1) → w ≡ getD p (at + 0) 0 → w ≡ name →
-    findParam i p params name ≡ r → i ≡ r
+pub param-hit : (p : List ℕ) (name i at w r : ℕ) → 0 < i → at ≡ paramPlace (i - 1) → w ≡ getD p (at + 0) 0 → w ≡ name →
+    findParam i p name ≡ r → i ≡ r
 unfolding findParam if_then_else_
-param-hit p params name zero at w r h a g q e = absurd (omega arith)
-param-hit p params name (suc i) at w r h a g q e =
+param-hit p name zero at w r h a g q e = absurd (omega arith)
+param-hit p name (suc i) at w r h a g q e =
     let d : suc i - 1 ≡ i = omega arith in
-    let f : eqb (getD p (paramPlace params i + 0) 0) name ≡ true = rw (← d, ← a, ← g) (eq-eqb w name q) in
+    let f : eqb (getD p (paramPlace i + 0) 0) name ≡ true = rw (← d, ← a, ← g) (eq-eqb w name q) in
     rw f at e
 
-pub param-miss : (p : List ℕ) (params name i at w r : ℕ) → 0 < i → at ≡ paramPlace params (i - 1) → w ≡ getD p (at + 0) 0 → (w ≡ name → ⊥) →
-    findParam i p params name ≡ r → findParam (i - 1) p params name ≡ r
+pub param-miss : (p : List ℕ) (name i at w r : ℕ) → 0 < i → at ≡ paramPlace (i - 1) → w ≡ getD p (at + 0) 0 → (w ≡ name → ⊥) →
+    findParam i p name ≡ r → findParam (i - 1) p name ≡ r
 unfolding findParam if_then_else_
-param-miss p params name zero at w r h a g q e = absurd (omega arith)
-param-miss p params name (suc i) at w r h a g q e =
+param-miss p name zero at w r h a g q e = absurd (omega arith)
+param-miss p name (suc i) at w r h a g q e =
     let d : suc i - 1 ≡ i = omega arith in
-    let f : eqb (getD p (paramPlace params i + 0) 0) name ≡ false = rw (← d, ← a, ← g) (ne-eqb w name q) in
+    let f : eqb (getD p (paramPlace i + 0) 0) name ≡ false = rw (← d, ← a, ← g) (ne-eqb w name q) in
     rw d (rw f at e)
 
-pub param-end : (p : List ℕ) (params name i r : ℕ) → i ≤ 0 → findParam i p params name ≡ r → 0 ≡ r
+pub param-end : (p : List ℕ) (name i r : ℕ) → i ≤ 0 → findParam i p name ≡ r → 0 ≡ r
 unfolding findParam
-param-end p params name zero r h e = e
-param-end p params name (suc i) r h e = absurd (omega arith)
+param-end p name zero r h e = e
+param-end p name (suc i) r h e = absurd (omega arith)
 
 -- ---- temporaries, from the root on
 pub local-same : (w name scope : ℕ) → w % 65536 ≡ name → eqb (w / 1125899906842624) scope ≡ isLocal w name scope
@@ -177,8 +177,8 @@ module _ (s t : List ℕ) (name g : ℕ) (e : g ≡ global t name) where
   other-wrong z k = rw (← e, ne-eqb g 0 z, ne-eqb ((g - 1) % 8) 2 k)
 
 -- ---- what a name means
-module _ (s t p m : List ℕ) (e : Env) (st : State) (name i : ℕ) (f : i ≡ findParam (e .count) p (e .params) name) where
-  pub ident-param : (at : ℕ) (k : Slot) (x : ExprValue) → 0 < i → at ≡ paramPlace (e .params) (i - 1) → k ≡ slotAt p at → x ≡ ofSlot k → Meaning.Means x ≡ resolveIdent s t p m e st name
+module _ (s t p m : List ℕ) (e : Env) (st : State) (name i : ℕ) (f : i ≡ findParam (e .count) p name) where
+  pub ident-param : (at : ℕ) (k : Slot) (x : ExprValue) → 0 < i → at ≡ paramPlace (i - 1) → k ≡ slotAt p at → x ≡ ofSlot k → Meaning.Means x ≡ resolveIdent s t p m e st name
   unfolding resolveIdent paramOr if_then_else_
   ident-param at k x h a q r = rw (← f, lt-ltb 0 i h, ← a, ← q, r)
 

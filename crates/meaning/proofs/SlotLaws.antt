@@ -101,15 +101,15 @@ pub slot-at-law : (p : List ℕ) (at tag x y : ℕ) (a b : Value) → tag ≡ ge
 unfolding slotAt
 slot-at-law p at tag x y a b e1 e2 e3 e4 e5 = rw (← e1, ← e2, ← e3, ← e4, ← e5)
 
-pub param-place-law : (params i : ℕ) → params % 2048 + i % 8 * 8 ≡ paramPlace params i
+pub param-place-law : (i : ℕ) → i % 8 * 8 ≡ paramPlace i
 unfolding paramPlace
-param-place-law params i = refl
+param-place-law i = refl
 
-pub arg-at-law : (args : List ℕ) (i at : ℕ) (k : Slot) (r : ExprValue) → at ≡ paramPlace 0 i → k ≡ slotAt args at → r ≡ ofSlot k → r ≡ argAt args i
+pub arg-at-law : (args : List ℕ) (i at : ℕ) (k : Slot) (r : ExprValue) → at ≡ paramPlace i → k ≡ slotAt args at → r ≡ ofSlot k → r ≡ argAt args i
 unfolding argAt
 arg-at-law args i at k r e1 e2 e = rw (← e1, ← e2) e
 
-pub put-arg-law : (args r : List ℕ) (i at : ℕ) (k : Slot) (x : ExprValue) → at ≡ paramPlace 0 i → k ≡ slotOf x → r ≡ putSlot args at k → r ≡ putArg args i x
+pub put-arg-law : (args r : List ℕ) (i at : ℕ) (k : Slot) (x : ExprValue) → at ≡ paramPlace i → k ≡ slotOf x → r ≡ putSlot args at k → r ≡ putArg args i x
 unfolding putArg
 put-arg-law args r i at k x e1 e2 e = rw (← e1, ← e2) e
 

@@ -21,10 +21,10 @@ use Rattle.meaning.specs.declared.scope.Meaning.{Meaning}
 use Rattle.meaning.specs.Slots.{ofSlot, slotAt, paramPlace}
 
 -- one more than the number of the last of so many parameters that has the name, or 0
-unfoldable pub findParam : ℕ → List ℕ → ℕ → ℕ → ℕ
-findParam zero p params name = 0
-findParam (suc i) p params name =
-    if eqb (getD p (paramPlace params i + 0) 0) name then suc i else findParam i p params name
+unfoldable pub findParam : ℕ → List ℕ → ℕ → ℕ
+findParam zero p name = 0
+findParam (suc i) p name =
+    if eqb (getD p (paramPlace i + 0) 0) name then suc i else findParam i p name
 
 -- whether a temporary's word has this name in this scope
 unfoldable pub isLocal : ℕ → ℕ → ℕ → Bool
@@ -144,12 +144,12 @@ innerMeaning s t m e st name =
     else foundOr (lookupLocal t m (e .scope) (st .temporaries) name) (globalMeaning s t (global t name))
 
 -- parameter number i - 1, unless i is 0
-unfoldable pub paramOr : ℕ → List ℕ → Env → Meaning → Meaning
-paramOr i p e other = if ltb 0 i then Meaning.Means (ofSlot (slotAt p (paramPlace (e .params) (i - 1)))) else other
+unfoldable pub paramOr : ℕ → List ℕ → Meaning → Meaning
+paramOr i p other = if ltb 0 i then Meaning.Means (ofSlot (slotAt p (paramPlace (i - 1)))) else other
 
 unfoldable pub resolveIdent : List ℕ → List ℕ → List ℕ → List ℕ → Env → State → ℕ → Meaning
 resolveIdent s t p m e st name =
-    paramOr (findParam (e .count) p (e .params) name) p e (innerMeaning s t m e st name)
+    paramOr (findParam (e .count) p name) p (innerMeaning s t m e st name)
 
 -- A plain local as one number. 0 and 1 are left for what is none.
 abbrev pub plain : ℕ → ℕ → ℕ
@@ -180,7 +180,7 @@ plainInner s t m e st name =
 -- what a name means, where that is a plain local or wrong; 0 for a parameter
 unfoldable pub plainLocal : List ℕ → List ℕ → List ℕ → List ℕ → Env → State → ℕ → ℕ
 plainLocal s t p m e st name =
-    if ltb 0 (findParam (e .count) p (e .params) name) then 0 else plainInner s t m e st name
+    if ltb 0 (findParam (e .count) p name) then 0 else plainInner s t m e st name
 
 -- 21 where there was one of this name, else the words that it is attached in
 unfoldable pub undeclared : Found → Value → State → List ℕ → List ℕ → Listed Read

@@ -46,12 +46,12 @@ unfoldable pub slotAt : List ℕ → ℕ → Slot
 slotAt p at = slot (getD p (at + 1) 0) (getD p (at + 2) 0) (getD p (at + 3) 0) (valueAt p at 4) (valueAt p at 6)
 
 -- where the slot of parameter i stands
-unfoldable pub paramPlace : ℕ → ℕ → ℕ
-paramPlace params i = params % 2048 + i % 8 * 8
+unfoldable pub paramPlace : ℕ → ℕ
+paramPlace i = i % 8 * 8
 
 -- slot i of a list of arguments
 unfoldable pub argAt : List ℕ → ℕ → ExprValue
-argAt args i = ofSlot (slotAt args (paramPlace 0 i))
+argAt args i = ofSlot (slotAt args (paramPlace i))
 
 unfoldable pub putArg : List ℕ → ℕ → ExprValue → List ℕ
-putArg args i x = putSlot args (paramPlace 0 i) (slotOf x)
+putArg args i x = putSlot args (paramPlace i) (slotOf x)

@@ -17,11 +17,11 @@ pub enum Args {
 pub fn put_arg(args: &mut [u64], i: u64, x: ExprValue)
     ensures { λ _. ⌜ now (args .exit) ≡ putArg (now (args .entry)) i x ⌝ }
 {
-    put_slot(args, param_place(0, i as usize), slot_of(x));
+    put_slot(args, param_place(i as usize), slot_of(x));
 }
 
 pub fn arg_at(args: &[u64], i: u64) -> ExprValue
     ensures { λ r. ⌜ r ≡ argAt (now (args .entry)) i ⌝ }
 {
-    of_slot(slot_at(args, param_place(0, i as usize)))
+    of_slot(slot_at(args, param_place(i as usize)))
 }

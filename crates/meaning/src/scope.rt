@@ -163,20 +163,20 @@ pub fn slot_at(p: &[u64], at: usize) -> Slot
     }
 }
 
-// Where the slot of parameter i stands: eight words each, from a place on.
-pub fn param_place(params: usize, i: usize) -> usize
-    ensures { λ r. ⌜ r ≡ paramPlace params i ⌝ }
+// Where the slot of parameter i stands: eight words each.
+pub fn param_place(i: usize) -> usize
+    ensures { λ r. ⌜ r ≡ paramPlace i ⌝ }
 {
-    params % 2048 + i % 8 * 8
+    i % 8 * 8
 }
 
 // One more than the number of the last parameter of that name, or 0.
-fn find_param(p: &[u64], params: usize, count: usize, name: u64) -> usize
-    ensures { λ r. ⌜ r ≡ findParam count (now (p .entry)) params name ⌝ }
+fn find_param(p: &[u64], count: usize, name: u64) -> usize
+    ensures { λ r. ⌜ r ≡ findParam count (now (p .entry)) name ⌝ }
 {
     let mut i = count;
     while 0 < i {
-        if get(p, param_place(params, i - 1), 0) == name {
+        if get(p, param_place(i - 1), 0) == name {
             return i;
         }
         i -= 1;
@@ -374,7 +374,7 @@ pub fn plain_local(
 ) -> u64
     ensures { λ r. ⌜ r ≡ plainLocal (now (s .entry)) (now (t .entry)) (now (p .entry)) (now (m .entry)) e st name ⌝ }
 {
-    if 0 < find_param(p, e.params, e.count, name) {
+    if 0 < find_param(p, e.count, name) {
         return 0;
     }
     plain_inner(s, t, m, e, st, name)
@@ -405,9 +405,9 @@ pub fn resolve_ident(
 ) -> Meaning
     ensures { λ r. ⌜ r ≡ resolveIdent (now (s .entry)) (now (t .entry)) (now (p .entry)) (now (m .entry)) e st name ⌝ }
 {
-    let i = find_param(p, e.params, e.count, name);
+    let i = find_param(p, e.count, name);
     if 0 < i {
-        return Meaning::Means(of_slot(slot_at(p, param_place(e.params, i - 1))));
+        return Meaning::Means(of_slot(slot_at(p, param_place(i - 1))));
     }
     let q = plain_inner(s, t, m, e, st, name);
     if 8 <= q {

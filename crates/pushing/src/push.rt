@@ -20,11 +20,10 @@ pub struct State {
     pub sizing: Sizing,
 }
 
-// What a walk is given: the pointer size, the scope's number and where its parameters stand.
+// What a walk is given: the pointer size, the scope's number and how many parameters it has.
 pub struct Env {
     pub pointer: u64,
     pub scope: u64,
-    pub params: usize,
     pub count: usize,
 }
 

@@ -34,7 +34,7 @@ atStart subtables = record {
 }
 
 abbrev pub startEnv : ℕ → Env
-startEnv ptr = record { pointer = ptr; scope = 0; params = 0; count = 0 }
+startEnv ptr = record { pointer = ptr; scope = 0; count = 0 }
 
 -- without the labels
 unfoldable pub withoutL : Walked → Stepped

@@ -62,7 +62,6 @@ fn start_env(ptr: u64) -> Env
     Env {
         pointer: ptr,
         scope: 0,
-        params: 0,
         count: 0,
     }
 }

@@ -82,7 +82,7 @@ args-end n i s t a m args e st B h q = let z : n - i ≡ 0 = omega arith in rw z
 
 module _ (n i : ℕ) (s t a m args : List ℕ) (e : Env) (st : State) (B : ArgsRead) (h : i < n) (inv : readArgs (n - i) i s t a m args e st ≡ B) (x : ExprValue) (ex : x ≡ argAt args i) (r : Read) (a1 m1 : List ℕ)
     (f : read r a1 m1 ≡ readOperand s t a m e x st) where
-  one : onRead (read r a1 m1) (λ v st1 b u. readArgs (n - (i + 1)) (suc i) s t b u (putValue args (paramPlace 0 i) 4 v) e st1) (λ k b u. argsRead (Pushed.No k) b u args) ≡ B
+  one : onRead (read r a1 m1) (λ v st1 b u. readArgs (n - (i + 1)) (suc i) s t b u (putValue args (paramPlace i) 4 v) e st1) (λ k b u. argsRead (Pushed.No k) b u args) ≡ B
   unfolding readArgs
   one = rw (f, ex) (rw (less n i h) at inv)
 
@@ -90,13 +90,13 @@ module _ (n i : ℕ) (s t a m args : List ℕ) (e : Env) (st : State) (B : ArgsR
   unfolding onRead
   args-stop k q = rw q at one
 
-  pub args-next : (v : Value) (st1 : State) (at : ℕ) (args1 : List ℕ) → r ≡ Read.Value v st1 → at ≡ paramPlace 0 i → args1 ≡ putValue args at 4 v → readArgs (n - (i + 1)) (i + 1) s t a1 m1 args1 e st1 ≡ B
+  pub args-next : (v : Value) (st1 : State) (at : ℕ) (args1 : List ℕ) → r ≡ Read.Value v st1 → at ≡ paramPlace i → args1 ≡ putValue args at 4 v → readArgs (n - (i + 1)) (i + 1) s t a1 m1 args1 e st1 ≡ B
   unfolding onRead
   args-next v st1 at args1 q ea eb =
       let o : i + 1 ≡ suc i = omega arith in
       rw (eb, ea, o) (rw (q, o) at one)
 
-pub input-law : (at : ℕ) (args : List ℕ) (i : ℕ) (a a1 : List ℕ) (k : ℕ) (v : Value) → k ≡ paramPlace 0 i → v ≡ valueAt args k 4 → a1 ≡ putValue a at (6 + 2 * (i % 8)) v → a1 ≡ writeInput at args i a
+pub input-law : (at : ℕ) (args : List ℕ) (i : ℕ) (a a1 : List ℕ) (k : ℕ) (v : Value) → k ≡ paramPlace i → v ≡ valueAt args k 4 → a1 ≡ putValue a at (6 + 2 * (i % 8)) v → a1 ≡ writeInput at args i a
 unfolding writeInput
 input-law at args i a a1 k v ek ev h = rw (← ek, ← ev) h
 
@@ -149,7 +149,7 @@ module _ (c : Called) (s t p a m : List ℕ) (e : Env) (pos n : ℕ) (w : Walk) 
   call-none q k h = rw (ne-eqb (c .kind) 0 q, ne-eqb (c .kind) 1 k, h)
 
 -- ---- what a macro is given
-pub bind-name-law : (s : List ℕ) (names i : ℕ) (args args1 : List ℕ) (name at : ℕ) → (name ≡ le16 s (names + i % 8 * 2)) × (name < 65536) → at ≡ paramPlace 0 i → args1 ≡ set args (at + 0) name → args1 ≡ bindName s names i args
+pub bind-name-law : (s : List ℕ) (names i : ℕ) (args args1 : List ℕ) (name at : ℕ) → (name ≡ le16 s (names + i % 8 * 2)) × (name < 65536) → at ≡ paramPlace i → args1 ≡ set args (at + 0) name → args1 ≡ bindName s names i args
 unfolding bindName
 bind-name-law s names i args args1 name at en ea h = rw (← en .0, ← ea) h
 

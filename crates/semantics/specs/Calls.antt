@@ -51,11 +51,11 @@ unfoldable pub readArgs : ℕ → ℕ → List ℕ → List ℕ → List ℕ →
 readArgs zero i s t a m args e st = argsRead (Pushed.Done st) a m args
 readArgs (suc k) i s t a m args e st =
     onRead (readOperand s t a m e (argAt args i) st)
-    (λ v st1 b u. readArgs k (suc i) s t b u (putValue args (paramPlace 0 i) 4 v) e st1)
+    (λ v st1 b u. readArgs k (suc i) s t b u (putValue args (paramPlace i) 4 v) e st1)
     (λ n b u. argsRead (Pushed.No n) b u args)
 
 unfoldable pub writeInput : ℕ → List ℕ → ℕ → List ℕ → List ℕ
-writeInput at args i a = putValue a at (6 + 2 * (i % 8)) (valueAt args (paramPlace 0 i) 4)
+writeInput at args i a = putValue a at (6 + 2 * (i % 8)) (valueAt args (paramPlace i) 4)
 
 -- the operands that n arguments became, as the inputs of the action at a position
 unfoldable pub writeInputs : ℕ → List ℕ → ℕ → List ℕ → List ℕ
@@ -96,7 +96,7 @@ macroAt t id = getD t (3072 + id % 128) 0
 
 -- argument i with the name of parameter i, which stands in a list of names
 unfoldable pub bindName : List ℕ → ℕ → ℕ → List ℕ → List ℕ
-bindName s names i args = set args (paramPlace 0 i + 0) (le16 s (names + i % 8 * 2))
+bindName s names i args = set args (paramPlace i + 0) (le16 s (names + i % 8 * 2))
 
 unfoldable pub bindNames : ℕ → List ℕ → ℕ → List ℕ → List ℕ
 bindNames n s names args = run n 0 (bindName s names) args

@@ -101,7 +101,7 @@ fn read_args(
         match read_operand(s, t, a, m, e, arg_at(args, i), st) {
             Read::No(k) => return Pushed::No(k),
             Read::Value { v, st: st1 } => {
-                put_value(args, param_place(0, i as usize), 4, v);
+                put_value(args, param_place(i as usize), 4, v);
                 st = st1;
             }
         }
@@ -114,7 +114,7 @@ fn write_inputs(a: &mut [u64], at: usize, args: &[u64], n: u64)
     ensures { λ _. ⌜ now (a .exit) ≡ writeInputs n (now (a .entry)) at (now (args .entry)) ⌝ }
 {
     for i in 0..n {
-        let v = value_at(args, param_place(0, i as usize), 4);
+        let v = value_at(args, param_place(i as usize), 4);
         put_value(a, at, 6 + 2 * (i % 8) as usize, v);
     }
 }
@@ -211,7 +211,7 @@ fn bind_names(s: &[u8], args: &mut [u64], names: usize, n: usize)
 {
     for i in 0..n {
         let name = u16_in(s, names, i % 8 * 2);
-        put(args, param_place(0, i), 0, name);
+        put(args, param_place(i), 0, name);
     }
 }
 

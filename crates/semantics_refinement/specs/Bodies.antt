@@ -80,7 +80,7 @@ module _ (s t : List ℕ) (e : Env) (front tail rest : List ℕ) (spare : ℕ) w
   -- and so do those of the macro with that number, called with these arguments as its parameters
   pub record EnterFollows (deep : ℕ) : Type 0 where
     pub follows : (we : WordEnv) (p ls marks : List ℕ) (b : Beside) (st : State) (ordinal : ℕ) → Begun we p ls marks b st ordinal → (ws : WordState) → ws .sizing .begun ≡ ordinal
-        → (id : ℕ) (m : Macro) (args : List ℕ) (xs : List ExprValue) (n next : ℕ) → getElem? (e .section .macros) id ≡ some m → n ≡ length (m .params) → length xs ≡ length (m .params) → ParamsIn args 0 (scope.bindParams (m .params) xs [])
+        → (id : ℕ) (m : Macro) (args : List ℕ) (xs : List ExprValue) (n next : ℕ) → getElem? (e .section .macros) id ≡ some m → n ≡ length (m .params) → length xs ≡ length (m .params) → ParamsIn args (scope.bindParams (m .params) xs [])
         → Each (SoundX (e .section) (count st)) xs → Each (ExprFits e (count st)) xs
         → Follows s t e front tail rest we spare p ls marks b st next
         (enterMacro deep s t ls (acts (e .section) front tail marks rest st) (temps (e .section) front tail marks rest st) we id args n next (word (e .section) front tail marks rest st) (walkOf b ws))
@@ -185,7 +185,7 @@ module _ (s t : List ℕ) (e : Env) (front tail rest : List ℕ) (spare : ℕ) w
 -- a macro entered with a level left
 module _ (s t : List ℕ) (e : Env) (front tail rest : List ℕ) (spare : ℕ) (limits : WithinLimits (e .section)) (deep : ℕ) (statements : StatementFollows s t e front tail rest spare deep)
     (we : WordEnv) (p ls marks : List ℕ) (b : Beside) (st : State) (ordinal : ℕ) (h : Begun s t e front tail rest spare we p ls marks b st ordinal) (ws : WordState)
-    (id : ℕ) (m : Macro) (args : List ℕ) (xs : List ExprValue) (next : ℕ) (is : getElem? (e .section .macros) id ≡ some m) (enough : length xs ≡ length (m .params)) (held : ParamsIn args 0 (scope.bindParams (m .params) xs []))
+    (id : ℕ) (m : Macro) (args : List ℕ) (xs : List ExprValue) (next : ℕ) (is : getElem? (e .section .macros) id ≡ some m) (enough : length xs ≡ length (m .params)) (held : ParamsIn args (scope.bindParams (m .params) xs []))
     (sound : Each (SoundX (e .section) (count st)) xs) (fits : Each (ExprFits e (count st)) xs) where
   standing : Standing s t e front tail rest we spare p ls marks b st
   standing = h .between .standing

@@ -107,7 +107,7 @@ module _ (s t : List ℕ) (e : Env) (front tail rest : List ℕ) (spare : ℕ) (
   abbrev bound : List ExprValue → List ℕ
   bound xs = bindNames n s (after (macroAt t id) 1) (filledArgs (replicate 64 0) 0 xs)
 
-  bound-params : (xs : List ExprValue) (k : ℕ) → Each (SoundX (e .section) k) xs → length xs ≡ n → length (m .params) ≡ n → ParamsIn (bound xs) 0 (scope.bindParams (m .params) xs [])
+  bound-params : (xs : List ExprValue) (k : ℕ) → Each (SoundX (e .section) k) xs → length xs ≡ n → length (m .params) ≡ n → ParamsIn (bound xs) (scope.bindParams (m .params) xs [])
   bound-params xs k sound many same =
       let macro = parts s t (e .section) holds id m is in
       let at : after (getD t (3072 + id) 0) 1 ≡ getD t (3072 + id) 0 + 1 = after-is (getD t (3072 + id) 0) 1 (omega (arith, macro .body-inside, given .short)) (omega arith) in

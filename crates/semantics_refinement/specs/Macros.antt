@@ -35,16 +35,16 @@ opening b = record { labels = b .labels; placed = b .placed; statements = b .sta
 
 -- Parameters: argument i gets the name of parameter i.
 
-place-apart : (i j k : ℕ) → 0 < k → k < 8 → paramPlace 0 j + k ≢ paramPlace 0 i + 0
+place-apart : (i j k : ℕ) → 0 < k → k < 8 → paramPlace j + k ≢ paramPlace i + 0
 unfolding paramPlace
 place-apart i j k h l z = omega arith
 
 module _ (s : List ℕ) (names : ℕ) where
-  name-kept : (i j k : ℕ) (args : List ℕ) → 0 < k → k < 8 → getD (bindName s names i args) (paramPlace 0 j + k) 0 ≡ getD args (paramPlace 0 j + k) 0
+  name-kept : (i j k : ℕ) (args : List ℕ) → 0 < k → k < 8 → getD (bindName s names i args) (paramPlace j + k) 0 ≡ getD args (paramPlace j + k) 0
   unfolding bindName
-  name-kept i j k args h l = getD-set-other args (paramPlace 0 i + 0) (paramPlace 0 j + k) (le16 s (names + i % 8 * 2)) 0 (place-apart i j k h l)
+  name-kept i j k args h l = getD-set-other args (paramPlace i + 0) (paramPlace j + k) (le16 s (names + i % 8 * 2)) 0 (place-apart i j k h l)
 
-  slot-kept : (i j : ℕ) (args : List ℕ) → slotAt (bindName s names i args) (paramPlace 0 j) ≡ slotAt args (paramPlace 0 j)
+  slot-kept : (i j : ℕ) (args : List ℕ) → slotAt (bindName s names i args) (paramPlace j) ≡ slotAt args (paramPlace j)
   unfolding slotAt valueAt
   slot-kept i j args = rw (
     name-kept i j 1 args (omega arith) (omega arith),
@@ -62,25 +62,25 @@ module _ (s : List ℕ) (names : ℕ) where
 
   name-length : (i : ℕ) (args : List ℕ) → length (bindName s names i args) ≡ length args
   unfolding bindName
-  name-length i args = length-set args (paramPlace 0 i + 0) (le16 s (names + i % 8 * 2))
+  name-length i args = length-set args (paramPlace i + 0) (le16 s (names + i % 8 * 2))
 
   name-before : (i : ℕ) (args : List ℕ) (j : ℕ) → i < 8 → j < 8 * i → getD (bindName s names i args) j 0 ≡ getD args j 0
   unfolding bindName paramPlace
-  name-before i args j few h = getD-set-other args (0 % 2048 + i % 8 * 8 + 0) j (le16 s (names + i % 8 * 2)) 0 (λ q. omega arith)
+  name-before i args j few h = getD-set-other args (i % 8 * 8 + 0) j (le16 s (names + i % 8 * 2)) 0 (λ q. omega arith)
 
-  name-at : (i : ℕ) (args : List ℕ) → 64 ≤ length args → getD (bindName s names i args) (paramPlace 0 i + 0) 0 ≡ le16 s (names + i % 8 * 2)
+  name-at : (i : ℕ) (args : List ℕ) → 64 ≤ length args → getD (bindName s names i args) (paramPlace i + 0) 0 ≡ le16 s (names + i % 8 * 2)
   unfolding bindName paramPlace
-  name-at i args long = getD-set-same args (0 % 2048 + i % 8 * 8 + 0) (le16 s (names + i % 8 * 2)) 0 (omega arith)
+  name-at i args long = getD-set-same args (i % 8 * 8 + 0) (le16 s (names + i % 8 * 2)) 0 (omega arith)
 
   bound-from : (ns : List ℕ) (xs : List ExprValue) (i : ℕ) (bound : List (ℕ × ExprValue)) (args : List ℕ) → length bound ≡ i → i + length ns ≤ 8 → length xs ≡ length ns → 64 ≤ length args
-      → ((j : ℕ) → j < length ns → getElem? ns j ≡ some (le16 s (names + 2 * (i + j)))) → ArgsIn args i xs → ParamsIn args 0 bound → ParamsIn (run (length ns) i (bindName s names) args) 0 (scope.bindParams ns xs bound)
+      → ((j : ℕ) → j < length ns → getElem? ns j ≡ some (le16 s (names + 2 * (i + j)))) → ArgsIn args i xs → ParamsIn args bound → ParamsIn (run (length ns) i (bindName s names) args) (scope.bindParams ns xs bound)
   unfolding run scope.bindParams
   bound-from [] xs i bound args l few same long named g h = h
   bound-from (n ∷ ns) [] i bound args l few same long named g h = absurd (omega arith)
   bound-from (n ∷ ns) (x ∷ xs) i bound args l few same long named g h =
       bound-from ns xs (suc i) ((n, x) ∷ bound) (bindName s names i args) (ap suc l) (omega arith) (omega arith) (rw (name-length i args) long)
       (λ j k. named (suc j) (omega arith) ∙ further j) (args-kept i (suc i) xs args (g .1))
-      (rw l (name-at i args long ∙ sym name), rw l (ap ofSlot (slot-kept i i args) ∙ (unfold argAt in g .0)), params-same args (bindName s names i args) 0 bound (λ j a b. name-before i args j (omega arith) (omega arith)) h)
+      (rw l (name-at i args long ∙ sym name), rw l (ap ofSlot (slot-kept i i args) ∙ (unfold argAt in g .0)), params-same args (bindName s names i args) bound (λ j a b. name-before i args j (omega arith) (omega arith)) h)
     where
       further : (j : ℕ) → some (le16 s (names + 2 * (i + suc j))) ≡ some (le16 s (names + 2 * (suc i + j)))
       further j = let z : i + suc j ≡ suc i + j = omega arith in rw z
@@ -94,7 +94,7 @@ module _ (s : List ℕ) (names : ℕ) where
 
   -- the arguments with all names are the parameters
   pub bound-in : (ns : List ℕ) (xs : List ExprValue) (args : List ℕ) → length ns ≤ 8 → length xs ≡ length ns → 64 ≤ length args → ((j : ℕ) → j < length ns → getElem? ns j ≡ some (le16 s (names + 2 * j)))
-      → ArgsIn args 0 xs → ParamsIn (bindNames (length ns) s names args) 0 (scope.bindParams ns xs [])
+      → ArgsIn args 0 xs → ParamsIn (bindNames (length ns) s names args) (scope.bindParams ns xs [])
   unfolding bindNames
   bound-in ns xs args few same long named g = bound-from ns xs 0 [] args refl (omega arith) same long (λ j k. named j k ∙ (let z : j ≡ 0 + j = omega arith in ap (λ (i : ℕ). some (le16 s (names + 2 * i))) z)) g tt
 
@@ -126,7 +126,7 @@ module _ (s t : List ℕ) (e : Env) (front tail rest : List ℕ) (we : WordEnv) 
   not-own j h z = let a = standing .opened j h in absurd (omega arith)
 
   -- what the words and the state have in common when the body begins
-  module _ (opens : b .scopes < b .statements) (params : ParamsIn args 0 (x .params)) (counted : n ≡ length (x .params))
+  module _ (opens : b .scopes < b .statements) (params : ParamsIn args (x .params)) (counted : n ≡ length (x .params))
       (sound : Each (λ (y : ℕ × ExprValue). SoundX (e .section) (count st) (y .1)) (x .params)) (mapping : x .mapping ≡ []) (labels : x .labels ≡ []) where
     nothing : (name : ℕ) → find name (x .mapping) ≡ none
     nothing name = rw mapping (unfold find first in refl)

@@ -29,22 +29,22 @@ pub slot-same : (p q : List ℕ) (at : ℕ) → ((i : ℕ) → i < at + 8 → ge
 unfolding slotAt valueAt
 slot-same p q at h = rw (h (at + 1) (omega arith), h (at + 2) (omega arith), h (at + 3) (omega arith), h (at + 4) (omega arith), h (at + 5) (omega arith), h (at + 6) (omega arith), h (at + 7) (omega arith))
 
-place-below : (params i : ℕ) → paramPlace params i + 8 ≤ params + 64
+place-below : (i : ℕ) → paramPlace i + 8 ≤ 64
 unfolding paramPlace
-place-below params i = omega arith
+place-below i = omega arith
 
-place-within : (params i : ℕ) → paramPlace params i + 8 ≤ params + 8 * suc i
+place-within : (i : ℕ) → paramPlace i + 8 ≤ 8 * suc i
 unfolding paramPlace
-place-within params i = omega arith
+place-within i = omega arith
 
-pub params-same : (p q : List ℕ) (params : ℕ) (ps : List (ℕ × ExprValue)) → ((i : ℕ) → i < params + 64 → i < params + 8 * length ps → getD q i 0 ≡ getD p i 0) → ParamsIn p params ps → ParamsIn q params ps
-params-same p q params [] h g = tt
-params-same p q params (x ∷ xs) h g =
-    let l = place-below params (length xs) in
-    let k = place-within params (length xs) in (
-      h (paramPlace params (length xs) + 0) (omega arith) (omega arith) ∙ g .0,
-      rw (slot-same p q (paramPlace params (length xs)) (λ i j. h i (omega arith) (omega arith))) (g .1),
-      params-same p q params xs (λ i a b. h i a (omega arith)) (g .2),
+pub params-same : (p q : List ℕ) (ps : List (ℕ × ExprValue)) → ((i : ℕ) → i < 64 → i < 8 * length ps → getD q i 0 ≡ getD p i 0) → ParamsIn p ps → ParamsIn q ps
+params-same p q [] h g = tt
+params-same p q (x ∷ xs) h g =
+    let l = place-below (length xs) in
+    let k = place-within (length xs) in (
+      h (paramPlace (length xs) + 0) (omega arith) (omega arith) ∙ g .0,
+      rw (slot-same p q (paramPlace (length xs)) (λ i j. h i (omega arith) (omega arith))) (g .1),
+      params-same p q xs (λ i a b. h i a (omega arith)) (g .2),
     )
 
 -- Locals.

@@ -55,7 +55,7 @@ use Rattle.semantics_refinement.specs.Stepping.{steps-goes}
 -- the arguments' values stand in their slots, the first of these in slot i
 abbrev ValuesIn : List ℕ → ℕ → List Value → Type 0
 ValuesIn args i [] = Unit {0}
-ValuesIn args i (v ∷ vs) = (valueAt args (paramPlace 0 i) 4 ≡ encV v) × ValuesIn args (suc i) vs
+ValuesIn args i (v ∷ vs) = (valueAt args (paramPlace i) 4 ≡ encV v) × ValuesIn args (suc i) vs
 
 inputs-length : (vs : List Value) → length (inputWords vs) ≡ 2 * length vs
 unfolding inputWords valueWords
@@ -63,7 +63,7 @@ inputs-length [] = refl
 inputs-length (v ∷ vs) = let h = inputs-length vs in omega arith
 
 -- writing the inputs, one word after another
-input-written : (sec : Section) (n : ℕ) (v : Value) (i at : ℕ) (args a : List ℕ) → i < 8 → valueAt args (paramPlace 0 i) 4 ≡ encV v → Sound sec n v → writeInput at args i a ≡ set (set a (at + (6 + 2 * i)) (v .number)) (at + suc (6 + 2 * i)) (packed v)
+input-written : (sec : Section) (n : ℕ) (v : Value) (i at : ℕ) (args a : List ℕ) → i < 8 → valueAt args (paramPlace i) 4 ≡ encV v → Sound sec n v → writeInput at args i a ≡ set (set a (at + (6 + 2 * i)) (v .number)) (at + suc (6 + 2 * i)) (packed v)
 unfolding writeInput putValue
 input-written sec n v i at args a h g f =
     let p : 6 + 2 * (i % 8) ≡ 6 + 2 * i = omega arith in
@@ -211,11 +211,11 @@ put-other : (args : List ℕ) (at q : ℕ) (v : WordValue) → (q ≡ at + 4 →
 unfolding putValue
 put-other args at q v h k = getD-set-other (set args (at + 4) (v .number)) (at + 5) q (word v) 0 k ∙ getD-set-other args (at + 4) q (v .number) 0 h
 
-slot-place : (i : ℕ) → i < 8 → paramPlace 0 i ≡ 8 * i
+slot-place : (i : ℕ) → i < 8 → paramPlace i ≡ 8 * i
 unfolding paramPlace
 slot-place i h = omega arith
 
-arg-kept : (args : List ℕ) (i j : ℕ) (v : WordValue) → i < 8 → j < 8 → i < j → argAt (putValue args (paramPlace 0 i) 4 v) j ≡ argAt args j
+arg-kept : (args : List ℕ) (i j : ℕ) (v : WordValue) → i < 8 → j < 8 → i < j → argAt (putValue args (paramPlace i) 4 v) j ≡ argAt args j
 unfolding argAt slotAt valueAt
 arg-kept args i j v h k l =
     rw (slot-place i h, slot-place j k)
@@ -224,21 +224,21 @@ arg-kept args i j v h k l =
     other : (n : ℕ) → n < 8 → getD (putValue args (8 * i) 4 v) (8 * j + n) 0 ≡ getD args (8 * j + n) 0
     other n m = put-other args (8 * i) (8 * j + n) v (λ q. omega arith) (λ q. omega arith)
 
-args-kept : (xs : List ExprValue) (args : List ℕ) (i j : ℕ) (v : WordValue) → i < j → j + length xs ≤ 8 → ArgsIn args j xs → ArgsIn (putValue args (paramPlace 0 i) 4 v) j xs
+args-kept : (xs : List ExprValue) (args : List ℕ) (i j : ℕ) (v : WordValue) → i < j → j + length xs ≤ 8 → ArgsIn args j xs → ArgsIn (putValue args (paramPlace i) 4 v) j xs
 args-kept [] args i j v h k g = tt
 args-kept (x ∷ xs) args i j v h k g = (arg-kept args i j v (omega arith) (omega arith) h ∙ g .0, args-kept xs args i (suc j) v (omega arith) (omega arith) (g .1))
 
 -- the values written, the first in slot i
 unfoldable readInto : List ℕ → ℕ → List Value → List ℕ
 readInto args i [] = args
-readInto args i (v ∷ vs) = readInto (putValue args (paramPlace 0 i) 4 (encV v)) (suc i) vs
+readInto args i (v ∷ vs) = readInto (putValue args (paramPlace i) 4 (encV v)) (suc i) vs
 
 read-before : (vs : List Value) (args : List ℕ) (i q : ℕ) → q < 8 * i + 4 → i + length vs ≤ 8 → getD (readInto args i vs) q 0 ≡ getD args q 0
 unfolding readInto
 read-before [] args i q h k = refl
 read-before (v ∷ vs) args i q h k =
-    read-before vs (putValue args (paramPlace 0 i) 4 (encV v)) (suc i) q (omega arith) (omega arith)
-    ∙ put-other args (paramPlace 0 i) q (encV v) (λ z. let p = slot-place i (omega arith) in omega arith) (λ z. let p = slot-place i (omega arith) in omega arith)
+    read-before vs (putValue args (paramPlace i) 4 (encV v)) (suc i) q (omega arith) (omega arith)
+    ∙ put-other args (paramPlace i) q (encV v) (λ z. let p = slot-place i (omega arith) in omega arith) (λ z. let p = slot-place i (omega arith) in omega arith)
 
 put-same : (args : List ℕ) (at : ℕ) (v : WordValue) → at + 8 ≤ length args → (getD (putValue args at 4 v) (at + 4) 0 ≡ v .number) × (getD (putValue args at 4 v) (at + 5) 0 ≡ word v)
 unfolding putValue
@@ -255,16 +255,16 @@ unfolding readInto valueAt
 read-values sec n [] args i h k f = tt
 read-values sec n (v ∷ vs) args i h k f = (
   here,
-  read-values sec n vs (putValue args (paramPlace 0 i) 4 (encV v)) (suc i) (put-long args (paramPlace 0 i) (encV v) ∙ h) (omega arith) (f .1),
+  read-values sec n vs (putValue args (paramPlace i) 4 (encV v)) (suc i) (put-long args (paramPlace i) (encV v) ∙ h) (omega arith) (f .1),
 )
   where
-    here : valueAt (readInto (putValue args (paramPlace 0 i) 4 (encV v)) (suc i) vs) (paramPlace 0 i) 4 ≡ encV v
+    here : valueAt (readInto (putValue args (paramPlace i) 4 (encV v)) (suc i) vs) (paramPlace i) 4 ≡ encV v
     here =
         let p = slot-place i (omega arith) in
-        let a = read-before vs (putValue args (paramPlace 0 i) 4 (encV v)) (suc i) (paramPlace 0 i + 4) (omega arith) (omega arith) in
-        let b = read-before vs (putValue args (paramPlace 0 i) 4 (encV v)) (suc i) (paramPlace 0 i + 5) (omega arith) (omega arith) in
-        let c = put-same args (paramPlace 0 i) (encV v) (omega arith) in
-        ap (λ (x : ℕ). valueOf x (getD (readInto (putValue args (paramPlace 0 i) 4 (encV v)) (suc i) vs) (paramPlace 0 i + 5) 0)) (a ∙ c .0)
+        let a = read-before vs (putValue args (paramPlace i) 4 (encV v)) (suc i) (paramPlace i + 4) (omega arith) (omega arith) in
+        let b = read-before vs (putValue args (paramPlace i) 4 (encV v)) (suc i) (paramPlace i + 5) (omega arith) (omega arith) in
+        let c = put-same args (paramPlace i) (encV v) (omega arith) in
+        ap (λ (x : ℕ). valueOf x (getD (readInto (putValue args (paramPlace i) 4 (encV v)) (suc i) vs) (paramPlace i + 5) 0)) (a ∙ c .0)
         ∙ ap (λ (x : ℕ). valueOf (v .number) x) (b ∙ c .1 ∙ word-is v (f .0 .offset) (f .0 .size)) ∙ value-back v (f .0 .offset) (f .0 .size)
 
 -- the arguments' words, or the refusal
@@ -291,8 +291,8 @@ module _ (s t : List ℕ) (e : Env) (front tail marks rest : List ℕ) (we : Wor
       (read-operand s t e front tail marks rest we (below s t e front tail marks rest we given) spare room st f x (k .0)) (λ n a m. refl)
       λ v st1 r p.
       weaken (e .section) front tail marks rest spare spare st1 (readInto args i) (ReadBehind v (length xs)) (ReadAll (suc (length xs))) _ _
-      (refines-map (e .section) front tail marks rest spare e st1 (readInto (putValue args (paramPlace 0 i) 4 (encV v)) (suc i)) (ReadAll (length xs)) (readInto args i) (ReadBehind v (length xs)) (λ vs. v ∷ vs) _ _
-      (read-args xs (suc i) (putValue args (paramPlace 0 i) 4 (encV v)) (omega arith) (args-kept xs args i (suc i) (encV v) (omega arith) (omega arith) (g .1)) st1 (r .stood)
+      (refines-map (e .section) front tail marks rest spare e st1 (readInto (putValue args (paramPlace i) 4 (encV v)) (suc i)) (ReadAll (length xs)) (readInto args i) (ReadBehind v (length xs)) (λ vs. v ∷ vs) _ _
+      (read-args xs (suc i) (putValue args (paramPlace i) 4 (encV v)) (omega arith) (args-kept xs args i (suc i) (encV v) (omega arith) (omega arith) (g .1)) st1 (r .stood)
       (each-more (SoundX (e .section) (count st)) (SoundX (e .section) (count st1)) (x-more (e .section) (count st) (count st1) (r .later .temporaries)) xs (k .1)))
       (λ vs. unfold readInto in refl) (λ n vs q. (vs, refl, q)))
       (λ vs u m o q. (o, rw (q .1) ((sound-more (e .section) (count st1) (count u) (o .later .temporaries) v p, q .2 .0), ap suc (q .2 .1)))))

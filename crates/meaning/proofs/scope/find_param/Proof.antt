@@ -11,10 +11,10 @@ use native.Mathlib.Omega.{arith}
 use Rattle.meaning.specs.Scopes.{findParam}
 
 abbrev Inv-loop : tie.InvT-loop
-Inv-loop p params count name i₀ i = findParam i p params name ≡ findParam count p params name
+Inv-loop p count name i₀ i = findParam i p name ≡ findParam count p name
 
 abbrev μ-loop : tie.MeasureT-loop
-μ-loop p params count name i₀ i = i
+μ-loop p count name i₀ i = i
 
 -- src/scope.rt:149:5
 loop-holds : tie.Need-loop-holds Inv-loop μ-loop
@@ -34,7 +34,7 @@ get-requires c κs = search (scope-laws, needs)
 
 -- src/scope.rt:151:13
 returns : tie.Need-returns Inv-loop μ-loop
-returns c = param-hit _ _ _ _ _ _ _ (c .before .before .before .loop-test .taken) (c .before .before .param-place .ensures) (c .before .get .ensures) (c .if1 .taken) (c .before .before .before .before .loop .inv)
+returns c = param-hit _ _ _ _ _ _ (c .before .before .before .loop-test .taken) (c .before .before .param-place .ensures) (c .before .get .ensures) (c .if1 .taken) (c .before .before .before .before .loop .inv)
 
 -- src/scope.rt:153:9
 sub-i : tie.Need-sub-i Inv-loop μ-loop
@@ -46,11 +46,11 @@ loop-less c = omega arith
 
 -- src/scope.rt:149:5
 loop-again : tie.Need-loop-again Inv-loop μ-loop
-loop-again c = param-miss _ _ _ _ _ _ _ (c .before .before .before .loop-test .taken) (c .before .before .param-place .ensures) (c .before .get .ensures) (c .if1 .left) (c .before .before .before .before .loop .inv)
+loop-again c = param-miss _ _ _ _ _ _ (c .before .before .before .loop-test .taken) (c .before .before .param-place .ensures) (c .before .get .ensures) (c .if1 .left) (c .before .before .before .before .loop .inv)
 
 -- src/scope.rt:145:1
 returns-2 : tie.Need-returns-2 Inv-loop μ-loop
-returns-2 c = param-end _ _ _ _ _ (c .loop-test .left) (c .before .loop .inv)
+returns-2 c = param-end _ _ _ _ (c .loop-test .left) (c .before .loop .inv)
 
 pub find-param-spec : {M : Type 1} → statement M
 find-param-spec =

@@ -5,17 +5,13 @@ use Rattle.meaning.proofs.scope.param_place.Reads as reads
 use Rattle.meaning.proofs.scope.param_place.Lts as lts
 use Rattle.meaning.proofs.SlotLaws.{slot-laws}
 
--- src/scope.rt:141:21
+-- src/scope.rt:170:5
 mul-result : tie.Need-mul-result
 mul-result c = search (slot-laws, needs)
 
--- src/scope.rt:141:5
-add-result : tie.Need-add-result
-add-result c = search (slot-laws, needs)
-
--- src/scope.rt:138:1
+-- src/scope.rt:167:1
 returns : tie.Need-returns
 returns c = search (slot-laws, needs)
 
 pub param-place-spec : {M : Type 1} → statement M
-param-place-spec = tie.close (tie.spec mul-result add-result returns)
+param-place-spec = tie.close (tie.spec mul-result returns)
