@@ -10,9 +10,9 @@ use types.Run.{OneOf, miss}
 use denote.Enum.Declared.{tagOf}
 use borrow.Author.Tests.{eqb-true, eqb-false, eq-eqb, ne-eqb, lt-ltb, le-ltb}
 use Rattle.cells.specs.Le.{le16, le64}
-use Rattle.section.specs.declared.cursor.Cursor.{Cursor}
-use Rattle.section.specs.Cursors.{cursor}
-use Rattle.section.specs.Expressions as section
+use Rattle.syntax.specs.declared.cursor.Cursor.{Cursor}
+use Rattle.syntax.specs.Cursors.{cursor}
+use Rattle.syntax.specs.Expressions as section
 use Rattle.pcode.specs.declared.value.Value.{Value}
 use Rattle.pushing.specs.declared.push.State.{State}
 use Rattle.pushing.specs.declared.push.Env.{Env}

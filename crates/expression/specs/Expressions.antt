@@ -4,8 +4,8 @@ use mathlib.Core.List.{List}
 use lib.ListN.{getD, replicate}
 use lib.Dec.{eqb, ltb}
 use Rattle.cells.specs.Le.{le16, le64}
-use Rattle.section.specs.Cursors.{cursor}
-use Rattle.section.specs.Expressions as section
+use Rattle.syntax.specs.Cursors.{cursor}
+use Rattle.syntax.specs.Expressions as section
 use Rattle.pcode.specs.declared.value.Value.{Value}
 use Rattle.pushing.specs.declared.push.State.{State}
 use Rattle.pushing.specs.declared.push.Env.{Env}

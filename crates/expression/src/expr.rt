@@ -20,7 +20,7 @@ use pcode::value::local;
 use pushing::push::Env;
 use pushing::push::Read;
 use pushing::push::State;
-use section::cursor::Cursor;
+use syntax::cursor::Cursor;
 ghost use mathlib.Core.Path.{_≡_};
 ghost use Rattle.expression.specs.Answers.{after, resolved, operand, passed};
 ghost use Rattle.expression.specs.Expressions.{valueThen, meansAt, localAddress, addressOf, atom, plainAt, plainOperand, operationOf, later, skipExpr, operandsOf, apply1, apply2, partAt, withPart, exprValue, part, resolveOp, callInbuilt, resolveArgs, userOp, resolveCall, resolveExpr};
@@ -175,7 +175,7 @@ fn later(x: usize, y: usize) -> usize
 pub fn skip_expr(s: &[u8], pos: usize) -> usize
     ensures { λ r. ⌜ r ≡ skipExpr (now (s .entry)) pos ⌝ }
 {
-    let c = section::expressions::expr(
+    let c = syntax::expressions::expr(
         32,
         s,
         cells::u16_at(s, 2),

@@ -32,7 +32,7 @@ use Rattle.pushing.specs.declared.push.Read.{Read as WordRead}
 use Rattle.pcode.specs.Base.{if_then_else_}
 use Rattle.pcode.specs.Values.{absent}
 use Rattle.pushing.specs.Pushes.{ReadOut, read}
-use Rattle.section.specs.declared.cursor.Cursor.{Cursor}
+use Rattle.syntax.specs.declared.cursor.Cursor.{Cursor}
 use Rattle.section_refinement.specs.Holds.{Holds, absentAt, symbolWord}
 use Rattle.inbuilts.specs.Inbuilts.{inbuiltWords}
 use Rattle.section_refinement.specs.Inversion.{OpAt, CallAt, expr-begun, nothing-deeper, ident-at, integer-at, address-of-at, truncate-at, slice-bits-at, op-at, deref-at, constant-pool-at, call-at, arg-at, no-arg-at}

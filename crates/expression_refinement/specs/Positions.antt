@@ -12,10 +12,10 @@ use Rattle.definition.specs.Base.{if_then_else_}
 use Rattle.definition.specs.Ast.{PcodeExpr}
 use Rattle.definition.specs.SectionFile.{Parsed, parsed, refused, on, Read, choose, argsOf, exprWithin}
 use Rattle.definition.specs.SectionFile as d
-use Rattle.section.specs.declared.cursor.Cursor.{Cursor}
-use Rattle.section.specs.Cursors.{cursor, refuse, number, u8, u16, u16or, skip, run}
-use Rattle.section.specs.Expressions.{Kind, kindOf, afterCode, counted}
-use Rattle.section.specs.Expressions as section
+use Rattle.syntax.specs.declared.cursor.Cursor.{Cursor}
+use Rattle.syntax.specs.Cursors.{cursor, refuse, number, u8, u16, u16or, skip, run}
+use Rattle.syntax.specs.Expressions.{Kind, kindOf, afterCode, counted}
+use Rattle.syntax.specs.Expressions as section
 use Rattle.section_refinement.specs.Agree.{Agrees, went, stopped, Stuck, Any}
 use Rattle.section_refinement.specs.AgreeCode.{expr-agrees}
 use Rattle.section_refinement.specs.Inversion.{expr-begun, nothing-deeper}

@@ -2,7 +2,7 @@
 use crate::print::name;
 use crate::print::number;
 use crate::print::text;
-use section::cursor::Cursor;
+use syntax::cursor::Cursor;
 
 fn kind(code: u64) {
     match code {
@@ -23,7 +23,7 @@ fn kind(code: u64) {
 // Where statement n of those that begin at a place stands.
 fn place(s: &[u8], at: usize, n: u64) -> usize {
     let c = Cursor { at, bad: 0, val: 0 };
-    section::statements::body(s, cells::u16_at(s, 2), n, c).at
+    syntax::statements::body(s, cells::u16_at(s, 2), n, c).at
 }
 
 // The kind of statement n of those that begin at a place.

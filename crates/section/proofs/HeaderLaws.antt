@@ -4,10 +4,10 @@ use mathlib.Core.List.{List}
 use Prim.Native.Nat.{ℕ, suc, _≤_, _<_}
 use native.Mathlib.Omega.{arith}
 use Rattle.cells.specs.Le.{le16}
-use Rattle.section.specs.declared.cursor.Cursor.{Cursor}
-use Rattle.section.specs.Cursors.{cursor, u16, u16or, name}
+use Rattle.syntax.specs.declared.cursor.Cursor.{Cursor}
+use Rattle.syntax.specs.Cursors.{cursor, u16, u16or, name}
 use Rattle.section.specs.Headers.{globalCounts, counts, roles, header}
-use Rattle.section.proofs.CursorLaws.{u16-read, u16or-read}
+use Rattle.syntax.proofs.CursorLaws.{u16-read, u16or-read}
 
 pub global-counts-law : (s : List ℕ) (c c0 c1 c2 c3 c4 c5 c6 c7 r : Cursor) → c0 ≡ u16 s 1 4 c → c1 ≡ u16 s 1025 4 c0 → c2 ≡ u16 s 9 4 c1 → c3 ≡ u16 s 1025 4 c2 → c4 ≡ u16 s 1025 4 c3 → c5 ≡ u16 s 257 4 c4 → c6 ≡ u16 s 257 4 c5 → c7 ≡ u16 s 129 4 c6 → r ≡ u16 s 1025 4 c7 → r ≡ globalCounts s c
 unfolding globalCounts

@@ -1,6 +1,4 @@
 -- The laws that the functions' proofs cite.
-mod CursorLaws
-mod CodeLaws
 mod HeaderLaws
 mod NameLaws
 mod ChainLaws

@@ -9,16 +9,16 @@ use lib.Dec.{eqb, ltb}
 use borrow.Author.Tests.{eq-eqb, ne-eqb, lt-ltb, le-ltb}
 use Rattle.definition.specs.Base.{if_then_else_}
 use Rattle.cells.specs.Le.{le16, le32, le64}
-use Rattle.section.specs.declared.cursor.Cursor.{Cursor}
-use Rattle.section.specs.Cursors.{refuse, u16, code, name, size, sizeOr, bits, smallCount, run}
-use Rattle.section.specs.Expressions.{counted}
-use Rattle.section.specs.Statements.{body}
+use Rattle.syntax.specs.declared.cursor.Cursor.{Cursor}
+use Rattle.syntax.specs.Cursors.{refuse, u16, code, name, size, sizeOr, bits, smallCount, run}
+use Rattle.syntax.specs.Expressions.{counted}
+use Rattle.syntax.specs.Statements.{body}
 use Rattle.section.specs.Names.{Reading, reading, names}
 use Rattle.section.specs.Headers.{header}
 use Rattle.section.specs.Lists.{slot, stamp, mark, Which, whichOf, afterName, after, params, macroHead, noted, macro, named, restOf, entry, list, lists}
 use Rattle.section.specs.Stream.{Answer, answer, answerOf, zeros, tail, statements, readStream}
-use Rattle.section.proofs.CursorLaws.{run-end}
-use Rattle.section.proofs.CodeLaws.{counted-law}
+use Rattle.syntax.proofs.CursorLaws.{run-end}
+use Rattle.syntax.proofs.CodeLaws.{counted-law}
 
 pub slot-global : (k x : ℕ) → k < 7 → 1024 + x % 65536 ≡ slot k x
 unfolding slot if_then_else_
@@ -103,10 +103,6 @@ after-subtables k s c r n n0 n1 n2 n3 n4 n5 n6 n7 p0 p1 = after-arm k s c r Whic
 pub params-law : (s : List ℕ) (m n i : ℕ) (c₀ c : Cursor) → n ≡ c₀ .val → n ≤ i → run (n - i) i (λ _. name s m) c ≡ run n 0 (λ _. name s m) c₀ → c ≡ params s m c₀
 unfolding params
 params-law s m n i c₀ c z h e = counted-law (name s m) n i c₀ c z h e
-
-pub body-law : (s : List ℕ) (m n i : ℕ) (c₀ c : Cursor) → n ≤ i → run (n - i) i (λ _. Rattle.section.specs.Statements.statement s m) c ≡ run n 0 (λ _. Rattle.section.specs.Statements.statement s m) c₀ → c ≡ body s m n c₀
-unfolding body
-body-law s m n i c₀ c h e = run-end n i _ c _ h e
 
 pub macro-head-law : (s : List ℕ) (m : ℕ) (c x y r : Cursor) → x ≡ smallCount s c → y ≡ params s m x → r ≡ u16 s 1025 4 y → r ≡ macroHead s m c
 unfolding macroHead

@@ -10,8 +10,8 @@ use lib.Dec.{eqb}
 use borrow.Author.Tests.{eq-eqb, ne-eqb}
 use Rattle.definition.specs.Base.{if_then_else_}
 use Rattle.cells.specs.Le.{le16}
-use Rattle.section.specs.declared.cursor.Cursor.{Cursor}
-use Rattle.section.specs.Cursors.{refuse, u8, skip}
+use Rattle.syntax.specs.declared.cursor.Cursor.{Cursor}
+use Rattle.syntax.specs.Cursors.{refuse, u8, skip}
 use Rattle.section.specs.Names.{Reading, reading, agree, restAlike, alike, known, letters, spelling, nameAt}
 
 pub agree-start : (s : List ℕ) (a b n : ℕ) → agree (n + 1 - 2) 2 s a b ≡ restAlike s a b n

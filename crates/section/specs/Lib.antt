@@ -1,7 +1,4 @@
 -- The words: for each function of the code, what it computes on the very bytes and positions that it has.
-pub mod Cursors
-pub mod Expressions
-pub mod Statements
 pub mod Names
 pub mod Chains
 pub mod Headers

@@ -6,10 +6,10 @@ use lib.ListN.{getD, set}
 use lib.Dec.{eqb, ltb}
 use Rattle.definition.specs.Base.{if_then_else_}
 use Rattle.cells.specs.Le.{le16}
-use Rattle.section.specs.declared.cursor.Cursor.{Cursor}
-use Rattle.section.specs.Cursors.{refuse, u16, code, smallCount, name, size, sizeOr, bits, run}
-use Rattle.section.specs.Expressions.{counted}
-use Rattle.section.specs.Statements.{body}
+use Rattle.syntax.specs.declared.cursor.Cursor.{Cursor}
+use Rattle.syntax.specs.Cursors.{refuse, u16, code, smallCount, name, size, sizeOr, bits, run}
+use Rattle.syntax.specs.Expressions.{counted}
+use Rattle.syntax.specs.Statements.{body}
 use Rattle.section.specs.Names.{Reading, reading}
 
 -- where list k marks a name

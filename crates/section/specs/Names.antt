@@ -6,8 +6,8 @@ use lib.ListN.{getD, set}
 use lib.Dec.{eqb}
 use Rattle.definition.specs.Base.{if_then_else_}
 use Rattle.cells.specs.Le.{le16}
-use Rattle.section.specs.declared.cursor.Cursor.{Cursor}
-use Rattle.section.specs.Cursors.{refuse, u8, skip, run}
+use Rattle.syntax.specs.declared.cursor.Cursor.{Cursor}
+use Rattle.syntax.specs.Cursors.{refuse, u8, skip, run}
 
 -- a cursor, and the table
 pub record Reading : Type 0 where

@@ -14,9 +14,9 @@ use lib.ListN.{length, getD, set}
 use lib.Dec.{eqb}
 use Rattle.definition.specs.Base.{if_then_else_}
 use Rattle.cells.specs.Le.{le16}
-use Rattle.section.specs.declared.cursor.Cursor.{Cursor}
-use Rattle.section.specs.Cursors.{refuse}
-use Rattle.section.specs.Statements.{body}
+use Rattle.syntax.specs.declared.cursor.Cursor.{Cursor}
+use Rattle.syntax.specs.Cursors.{refuse}
+use Rattle.syntax.specs.Statements.{body}
 use Rattle.section.specs.Names.{Reading, reading, names}
 use Rattle.section.specs.Headers.{header}
 use Rattle.section.specs.Lists.{lists}

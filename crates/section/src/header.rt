@@ -1,8 +1,8 @@
 // The header: rule set, counts, default space and the four names, each a u16 at its fixed offset.
-use crate::cursor::Cursor;
-use crate::cursor::name;
-use crate::cursor::u16_below;
-use crate::cursor::u16_or;
+use syntax::cursor::Cursor;
+use syntax::cursor::name;
+use syntax::cursor::u16_below;
+use syntax::cursor::u16_or;
 ghost use mathlib.Core.Path.{_≡_};
 ghost use Rattle.section.specs.Headers.{globalCounts, counts, roles, header};
 

@@ -10,24 +10,21 @@
 //                subtables, statements
 //   3338         the first ordinal of the section's own statements
 // The header stays in the stream, at its fixed offsets.
-use cursor::Cursor;
 use header::header;
 use lists::lists;
 use names::low;
 use names::names;
-use statements::body;
+use syntax::cursor::Cursor;
+use syntax::statements::body;
 use zeros::tail;
 ghost use mathlib.Core.Path.{_≡_};
 ghost use Rattle.section.specs.Stream.{statements, answer, readStream};
 ghost use Rattle.section.specs.Names.{reading};
 
 mod chains;
-pub mod cursor;
-pub mod expressions;
 mod header;
 mod lists;
 mod names;
-pub mod statements;
 mod zeros;
 
 // The section's own statements, and the end.

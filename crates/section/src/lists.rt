@@ -1,16 +1,16 @@
 // The lists of entries. Each entry begins with its name, which the table marks, so that a second one is found there:
 // globals from 1,024 on, fields and subtables from 2,048 on.
-use crate::cursor::Cursor;
-use crate::cursor::bits;
-use crate::cursor::code;
-use crate::cursor::name;
-use crate::cursor::refuse;
-use crate::cursor::size;
-use crate::cursor::size_or;
-use crate::cursor::small_count;
-use crate::cursor::u16_below;
 use crate::names::low;
-use crate::statements::body;
+use syntax::cursor::Cursor;
+use syntax::cursor::bits;
+use syntax::cursor::code;
+use syntax::cursor::name;
+use syntax::cursor::refuse;
+use syntax::cursor::size;
+use syntax::cursor::size_or;
+use syntax::cursor::small_count;
+use syntax::cursor::u16_below;
+use syntax::statements::body;
 ghost use mathlib.Core.Path.{_≡_};
 ghost use Prim.Native.Nat.{_<_};
 ghost use Rattle.section.specs.Names.{reading};

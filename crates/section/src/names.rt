@@ -2,10 +2,10 @@
 // the chain of its hash.
 use crate::chains::hash;
 use crate::chains::link;
-use crate::cursor::Cursor;
-use crate::cursor::refuse;
-use crate::cursor::skip;
-use crate::cursor::u8_below;
+use syntax::cursor::Cursor;
+use syntax::cursor::refuse;
+use syntax::cursor::skip;
+use syntax::cursor::u8_below;
 ghost use mathlib.Core.Path.{_≡_};
 ghost use Prim.Native.Nat.{_+_, _%_, _≤_, _<_};
 ghost use Rattle.section.specs.Names.{reading, restAlike, alike, known, spelling, nameAt, names};

@@ -1,7 +1,7 @@
 // The stream after its statements is zero, which is tested by eight bytes at a time.
-use crate::cursor::Cursor;
-use crate::cursor::refuse;
 use cells::inside::eight;
+use syntax::cursor::Cursor;
+use syntax::cursor::refuse;
 ghost use mathlib.Core.Path.{_≡_};
 ghost use Prim.Native.Nat.{_-_};
 ghost use lib.ListN.{length};

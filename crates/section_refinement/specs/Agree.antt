@@ -16,9 +16,9 @@ use Rattle.definition.specs.Refusals.{Refusal, refusalNumber, malformed, outsid
 use Rattle.definition.specs.SectionFile.{Parsed, parsed, refused, on, Read, require, littleEndian, upTo, naming, orAbsent, pure}
 use Rattle.definition.specs.SectionFile as d
 use Rattle.cells.specs.Le.{le16}
-use Rattle.section.specs.declared.cursor.Cursor.{Cursor}
-use Rattle.section.specs.Cursors.{cursor, refuse, number, u8, u16, u16or, skip}
-use Rattle.section.specs.Cursors as w
+use Rattle.syntax.specs.declared.cursor.Cursor.{Cursor}
+use Rattle.syntax.specs.Cursors.{cursor, refuse, number, u8, u16, u16or, skip}
+use Rattle.syntax.specs.Cursors as w
 
 -- P says what holds of the thing, the position after it and the cursor's number
 pub data Agrees (s : List ℕ) {A : Type 0} (P : A → ℕ → ℕ → Type 0) (x : Parsed A) (c : Cursor) : Type 0 where

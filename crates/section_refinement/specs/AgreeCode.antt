@@ -14,12 +14,12 @@ use Rattle.definition.specs.Ast.{PcodeOp, PcodeExpr, Args, noArgs, arg, JumpLab
 use Rattle.definition.specs.SectionFile.{Parsed, parsed, refused, on, Read, pure, refuse, choose, littleEndian, upTo, naming, orAbsent, argsOf, listOf}
 use Rattle.definition.specs.SectionFile as d
 use Rattle.cells.specs.Le.{le16}
-use Rattle.section.specs.declared.cursor.Cursor.{Cursor}
-use Rattle.section.specs.Cursors.{cursor, number, u8, u16, u16or, skip, run}
-use Rattle.section.specs.Cursors as w
-use Rattle.section.specs.Expressions.{counted, Kind, kindOf, afterCode}
-use Rattle.section.specs.Expressions as e
-use Rattle.section.specs.Statements as t
+use Rattle.syntax.specs.declared.cursor.Cursor.{Cursor}
+use Rattle.syntax.specs.Cursors.{cursor, number, u8, u16, u16or, skip, run}
+use Rattle.syntax.specs.Cursors as w
+use Rattle.syntax.specs.Expressions.{counted, Kind, kindOf, afterCode}
+use Rattle.syntax.specs.Expressions as e
+use Rattle.syntax.specs.Statements as t
 use Rattle.section_refinement.specs.Agree.{Agrees, went, stopped, Stuck, stuck-both, bind, finish, weaken, Any, Number, NumberOr, le, u8-at, u8-cut, up-to, naming-below, stuck-u8, stuck-u16, stuck-u16or, stuck-skip, stuck-refuse, u16-agrees, u8-agrees, u16or-agrees, skip-agrees}
 
 -- A code: which of the alternatives follows.

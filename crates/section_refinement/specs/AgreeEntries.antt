@@ -16,11 +16,11 @@ use Rattle.definition.specs.Ast.{SpaceKind, Space, Register, BitRange, Table, M
 use Rattle.definition.specs.SectionFile.{Parsed, parsed, refused, on, Read, pure, require, listOf, upTo, naming, littleEndian}
 use Rattle.definition.specs.SectionFile as d
 use Rattle.cells.specs.Le.{le16}
-use Rattle.section.specs.declared.cursor.Cursor.{Cursor}
-use Rattle.section.specs.Cursors.{cursor, u8, u16, u16or, run}
-use Rattle.section.specs.Cursors as w
-use Rattle.section.specs.Expressions.{counted}
-use Rattle.section.specs.Statements.{body}
+use Rattle.syntax.specs.declared.cursor.Cursor.{Cursor}
+use Rattle.syntax.specs.Cursors.{cursor, u8, u16, u16or, run}
+use Rattle.syntax.specs.Cursors as w
+use Rattle.syntax.specs.Expressions.{counted}
+use Rattle.syntax.specs.Statements.{body}
 use Rattle.section.specs.Names.{Reading, reading}
 use Rattle.section.specs.Lists.{slot, stamp, whichOf, afterName, after, params, macroHead, noted, macro, named, restOf, entry, list}
 use Rattle.section_refinement.specs.Holds.{absentAt, spaceKind, spaceAt, registerAt, bitRangeAt, tableAt, nameOnly, fieldAt, subtableAt, bodies, MacroAt}

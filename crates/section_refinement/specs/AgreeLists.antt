@@ -17,11 +17,11 @@ use Rattle.definition.specs.Ast.{Macro, Statement}
 use Rattle.definition.specs.SectionFile.{Parsed, parsed, refused, on, Read, pure, require, listOf, upTo, littleEndian}
 use Rattle.definition.specs.SectionFile as d
 use Rattle.cells.specs.Le.{le16}
-use Rattle.section.specs.declared.cursor.Cursor.{Cursor}
-use Rattle.section.specs.Cursors.{cursor, refuse, u8, u16, u16or, run}
-use Rattle.section.specs.Cursors as w
-use Rattle.section.specs.Expressions.{counted}
-use Rattle.section.specs.Statements.{body}
+use Rattle.syntax.specs.declared.cursor.Cursor.{Cursor}
+use Rattle.syntax.specs.Cursors.{cursor, refuse, u8, u16, u16or, run}
+use Rattle.syntax.specs.Cursors as w
+use Rattle.syntax.specs.Expressions.{counted}
+use Rattle.syntax.specs.Statements.{body}
 use Rattle.section.specs.Names.{Reading, reading}
 use Rattle.section.specs.Lists.{slot, stamp, mark, Which, whichOf, afterName, after, params, macroHead, noted, macro, named, restOf, entry, list, lists}
 use Rattle.section_refinement.specs.Agree.{Agrees, went, stopped, Stuck, stuck-both, bind, finish, weaken, Any, Number, NumberOr, le, le-16, stuck-u8, stuck-u16, stuck-u16or, stuck-refuse, refusal-bad}

@@ -15,9 +15,9 @@ use Rattle.definition.specs.Refusals.{Refusal, refusalNumber, malformed, outsid
 use Rattle.definition.specs.SectionFile.{Parsed, parsed, refused, on, Read, pure, require, littleEndian, upTo, naming, orAbsent, listOf, Header}
 use Rattle.definition.specs.SectionFile as d
 use Rattle.cells.specs.Le.{le16}
-use Rattle.section.specs.declared.cursor.Cursor.{Cursor}
-use Rattle.section.specs.Cursors.{cursor, number, u8, u16, u16or, skip, run}
-use Rattle.section.specs.Cursors as w
+use Rattle.syntax.specs.declared.cursor.Cursor.{Cursor}
+use Rattle.syntax.specs.Cursors.{cursor, number, u8, u16, u16or, skip, run}
+use Rattle.syntax.specs.Cursors as w
 use Rattle.section.specs.Headers.{globalCounts, counts, roles, header}
 use Rattle.section.specs.Names.{Reading, reading, agree, restAlike, alike, known, letters, spelling, nameAt, names}
 use Rattle.section_refinement.specs.Holds.{absentAt, Limits, Named, spelledAt}

@@ -16,9 +16,9 @@ use Rattle.definition.specs.Ast.{Space, Register, BitRange, Table, Macro, Field
 use Rattle.definition.specs.SectionFile.{Parsed, parsed, refused, on, Read, pure, require, listOf, nothingLeft}
 use Rattle.definition.specs.SectionFile as d
 use Rattle.cells.specs.Le.{le16}
-use Rattle.section.specs.declared.cursor.Cursor.{Cursor}
-use Rattle.section.specs.Cursors.{cursor, refuse, run}
-use Rattle.section.specs.Statements.{body}
+use Rattle.syntax.specs.declared.cursor.Cursor.{Cursor}
+use Rattle.syntax.specs.Cursors.{cursor, refuse, run}
+use Rattle.syntax.specs.Statements.{body}
 use Rattle.section.specs.Names.{Reading, reading, nameAt, names}
 use Rattle.section.specs.Headers.{header}
 use Rattle.section.specs.Lists.{stamp, entry, list, lists}

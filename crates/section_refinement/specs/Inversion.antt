@@ -14,7 +14,7 @@ use Rattle.definition.specs.Ast.{PcodeOp, PcodeExpr, Args, noArgs, arg, JumpLab
 use Rattle.definition.specs.SectionFile.{Parsed, parsed, refused, on, Read, pure, choose, littleEndian, upTo, naming, orAbsent, argsOf, listOf}
 use Rattle.definition.specs.SectionFile as d
 use Rattle.cells.specs.Le.{le16, le32, le64}
-use Rattle.section.specs.declared.cursor.Cursor.{Cursor}
+use Rattle.syntax.specs.declared.cursor.Cursor.{Cursor}
 use Rattle.section_refinement.specs.Holds.{absentAt}
 use Rattle.section_refinement.specs.Agree.{Agrees, went, stopped, Any, Number, NumberOr, Tests, le, le-16, u8-at, u8-cut, up-to, naming-below, u16-agrees, u8-agrees, u16or-agrees, skip-agrees}
 use Rattle.section_refinement.specs.AgreeCode.{Reads, OneOf, one-of-agrees, args-agrees, list-agrees, expr-agrees, jump-agrees, target-agrees, statement-agrees}

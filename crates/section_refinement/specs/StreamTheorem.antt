@@ -17,7 +17,7 @@ use Rattle.definition.specs.SectionFile.{Parsed, parsed, refused, on}
 use Rattle.definition.specs.SectionFile as d
 use Rattle.definition.specs.Scope.{SymbolKind, symbolNumber, Symbol, symbols, find, globals}
 use Rattle.cells.specs.Le.{le16}
-use Rattle.section.specs.Cursors.{cursor}
+use Rattle.syntax.specs.Cursors.{cursor}
 use Rattle.section.specs.Names.{Reading, reading, names}
 use Rattle.section.specs.Headers.{header}
 use Rattle.section.specs.Lists.{stamp, lists}
@@ -39,7 +39,7 @@ module _ (s t0 : List ℕ) (short : length s < 65536) (long : length t0 ≡ 3344
   filled : (v : ℕ) → Limits s → 34 ≤ length s → Fills s (λ sec _ t. Steps s t0 sec t) (d.lists (headerAt s) (drop 34 s)) (statements s (lists s (names s (le16 s 2) (reading (cursor 34 0 v) t0)))) →
       Answered s t0 (d.lists (headerAt s) (drop 34 s)) (answerOf (statements s (lists s (names s (le16 s 2) (reading (cursor 34 0 v) t0)))))
   filled v lim b (goes sec q u t c h e f) = accepted sec (drop q s) (rw f h) e (ap (λ (w : Reading). w .cursor .bad) f)
-  filled v lim b (stops r q e f) = turned r e (ap (λ (c : Rattle.section.specs.declared.cursor.Cursor.Cursor). c .bad) f)
+  filled v lim b (stops r q e f) = turned r e (ap (λ (c : Rattle.syntax.specs.declared.cursor.Cursor.Cursor). c .bad) f)
 
   answered : Answered s t0 (d.section s) (readStream s t0)
   unfolding d.section readStream if_then_else_ on

@@ -11,10 +11,10 @@ use Rattle.definition.specs.Base.{if_then_else_}
 use Rattle.definition.specs.Ast.{PcodeExpr, JumpLabel, BranchDst, Statement}
 use Rattle.definition.specs.SectionFile.{parsed, refused, Read, exprWithin}
 use Rattle.definition.specs.SectionFile as d
-use Rattle.section.specs.declared.cursor.Cursor.{Cursor}
-use Rattle.section.specs.Cursors.{cursor, number, u8, u16, u16or, skip}
-use Rattle.section.specs.Expressions as expressions
-use Rattle.section.specs.Statements as section
+use Rattle.syntax.specs.declared.cursor.Cursor.{Cursor}
+use Rattle.syntax.specs.Cursors.{cursor, number, u8, u16, u16or, skip}
+use Rattle.syntax.specs.Expressions as expressions
+use Rattle.syntax.specs.Statements as section
 use Rattle.section_refinement.specs.Agree.{Agrees, went, stopped, Any}
 use Rattle.section_refinement.specs.AgreeCode.{Reads, expr-agrees, jump-agrees, target-agrees, statement-agrees}
 use Rattle.section_refinement.specs.Inversion.{Begun, jump-begun, branch-dst-begun, statement-begun}

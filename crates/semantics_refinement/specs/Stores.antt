@@ -28,7 +28,7 @@ use Rattle.pushing.specs.declared.push.Env.{Env as WordEnv}
 use Rattle.pcode.specs.Base.{if_then_else_, Listed, listed, thenL}
 use Rattle.pcode.specs.Values.{absent, noOutput}
 use Rattle.pushing.specs.Pushes.{push, pushOp}
-use Rattle.section.specs.declared.cursor.Cursor.{Cursor}
+use Rattle.syntax.specs.declared.cursor.Cursor.{Cursor}
 use Rattle.section_refinement.specs.Holds.{absentAt}
 use Rattle.section_refinement.specs.Inversion.{StoreAt}
 use Rattle.refinement.specs.Encoding.{encV, Sound}

@@ -6,7 +6,7 @@ use Rattle.section.proofs.own_statements.Lts as lts
 use Rattle.cells.proofs.put_u16.Reads as put-u16-reads
 use Rattle.cells.proofs.u16_at.Reads as u16-at-reads
 use Rattle.section.proofs.names.low.Reads as low-reads
-use Rattle.section.proofs.statements.body.Reads as body-reads
+use Rattle.syntax.proofs.statements.body.Reads as body-reads
 use Rattle.section.proofs.zeros.tail.Reads as tail-reads
 use Rattle.section.proofs.ListLaws.{list-laws}
 

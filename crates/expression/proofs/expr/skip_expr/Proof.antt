@@ -4,7 +4,7 @@ use Rattle.expression.proofs.expr.skip_expr.Tie as tie
 use Rattle.expression.proofs.expr.skip_expr.Reads as reads
 use Rattle.expression.proofs.expr.skip_expr.Lts as lts
 use Rattle.cells.proofs.u16_at.Reads as u16-at-reads
-use Rattle.section.proofs.expressions.expr.Reads as expr-reads
+use Rattle.syntax.proofs.expressions.expr.Reads as expr-reads
 use Rattle.expression.proofs.ExprLaws.{expr-laws}
 
 -- src/expr.rt:140:9

@@ -3,7 +3,7 @@ use Rattle.section.proofs.header.global_counts.Statement.{statement}
 use Rattle.section.proofs.header.global_counts.Tie as tie
 use Rattle.section.proofs.header.global_counts.Reads as reads
 use Rattle.section.proofs.header.global_counts.Lts as lts
-use Rattle.section.proofs.cursor.u16_below.Reads as u16-below-reads
+use Rattle.syntax.proofs.cursor.u16_below.Reads as u16-below-reads
 use Rattle.section.proofs.HeaderLaws.{header-laws}
 
 -- src/header.rt:13:9

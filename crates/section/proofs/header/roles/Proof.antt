@@ -4,8 +4,8 @@ use Rattle.section.proofs.header.roles.Tie as tie
 use Rattle.section.proofs.header.roles.Reads as reads
 use Rattle.section.proofs.header.roles.Lts as lts
 use Rattle.cells.proofs.u16_at.Reads as u16-at-reads
-use Rattle.section.proofs.cursor.name.Reads as name-reads
-use Rattle.section.proofs.cursor.u16_or.Reads as u16-or-reads
+use Rattle.syntax.proofs.cursor.name.Reads as name-reads
+use Rattle.syntax.proofs.cursor.u16_or.Reads as u16-or-reads
 use Rattle.section.proofs.HeaderLaws.{header-laws}
 
 -- src/header.rt:37:9

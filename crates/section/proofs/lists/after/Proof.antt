@@ -4,11 +4,11 @@ use Rattle.section.proofs.lists.after.Tie as tie
 use Rattle.section.proofs.lists.after.Reads as reads
 use Rattle.section.proofs.lists.after.Lts as lts
 use Rattle.cells.proofs.u16_at.Reads as u16-at-reads
-use Rattle.section.proofs.cursor.bits.Reads as bits-reads
-use Rattle.section.proofs.cursor.code.Reads as code-reads
-use Rattle.section.proofs.cursor.size.Reads as size-reads
-use Rattle.section.proofs.cursor.size_or.Reads as size-or-reads
-use Rattle.section.proofs.cursor.u16_below.Reads as u16-below-reads
+use Rattle.syntax.proofs.cursor.bits.Reads as bits-reads
+use Rattle.syntax.proofs.cursor.code.Reads as code-reads
+use Rattle.syntax.proofs.cursor.size.Reads as size-reads
+use Rattle.syntax.proofs.cursor.size_or.Reads as size-or-reads
+use Rattle.syntax.proofs.cursor.u16_below.Reads as u16-below-reads
 use Rattle.section.proofs.ListLaws.{list-laws}
 
 -- src/lists.rt:58:22

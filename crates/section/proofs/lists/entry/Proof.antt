@@ -4,7 +4,7 @@ use Rattle.section.proofs.lists.entry.Tie as tie
 use Rattle.section.proofs.lists.entry.Reads as reads
 use Rattle.section.proofs.lists.entry.Lts as lts
 use Rattle.cells.proofs.u16_at.Reads as u16-at-reads
-use Rattle.section.proofs.cursor.name.Reads as name-reads
+use Rattle.syntax.proofs.cursor.name.Reads as name-reads
 use Rattle.section.proofs.lists.after.Reads as after-reads
 use Rattle.section.proofs.lists.macro_entry.Reads as macro-entry-reads
 use Rattle.section.proofs.lists.mark.Reads as mark-reads

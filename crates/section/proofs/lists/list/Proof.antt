@@ -11,10 +11,10 @@ use native.Mathlib.Omega.{arith}
 use Prim.Native.Nat.{_-_, _≤_, _<_}
 use mathlib.Core.Path.{_≡_, refl, _∙_}
 use lib.ListN.{length}
-use Rattle.section.specs.Cursors.{run}
+use Rattle.syntax.specs.Cursors.{run}
 use Rattle.section.specs.Names.{reading}
 use Rattle.section.specs.Lists.{entry}
-use Rattle.section.proofs.CursorLaws.{run-start, run-again}
+use Rattle.syntax.proofs.CursorLaws.{run-start, run-again}
 use Rattle.section.proofs.ListLaws.{list-law}
 
 abbrev Inv-loop : tie.InvT-loop

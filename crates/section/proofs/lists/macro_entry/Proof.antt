@@ -5,7 +5,7 @@ use Rattle.section.proofs.lists.macro_entry.Reads as reads
 use Rattle.section.proofs.lists.macro_entry.Lts as lts
 use Rattle.section.proofs.lists.macro_head.Reads as macro-head-reads
 use Rattle.section.proofs.lists.note_macro.Reads as note-macro-reads
-use Rattle.section.proofs.statements.body.Reads as body-reads
+use Rattle.syntax.proofs.statements.body.Reads as body-reads
 use Rattle.section.proofs.ListLaws.{list-laws}
 
 -- src/lists.rt:104:9

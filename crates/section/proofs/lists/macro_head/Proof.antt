@@ -3,8 +3,8 @@ use Rattle.section.proofs.lists.macro_head.Statement.{statement}
 use Rattle.section.proofs.lists.macro_head.Tie as tie
 use Rattle.section.proofs.lists.macro_head.Reads as reads
 use Rattle.section.proofs.lists.macro_head.Lts as lts
-use Rattle.section.proofs.cursor.small_count.Reads as small-count-reads
-use Rattle.section.proofs.cursor.u16_below.Reads as u16-below-reads
+use Rattle.syntax.proofs.cursor.small_count.Reads as small-count-reads
+use Rattle.syntax.proofs.cursor.u16_below.Reads as u16-below-reads
 use Rattle.section.proofs.lists.params.Reads as params-reads
 use Rattle.section.proofs.ListLaws.{list-laws}
 

@@ -5,7 +5,7 @@ use Rattle.section.proofs.lists.mark.Reads as reads
 use Rattle.section.proofs.lists.mark.Lts as lts
 use Rattle.cells.proofs.get_u16.Reads as get-u16-reads
 use Rattle.cells.proofs.put_u16.Reads as put-u16-reads
-use Rattle.section.proofs.cursor.refuse.Reads as refuse-reads
+use Rattle.syntax.proofs.cursor.refuse.Reads as refuse-reads
 use Rattle.section.proofs.ListLaws.{list-laws}
 
 -- src/lists.rt:44:9

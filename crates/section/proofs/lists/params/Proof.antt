@@ -2,14 +2,14 @@ use Rattle.section.proofs.lists.params.Statement.{statement}
 use Rattle.section.proofs.lists.params.Tie as tie
 use Rattle.section.proofs.lists.params.Reads as reads
 use Rattle.section.proofs.lists.params.Lts as lts
-use Rattle.section.proofs.cursor.name.Reads as name-reads
+use Rattle.syntax.proofs.cursor.name.Reads as name-reads
 use borrow.Author.Needs.{needs}
 use native.Mathlib.Omega.{arith}
 use Prim.Native.Nat.{_-_, _≤_}
 use mathlib.Core.Path.{_≡_, refl}
-use Rattle.section.specs.Cursors.{run}
-use Rattle.section.specs.Cursors as words
-use Rattle.section.proofs.CursorLaws.{run-start, run-again}
+use Rattle.syntax.specs.Cursors.{run}
+use Rattle.syntax.specs.Cursors as words
+use Rattle.syntax.proofs.CursorLaws.{run-start, run-again}
 use Rattle.section.proofs.ListLaws.{params-law}
 
 abbrev Inv-loop : tie.InvT-loop

@@ -3,9 +3,9 @@ use Rattle.section.proofs.names.spelling.Statement.{statement}
 use Rattle.section.proofs.names.spelling.Tie as tie
 use Rattle.section.proofs.names.spelling.Reads as reads
 use Rattle.section.proofs.names.spelling.Lts as lts
-use Rattle.section.proofs.cursor.refuse.Reads as refuse-reads
-use Rattle.section.proofs.cursor.skip.Reads as skip-reads
-use Rattle.section.proofs.cursor.u8_below.Reads as u8-below-reads
+use Rattle.syntax.proofs.cursor.refuse.Reads as refuse-reads
+use Rattle.syntax.proofs.cursor.skip.Reads as skip-reads
+use Rattle.syntax.proofs.cursor.u8_below.Reads as u8-below-reads
 use Rattle.section.proofs.names.known.Reads as known-reads
 use Rattle.section.proofs.NameLaws.{name-laws}
 

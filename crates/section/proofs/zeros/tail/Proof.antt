@@ -2,7 +2,7 @@ use Rattle.section.proofs.zeros.tail.Statement.{statement}
 use Rattle.section.proofs.zeros.tail.Tie as tie
 use Rattle.section.proofs.zeros.tail.Reads as reads
 use Rattle.section.proofs.zeros.tail.Lts as lts
-use Rattle.section.proofs.cursor.refuse.Reads as refuse-reads
+use Rattle.syntax.proofs.cursor.refuse.Reads as refuse-reads
 use Rattle.section.proofs.zeros.past_zeros.Reads as past-zeros-reads
 use borrow.Author.Needs.{needs}
 use native.Mathlib.Omega.{arith}
