@@ -25,7 +25,7 @@ use Rattle.meaning.specs.declared.scope.Meaning.{Meaning}
 use Rattle.expression.specs.declared.expr.Expr.{Expr}
 use Rattle.meaning.specs.Scopes.{resolveIdent, plainLocal, namedTmp}
 use Rattle.meaning.proofs.PlainLaws.{plain-means, plain-wrong}
-use Rattle.meaning.specs.Reading.{constant, byteAligned, sliced, readValue, readOperand}
+use Rattle.reading.specs.Reading.{constant, byteAligned, sliced, readValue, readOperand}
 use Rattle.expression.specs.Answers.{resolved, onExpr, after}
 use Rattle.expression.specs.Expressions.{exprValue, atom, resolveExpr}
 use Rattle.expression.proofs.ExprLaws.{name-plain, expr-atom}

@@ -16,8 +16,8 @@ use Rattle.meaning.specs.declared.scope.ExprValue.{ExprValue}
 use Rattle.meaning.proofs.scope.ExprValue as exprValue
 use Rattle.expression.specs.declared.expr.Expr.{Expr}
 use Rattle.expression.specs.declared.expr.Operand.{Operand}
-use Rattle.meaning.specs.declared.read.Stated.{Stated}
-use Rattle.meaning.specs.Reading.{setStated, takeStated}
+use Rattle.reading.specs.declared.read.Stated.{Stated}
+use Rattle.reading.specs.Reading.{setStated, takeStated}
 use Rattle.expression.specs.Answers.{resolved, onExpr, operand, onOperand, after}
 use Rattle.expression.specs.Addresses.{resolveAddress}
 use Rattle.expression.specs.Expressions.{exprValue, skipExpr, resolveExpr}

@@ -18,7 +18,7 @@ use Rattle.meaning.specs.declared.scope.ExprValue.{ExprValue}
 use Rattle.meaning.specs.declared.scope.Meaning.{Meaning}
 use Rattle.expression.specs.declared.expr.Expr.{Expr}
 use Rattle.meaning.specs.Scopes.{resolveIdent, plainLocal, namedTmp}
-use Rattle.meaning.specs.Reading.{constant, byteAligned, sliced, readValue, readOperand}
+use Rattle.reading.specs.Reading.{constant, byteAligned, sliced, readValue, readOperand}
 use Rattle.expression.specs.Answers.{ExprOut, resolved, onExpr, after}
 use Rattle.expression.specs.Expressions.{resolveExpr}
 use Rattle.walking.specs.declared.walk.Walk.{Walk}

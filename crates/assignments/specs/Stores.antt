@@ -9,8 +9,8 @@ use Rattle.pcode.specs.Base.{Listed, listed, thenL}
 use Rattle.pcode.specs.Values.{absent, noOutput}
 use Rattle.pushing.specs.Pushes.{push, pushOp}
 use Rattle.meaning.specs.declared.scope.ExprValue.{ExprValue}
-use Rattle.meaning.specs.declared.read.Stated.{Stated}
-use Rattle.meaning.specs.Reading.{setStated, takeStated}
+use Rattle.reading.specs.declared.read.Stated.{Stated}
+use Rattle.reading.specs.Reading.{setStated, takeStated}
 use Rattle.expression.specs.Answers.{onExpr, onOperand, after}
 use Rattle.expression.specs.Addresses.{resolveAddress}
 use Rattle.expression.specs.Expressions.{exprValue, skipExpr, resolveExpr}

@@ -22,7 +22,7 @@ use Rattle.expression.specs.declared.expr.Expr.{Expr}
 use Rattle.expression.specs.declared.calls.Callee.{Callee}
 use Rattle.meaning.specs.Slots.{argAt}
 use Rattle.meaning.specs.Scopes.{global, resolveIdent}
-use Rattle.meaning.specs.Reading.{readOperand}
+use Rattle.reading.specs.Reading.{readOperand}
 use Rattle.expression.specs.Answers.{resolved, exprOf, after}
 use Rattle.expression.specs.Calls.{callee, symbolOf, inbuiltOr, calleeOf, passArg, passFrom, passArgs, applied, userOpTwo, userOpSome, callUserOp, onlyInteger, subpieceFrom, subpieceOf, subpieceMeant, subpiece}
 

@@ -31,7 +31,7 @@ use Rattle.expression.specs.declared.calls.Callee.{Callee}
 use Rattle.meaning.specs.Slots.{putArg}
 use Rattle.meaning.specs.Scopes.{resolveIdent, plainLocal}
 use Rattle.meaning.proofs.PlainLaws.{plain-means, plain-least}
-use Rattle.meaning.specs.Reading.{constant, copyTo, readValue, readOperand}
+use Rattle.reading.specs.Reading.{constant, copyTo, readValue, readOperand}
 use Rattle.expression.specs.Answers.{resolved, onExpr, operand, onOperand, ArgsOut, passed, onArgs, operandOf, appliedTo, after}
 use Rattle.expression.specs.Slices.{sliceBits}
 use Rattle.expression.specs.Addresses.{resolveAddress}

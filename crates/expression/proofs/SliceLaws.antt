@@ -25,7 +25,7 @@ use Rattle.meaning.proofs.scope.ExprValue as exprValue
 use Rattle.expression.specs.declared.expr.Expr.{Expr}
 use Rattle.expression.specs.declared.address.Space.{Space}
 use Rattle.meaning.specs.Scopes.{global}
-use Rattle.meaning.specs.Reading.{neededBytes, readSlice, readOperand}
+use Rattle.reading.specs.Reading.{neededBytes, readSlice, readOperand}
 use Rattle.expression.specs.Answers.{resolved, exprOf}
 use Rattle.expression.specs.Slices.{lowBits, unboundThen, sliceRead, constBytes, sliceConst, sliceRange, sliceBits}
 use Rattle.expression.specs.Addresses.{orSize, inConstSpace, kindOfSpace, spaceOf, namedSpace, defaultSpace, resolveSpace, referenceTo, reference, inSpace, addressIn, resolveAddress}

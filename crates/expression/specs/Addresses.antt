@@ -15,7 +15,7 @@ use Rattle.meaning.specs.declared.scope.ExprValue.{ExprValue}
 use Rattle.expression.specs.declared.expr.Expr.{Expr}
 use Rattle.expression.specs.declared.address.Space.{Space}
 use Rattle.meaning.specs.Scopes.{global}
-use Rattle.meaning.specs.Reading.{readOperand}
+use Rattle.reading.specs.Reading.{readOperand}
 use Rattle.expression.specs.Answers.{ExprOut, resolved, exprOf}
 
 unfoldable pub orSize : ℕ → ℕ → ℕ

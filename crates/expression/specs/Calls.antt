@@ -20,7 +20,7 @@ use Rattle.expression.specs.declared.expr.Expr.{Expr}
 use Rattle.expression.specs.declared.calls.Callee.{Callee}
 use Rattle.meaning.specs.Slots.{argAt}
 use Rattle.meaning.specs.Scopes.{global, resolveIdent}
-use Rattle.meaning.specs.Reading.{readOperand}
+use Rattle.reading.specs.Reading.{readOperand}
 use Rattle.expression.specs.Answers.{ExprOut, resolved, exprOf, after}
 
 abbrev pub callee : ℕ → ℕ → Callee

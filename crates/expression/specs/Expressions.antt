@@ -21,7 +21,7 @@ use Rattle.meaning.specs.declared.args.Args.{Args}
 use Rattle.expression.specs.declared.calls.Callee.{Callee}
 use Rattle.meaning.specs.Slots.{putArg}
 use Rattle.meaning.specs.Scopes.{resolveIdent, plainLocal}
-use Rattle.meaning.specs.Reading.{constant, readOperand}
+use Rattle.reading.specs.Reading.{constant, readOperand}
 use Rattle.expression.specs.Answers.{ExprOut, resolved, onExpr, OperandOut, operand, onOperand, ArgsOut, passed, onArgs, operandOf, appliedTo, after}
 use Rattle.expression.specs.Slices.{sliceBits}
 use Rattle.expression.specs.Addresses.{resolveAddress}

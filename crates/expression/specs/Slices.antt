@@ -12,7 +12,7 @@ use Rattle.pcode.specs.Values.{absent}
 use Rattle.pushing.specs.Pushes.{onRead}
 use Rattle.meaning.specs.declared.scope.ExprValue.{ExprValue}
 use Rattle.expression.specs.declared.expr.Expr.{Expr}
-use Rattle.meaning.specs.Reading.{neededBytes, readSlice, readOperand}
+use Rattle.reading.specs.Reading.{neededBytes, readSlice, readOperand}
 use Rattle.expression.specs.Answers.{ExprOut, resolved, exprOf}
 
 -- so many bits of a number, 64 at most, from a bit on

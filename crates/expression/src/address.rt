@@ -1,6 +1,5 @@
 // Addresses: the place that a pointer in a space refers to.
 use crate::expr::Expr;
-use meaning::read::read_operand;
 use meaning::scope::ExprValue;
 use meaning::scope::global;
 use pcode::sizes::entry;
@@ -8,6 +7,7 @@ use pcode::value::with_size;
 use pushing::push::Env;
 use pushing::push::Read;
 use pushing::push::State;
+use reading::read::read_operand;
 ghost use mathlib.Core.Path.{_≡_};
 ghost use Rattle.expression.specs.Answers.{resolved};
 ghost use Rattle.expression.specs.Addresses.{orSize, inConstSpace, kindOfSpace, namedSpace, resolveSpace, reference, addressIn, resolveAddress};

@@ -1,14 +1,14 @@
 // Slices of bits: a local's has no bound, and what cannot be sliced unread is read first.
 use crate::expr::Expr;
-use meaning::read::needed_bytes;
-use meaning::read::read_operand;
-use meaning::read::read_slice;
 use meaning::scope::ExprValue;
 use pcode::value::Value;
 use pcode::value::absent;
 use pushing::push::Env;
 use pushing::push::Read;
 use pushing::push::State;
+use reading::read::needed_bytes;
+use reading::read::read_operand;
+use reading::read::read_slice;
 ghost use mathlib.Core.Path.{_≡_};
 ghost use Prim.Native.Nat.{_<_};
 ghost use Rattle.expression.specs.Answers.{resolved};

@@ -31,7 +31,7 @@ use Rattle.refinement.specs.Seen.{yes, no, seenRead}
 use Rattle.expression.specs.declared.expr.Expr.{Expr}
 use Rattle.expression.specs.declared.address.Space.{Space}
 use Rattle.expression.specs.Answers.{ExprOut, resolved, exprOf}
-use Rattle.meaning.specs.Reading.{readOperand}
+use Rattle.reading.specs.Reading.{readOperand}
 use Rattle.expression.specs.Addresses.{orSize, inConstSpace, kindOfSpace, spaceOf, namedSpace, defaultSpace, resolveSpace, referenceTo, reference, inSpace, addressIn, resolveAddress}
 use Rattle.expression_refinement.specs.Encodings.{encX, Small, SoundX, count, Stood}
 use Rattle.expression_refinement.specs.Answers.{acts, temps, word, seenExpr, refines-stopped, bind}

@@ -27,8 +27,8 @@ use Rattle.refinement.specs.Encoding.{encV, temporariesIn, encZ, Sound, Each, S
 use Rattle.refinement.specs.Settled.{size-is, known-small, settled-is, settled-sets}
 use Rattle.refinement.specs.Lists.{firstOf, secondOf, outputOf}
 use Rattle.refinement.specs.Seen.{Seen, yes, seenRead, seenPushed, seenTmp, seenPush}
-use Rattle.meaning.specs.declared.read.Stated.{Stated}
-use Rattle.meaning.specs.Reading.{setSize}
+use Rattle.reading.specs.declared.read.Stated.{Stated}
+use Rattle.reading.specs.Reading.{setSize}
 use Rattle.expression_refinement.specs.Encodings.{Small, Applies, nameAt, tmps, count, Stood, sound-more, params-more, mapping-more, actions-more}
 use Rattle.expression_refinement.specs.Answers.{acts, temps, word, Refines, refines-at}
 

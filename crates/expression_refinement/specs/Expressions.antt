@@ -44,7 +44,7 @@ use Rattle.expression.specs.declared.expr.Expr.{Expr}
 use Rattle.expression.specs.declared.expr.Operand.{Operand}
 use Rattle.expression.specs.Answers.{ExprOut, resolved, OperandOut, operand, operandOf, appliedTo, after}
 use Rattle.meaning.specs.Slots.{argAt, putArg}
-use Rattle.meaning.specs.Reading.{readOperand}
+use Rattle.reading.specs.Reading.{readOperand}
 use Rattle.expression.specs.Calls as calls
 use Rattle.expression.specs.Calls.{inbuiltOr, callUserOp, subpiece}
 use Rattle.expression.specs.Slices.{sliceBits}

@@ -34,8 +34,8 @@ use Rattle.refinement.specs.Settled.{size-is, known-small}
 use Rattle.refinement.specs.RuleKinds.{kindOf}
 use Rattle.refinement.specs.Lists.{firstOf, secondOf, outputOf}
 use Rattle.refinement.specs.Seen.{yes, no, seenRead, seenTmp, seenPush}
-use Rattle.meaning.specs.declared.read.Stated.{Stated}
-use Rattle.meaning.specs.Reading.{neededBytes, stated, setSize, setStated, takeStated, copyTo, byteAligned, sliced, shiftTo, shiftAndMask, partOf, readSlice, pushedTo, pushedOut, readAddress, loadTo, load, loadRegisterTo, loadRegister, readValue, readOperand}
+use Rattle.reading.specs.declared.read.Stated.{Stated}
+use Rattle.reading.specs.Reading.{neededBytes, stated, setSize, setStated, takeStated, copyTo, byteAligned, sliced, shiftTo, shiftAndMask, partOf, readSlice, pushedTo, pushedOut, readAddress, loadTo, load, loadRegisterTo, loadRegister, readValue, readOperand}
 use Rattle.expression_refinement.specs.Encodings.{encX, Applies, Small, SoundX, sound-more, each-more, tmps, count, Stood, stood-more}
 use Rattle.expression_refinement.specs.Answers.{acts, temps, word, Refines, refines-done, bind, bind-read, bind-tmp, bind-require}
 use Rattle.expression_refinement.specs.Below.{Spare, Below, seenStated, set-size}

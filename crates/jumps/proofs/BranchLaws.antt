@@ -20,7 +20,7 @@ use Rattle.meaning.proofs.scope.ExprValue as exprValue
 use Rattle.meaning.specs.declared.scope.Meaning.{Meaning}
 use Rattle.expression.specs.declared.expr.Operand.{Operand}
 use Rattle.meaning.specs.Scopes.{resolveIdent}
-use Rattle.meaning.specs.Reading.{constant, readOperand}
+use Rattle.reading.specs.Reading.{constant, readOperand}
 use Rattle.expression.specs.Answers.{operand, onOperand, after}
 use Rattle.expression.specs.Expressions.{exprValue, resolveExpr}
 use Rattle.walking.specs.declared.walk.Walk.{Walk}

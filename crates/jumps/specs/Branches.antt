@@ -13,7 +13,7 @@ use Rattle.pushing.specs.Pushes.{onRead, pushOp}
 use Rattle.meaning.specs.declared.scope.ExprValue.{ExprValue}
 use Rattle.meaning.specs.declared.scope.Meaning.{Meaning}
 use Rattle.meaning.specs.Scopes.{resolveIdent}
-use Rattle.meaning.specs.Reading.{constant, readOperand}
+use Rattle.reading.specs.Reading.{constant, readOperand}
 use Rattle.expression.specs.Answers.{onOperand, after}
 use Rattle.expression.specs.Expressions.{exprValue, resolveExpr}
 use Rattle.walking.specs.declared.walk.Walk.{Walk}

@@ -1,4 +1,3 @@
-// What a name means, how a value is read, and the words that hold the arguments of a call.
+// What a name means, and the words that hold the arguments of a call.
 pub mod args;
-pub mod read;
 pub mod scope;

@@ -19,7 +19,7 @@ use Rattle.meaning.proofs.scope.ExprValue as exprValue
 use Rattle.meaning.specs.declared.args.Args.{Args}
 use Rattle.meaning.specs.Slots.{paramPlace, argAt}
 use Rattle.meaning.specs.Scopes.{global}
-use Rattle.meaning.specs.Reading.{readOperand}
+use Rattle.reading.specs.Reading.{readOperand}
 use Rattle.expression.specs.Answers.{passed, onArgs, after}
 use Rattle.expression.specs.Calls.{onlyInteger}
 use Rattle.expression.specs.Expressions.{resolveArgs, resolveExpr}

@@ -21,7 +21,7 @@ use Rattle.meaning.specs.declared.scope.ExprValue.{ExprValue}
 use Rattle.meaning.proofs.scope.ExprValue as exprValue
 use Rattle.expression.specs.declared.expr.Expr.{Expr}
 use Rattle.meaning.specs.Scopes.{global, namedTmp}
-use Rattle.meaning.specs.Reading.{readValue, readOperand}
+use Rattle.reading.specs.Reading.{readValue, readOperand}
 use Rattle.expression.specs.Answers.{resolved, onExpr, after}
 use Rattle.expression.specs.Expressions.{exprValue, resolveExpr}
 use Rattle.walking.specs.declared.walk.Walk.{Walk}

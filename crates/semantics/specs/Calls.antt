@@ -13,7 +13,7 @@ use Rattle.pushing.specs.Pushes.{onRead, onPush, push}
 use Rattle.meaning.specs.declared.args.Args.{Args}
 use Rattle.meaning.specs.Slots.{paramPlace, argAt}
 use Rattle.meaning.specs.Scopes.{global}
-use Rattle.meaning.specs.Reading.{readOperand}
+use Rattle.reading.specs.Reading.{readOperand}
 use Rattle.expression.specs.Answers.{ArgsOut, passed, onArgs, after}
 use Rattle.expression.specs.Calls.{onlyInteger}
 use Rattle.expression.specs.Expressions.{resolveArgs, resolveExpr}

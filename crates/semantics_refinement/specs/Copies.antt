@@ -29,7 +29,7 @@ use Rattle.refinement.specs.Settled.{size-is, known-small}
 use Rattle.refinement.specs.Lists.{firstOf, secondOf}
 use Rattle.refinement.specs.RuleKinds.{kindOf}
 use Rattle.refinement.specs.Seen.{Seen, no, yes, seenRead}
-use Rattle.meaning.specs.Reading.{byteAligned, sliced, readValue}
+use Rattle.reading.specs.Reading.{byteAligned, sliced, readValue}
 use Rattle.walking.specs.declared.walk.Walk.{Walk}
 use Rattle.walking.specs.Walks.{Stepped, stepped, stepRead, stop, readThen}
 use Rattle.assignments.specs.Copies.{mergeBits, extendBits, insertIn, insertBits, keepBits, writeBits, copyBits, readSliced, copyBytes, copyRange, copyRam, copyInto}

@@ -11,7 +11,7 @@ use Rattle.definition.specs.Statements as d
 use Rattle.pushing.specs.declared.push.Env.{Env as WordEnv}
 use Rattle.refinement.specs.Encoding.{encV, Sound}
 use Rattle.refinement.specs.Seen.{seenRead}
-use Rattle.meaning.specs.Reading.{readValue}
+use Rattle.reading.specs.Reading.{readValue}
 use Rattle.walking.specs.declared.walk.Walk.{Walk}
 use Rattle.walking.specs.Walks.{stepRead, readThen}
 use Rattle.expression_refinement.specs.Encodings.{encX, SoundX, count, Stood}

@@ -28,7 +28,7 @@ use Rattle.refinement.specs.Lists.{firstOf, secondOf}
 use Rattle.refinement.specs.RuleKinds.{kindOf}
 use Rattle.refinement.specs.Seen.{seenRead}
 use Rattle.expression.specs.Answers.{after}
-use Rattle.meaning.specs.Reading.{readOperand}
+use Rattle.reading.specs.Reading.{readOperand}
 use Rattle.walking.specs.declared.walk.Walk.{Walk}
 use Rattle.walking.specs.Walks.{Stepped, stepRead}
 use Rattle.semantics.specs.Simple.{unimplemented, exportValue, exportRead, exportOf, exportStatement}

@@ -36,8 +36,8 @@ use Rattle.refinement.specs.Settled.{size-is, known-small}
 use Rattle.refinement.specs.Lists.{firstOf, secondOf, outputOf}
 use Rattle.refinement.specs.RuleKinds.{kindOf}
 use Rattle.refinement.specs.Seen.{no, yes}
-use Rattle.meaning.specs.declared.read.Stated.{Stated}
-use Rattle.meaning.specs.Reading.{stated, setSize, setStated, takeStated}
+use Rattle.reading.specs.declared.read.Stated.{Stated}
+use Rattle.reading.specs.Reading.{stated, setSize, setStated, takeStated}
 use Rattle.expression.specs.Addresses.{resolveAddress}
 use Rattle.expression.specs.Expressions.{skipExpr}
 use Rattle.walking.specs.declared.walk.Walk.{Walk}

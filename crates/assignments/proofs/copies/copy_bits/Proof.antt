@@ -3,7 +3,7 @@ use Rattle.assignments.proofs.copies.copy_bits.Statement.{statement}
 use Rattle.assignments.proofs.copies.copy_bits.Tie as tie
 use Rattle.assignments.proofs.copies.copy_bits.Reads as reads
 use Rattle.assignments.proofs.copies.copy_bits.Lts as lts
-use Rattle.meaning.proofs.read.read_operand.Reads as read-operand-reads
+use Rattle.reading.proofs.read.read_operand.Reads as read-operand-reads
 use Rattle.assignments.proofs.copies.write_bits.Reads as write-bits-reads
 use Rattle.assignments.proofs.CopyLaws.{bit-laws}
 use Rattle.assignments.proofs.CopyLaws.{copy-laws}

@@ -3,8 +3,8 @@ use Rattle.assignments.proofs.copies.copy_bytes.Statement.{statement}
 use Rattle.assignments.proofs.copies.copy_bytes.Tie as tie
 use Rattle.assignments.proofs.copies.copy_bytes.Reads as reads
 use Rattle.assignments.proofs.copies.copy_bytes.Lts as lts
-use Rattle.meaning.proofs.read.read_value.Reads as read-value-reads
-use Rattle.meaning.proofs.read.sliced.Reads as sliced-reads
+use Rattle.reading.proofs.read.read_value.Reads as read-value-reads
+use Rattle.reading.proofs.read.sliced.Reads as sliced-reads
 use Rattle.assignments.proofs.CopyLaws.{bit-laws}
 use Rattle.assignments.proofs.CopyLaws.{copy-laws}
 

@@ -3,7 +3,7 @@ use Rattle.assignments.proofs.copies.copy_into.Statement.{statement}
 use Rattle.assignments.proofs.copies.copy_into.Tie as tie
 use Rattle.assignments.proofs.copies.copy_into.Reads as reads
 use Rattle.assignments.proofs.copies.copy_into.Lts as lts
-use Rattle.meaning.proofs.read.read_value.Reads as read-value-reads
+use Rattle.reading.proofs.read.read_value.Reads as read-value-reads
 use Rattle.assignments.proofs.copies.copy_ram.Reads as copy-ram-reads
 use Rattle.assignments.proofs.copies.copy_range.Reads as copy-range-reads
 use Rattle.walking.proofs.walk.read_then.Reads as read-then-reads

@@ -3,7 +3,7 @@ use Rattle.assignments.proofs.copies.copy_ram.Statement.{statement}
 use Rattle.assignments.proofs.copies.copy_ram.Tie as tie
 use Rattle.assignments.proofs.copies.copy_ram.Reads as reads
 use Rattle.assignments.proofs.copies.copy_ram.Lts as lts
-use Rattle.meaning.proofs.read.read_operand.Reads as read-operand-reads
+use Rattle.reading.proofs.read.read_operand.Reads as read-operand-reads
 use Rattle.assignments.proofs.stores.store.Reads as store-reads
 use Rattle.walking.proofs.walk.stop.Reads as stop-reads
 use Rattle.assignments.proofs.CopyLaws.{bit-laws}

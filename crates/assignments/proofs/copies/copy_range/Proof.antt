@@ -3,7 +3,7 @@ use Rattle.assignments.proofs.copies.copy_range.Statement.{statement}
 use Rattle.assignments.proofs.copies.copy_range.Tie as tie
 use Rattle.assignments.proofs.copies.copy_range.Reads as reads
 use Rattle.assignments.proofs.copies.copy_range.Lts as lts
-use Rattle.meaning.proofs.read.byte_aligned.Reads as byte-aligned-reads
+use Rattle.reading.proofs.read.byte_aligned.Reads as byte-aligned-reads
 use Rattle.assignments.proofs.copies.copy_bits.Reads as copy-bits-reads
 use Rattle.assignments.proofs.copies.copy_bytes.Reads as copy-bytes-reads
 use Rattle.assignments.proofs.CopyLaws.{bit-laws}

@@ -4,7 +4,7 @@ use Rattle.assignments.proofs.copies.extend_bits.Tie as tie
 use Rattle.assignments.proofs.copies.extend_bits.Reads as reads
 use Rattle.assignments.proofs.copies.extend_bits.Lts as lts
 use Rattle.cells.proofs.mask.Reads as mask-reads
-use Rattle.meaning.proofs.read.constant.Reads as constant-reads
+use Rattle.reading.proofs.read.constant.Reads as constant-reads
 use Rattle.pushing.proofs.push.op_to.Reads as op-to-reads
 use Rattle.pcode.proofs.value.absent.Reads as absent-reads
 use Rattle.assignments.proofs.CopyLaws.{bit-laws}

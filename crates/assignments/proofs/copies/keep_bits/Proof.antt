@@ -3,7 +3,7 @@ use Rattle.assignments.proofs.copies.keep_bits.Statement.{statement}
 use Rattle.assignments.proofs.copies.keep_bits.Tie as tie
 use Rattle.assignments.proofs.copies.keep_bits.Reads as reads
 use Rattle.assignments.proofs.copies.keep_bits.Lts as lts
-use Rattle.meaning.proofs.read.constant.Reads as constant-reads
+use Rattle.reading.proofs.read.constant.Reads as constant-reads
 use Rattle.pushing.proofs.push.op_to.Reads as op-to-reads
 use Rattle.assignments.proofs.copies.insert_bits.Reads as insert-bits-reads
 use Rattle.assignments.proofs.copies.mask_but.Reads as mask-but-reads

@@ -3,7 +3,7 @@ use Rattle.assignments.proofs.stores.store.Statement.{statement}
 use Rattle.assignments.proofs.stores.store.Tie as tie
 use Rattle.assignments.proofs.stores.store.Reads as reads
 use Rattle.assignments.proofs.stores.store.Lts as lts
-use Rattle.meaning.proofs.read.take_stated.Reads as take-stated-reads
+use Rattle.reading.proofs.read.take_stated.Reads as take-stated-reads
 use Rattle.pushing.proofs.push.push_op.Reads as push-op-reads
 use Rattle.pcode.proofs.value.no_output.Reads as no-output-reads
 use Rattle.walking.proofs.walk.pushed_then.Reads as pushed-then-reads

@@ -3,7 +3,7 @@ use Rattle.assignments.proofs.stores.store_register.Statement.{statemen
 use Rattle.assignments.proofs.stores.store_register.Tie as tie
 use Rattle.assignments.proofs.stores.store_register.Reads as reads
 use Rattle.assignments.proofs.stores.store_register.Lts as lts
-use Rattle.meaning.proofs.read.set_stated.Reads as set-stated-reads
+use Rattle.reading.proofs.read.set_stated.Reads as set-stated-reads
 use Rattle.pushing.proofs.push.push.Reads as push-reads
 use Rattle.pcode.proofs.value.absent.Reads as absent-reads
 use Rattle.walking.proofs.walk.pushed_then.Reads as pushed-then-reads

@@ -5,7 +5,7 @@ use Rattle.expression.proofs.address.address_in.Reads as reads
 use Rattle.expression.proofs.address.address_in.Lts as lts
 use Rattle.expression.proofs.address.reference.Reads as reference-reads
 use Rattle.expression.proofs.address.resolve_space.Reads as resolve-space-reads
-use Rattle.meaning.proofs.read.read_operand.Reads as read-operand-reads
+use Rattle.reading.proofs.read.read_operand.Reads as read-operand-reads
 use Rattle.expression.proofs.SliceLaws.{address-laws}
 
 -- src/address.rt:110:11

@@ -3,7 +3,7 @@ use Rattle.expression.proofs.calls.pass_arg.Statement.{statement}
 use Rattle.expression.proofs.calls.pass_arg.Tie as tie
 use Rattle.expression.proofs.calls.pass_arg.Reads as reads
 use Rattle.expression.proofs.calls.pass_arg.Lts as lts
-use Rattle.meaning.proofs.read.read_operand.Reads as read-operand-reads
+use Rattle.reading.proofs.read.read_operand.Reads as read-operand-reads
 use Rattle.pushing.proofs.push.push_op.Reads as push-op-reads
 use Rattle.pcode.proofs.value.absent.Reads as absent-reads
 use Rattle.pcode.proofs.value.no_output.Reads as no-output-reads

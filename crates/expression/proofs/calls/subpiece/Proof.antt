@@ -4,7 +4,7 @@ use Rattle.expression.proofs.calls.subpiece.Tie as tie
 use Rattle.expression.proofs.calls.subpiece.Reads as reads
 use Rattle.expression.proofs.calls.subpiece.Lts as lts
 use Rattle.expression.proofs.calls.subpiece_of.Reads as subpiece-of-reads
-use Rattle.meaning.proofs.read.read_operand.Reads as read-operand-reads
+use Rattle.reading.proofs.read.read_operand.Reads as read-operand-reads
 use Rattle.meaning.proofs.scope.resolve_ident.Reads as resolve-ident-reads
 use Rattle.expression.proofs.CallLaws.{call-laws}
 

@@ -6,7 +6,7 @@ use Rattle.expression.proofs.calls.user_op_some.Lts as lts
 use Rattle.meaning.proofs.args.arg_at.Reads as arg-at-reads
 use Rattle.expression.proofs.calls.applied.Reads as applied-reads
 use Rattle.expression.proofs.calls.user_op_two.Reads as user-op-two-reads
-use Rattle.meaning.proofs.read.read_operand.Reads as read-operand-reads
+use Rattle.reading.proofs.read.read_operand.Reads as read-operand-reads
 use Rattle.pcode.proofs.value.absent.Reads as absent-reads
 use Rattle.expression.proofs.CallLaws.{call-laws}
 

@@ -41,7 +41,7 @@ use Rattle.expression.proofs.expr.plain_operand.Reads as plain-operand-
 use Rattle.expression.proofs.expr.value_then.Reads as value-then-reads
 use Rattle.expression.proofs.expr.with_part.Reads as with-part-reads
 use Rattle.meaning.proofs.args.put_arg.Reads as put-arg-reads
-use Rattle.meaning.proofs.read.read_operand.Reads as read-operand-reads
+use Rattle.reading.proofs.read.read_operand.Reads as read-operand-reads
 use Rattle.expression.proofs.expr.+call_inbuilt+expr_value+part+resolve_args+resolve_call+resolve_expr+resolve_op+user_op.{statement}
 use Rattle.expression.proofs.expr.+call_inbuilt+expr_value+part+resolve_args+resolve_call+resolve_expr+resolve_op+user_op.Tie.{close}
 use Rattle.expression.proofs.ExprLaws.{walk-laws, args-start, args-no, args-more, args-done}

@@ -3,7 +3,7 @@ use Rattle.expression.proofs.slices.slice_const.Statement.{statement}
 use Rattle.expression.proofs.slices.slice_const.Tie as tie
 use Rattle.expression.proofs.slices.slice_const.Reads as reads
 use Rattle.expression.proofs.slices.slice_const.Lts as lts
-use Rattle.meaning.proofs.read.needed_bytes.Reads as needed-bytes-reads
+use Rattle.reading.proofs.read.needed_bytes.Reads as needed-bytes-reads
 use Rattle.expression.proofs.slices.const_bytes.Reads as const-bytes-reads
 use Rattle.expression.proofs.slices.low_bits.Reads as low-bits-reads
 use Rattle.expression.proofs.SliceLaws.{slice-laws, bytes-small}

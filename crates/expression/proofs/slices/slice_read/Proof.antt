@@ -3,8 +3,8 @@ use Rattle.expression.proofs.slices.slice_read.Statement.{statement}
 use Rattle.expression.proofs.slices.slice_read.Tie as tie
 use Rattle.expression.proofs.slices.slice_read.Reads as reads
 use Rattle.expression.proofs.slices.slice_read.Lts as lts
-use Rattle.meaning.proofs.read.read_operand.Reads as read-operand-reads
-use Rattle.meaning.proofs.read.read_slice.Reads as read-slice-reads
+use Rattle.reading.proofs.read.read_operand.Reads as read-operand-reads
+use Rattle.reading.proofs.read.read_slice.Reads as read-slice-reads
 use Rattle.expression.proofs.slices.unbound_then.Reads as unbound-then-reads
 use Rattle.pcode.proofs.value.absent.Reads as absent-reads
 use Rattle.expression.proofs.SliceLaws.{slice-laws}

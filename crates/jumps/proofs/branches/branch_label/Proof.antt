@@ -3,7 +3,7 @@ use Rattle.jumps.proofs.branches.branch_label.Statement.{statement}
 use Rattle.jumps.proofs.branches.branch_label.Tie as tie
 use Rattle.jumps.proofs.branches.branch_label.Reads as reads
 use Rattle.jumps.proofs.branches.branch_label.Lts as lts
-use Rattle.meaning.proofs.read.constant.Reads as constant-reads
+use Rattle.reading.proofs.read.constant.Reads as constant-reads
 use Rattle.pushing.proofs.push.push_op.Reads as push-op-reads
 use Rattle.pcode.proofs.value.no_output.Reads as no-output-reads
 use Rattle.jumps.proofs.labels.labelled.Reads as labelled-reads

@@ -3,7 +3,7 @@ use Rattle.jumps.proofs.branches.indirect.Statement.{statement}
 use Rattle.jumps.proofs.branches.indirect.Tie as tie
 use Rattle.jumps.proofs.branches.indirect.Reads as reads
 use Rattle.jumps.proofs.branches.indirect.Lts as lts
-use Rattle.meaning.proofs.read.read_operand.Reads as read-operand-reads
+use Rattle.reading.proofs.read.read_operand.Reads as read-operand-reads
 use Rattle.jumps.proofs.branches.branch_to.Reads as branch-to-reads
 use Rattle.walking.proofs.walk.stop.Reads as stop-reads
 use Rattle.jumps.proofs.BranchLaws.{branch-laws}

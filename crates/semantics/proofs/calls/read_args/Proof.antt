@@ -3,7 +3,7 @@ use Rattle.semantics.proofs.calls.read_args.Tie as tie
 use Rattle.semantics.proofs.calls.read_args.Reads as reads
 use Rattle.semantics.proofs.calls.read_args.Lts as lts
 use Rattle.meaning.proofs.args.arg_at.Reads as arg-at-reads
-use Rattle.meaning.proofs.read.read_operand.Reads as read-operand-reads
+use Rattle.reading.proofs.read.read_operand.Reads as read-operand-reads
 use Rattle.meaning.proofs.scope.param_place.Reads as param-place-reads
 use Rattle.pcode.proofs.value.put_value.Reads as put-value-reads
 use borrow.Author.Needs.{needs}

@@ -4,7 +4,7 @@ use Rattle.semantics.proofs.simple.assign.Tie as tie
 use Rattle.semantics.proofs.simple.assign.Reads as reads
 use Rattle.semantics.proofs.simple.assign.Lts as lts
 use Rattle.expression.proofs.expr.resolve_expr.Reads as resolve-expr-reads
-use Rattle.meaning.proofs.read.read_value.Reads as read-value-reads
+use Rattle.reading.proofs.read.read_value.Reads as read-value-reads
 use Rattle.walking.proofs.walk.read_then.Reads as read-then-reads
 use Rattle.walking.proofs.walk.stop.Reads as stop-reads
 use Rattle.semantics.proofs.SimpleLaws.{simple-laws}

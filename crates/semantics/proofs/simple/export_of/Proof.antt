@@ -3,7 +3,7 @@ use Rattle.semantics.proofs.simple.export_of.Statement.{statement}
 use Rattle.semantics.proofs.simple.export_of.Tie as tie
 use Rattle.semantics.proofs.simple.export_of.Reads as reads
 use Rattle.semantics.proofs.simple.export_of.Lts as lts
-use Rattle.meaning.proofs.read.read_operand.Reads as read-operand-reads
+use Rattle.reading.proofs.read.read_operand.Reads as read-operand-reads
 use Rattle.semantics.proofs.simple.export_value.Reads as export-value-reads
 use Rattle.semantics.proofs.simple.exported.Reads as exported-reads
 use Rattle.semantics.proofs.SimpleLaws.{simple-laws}

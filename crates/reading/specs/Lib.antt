@@ -1,0 +1,2 @@
+-- The words: for each function of the code, what it computes on the very lists and positions that it has.
+pub mod Reading
