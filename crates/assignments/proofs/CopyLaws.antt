@@ -22,11 +22,11 @@ use Rattle.pushing.specs.Pushes.{read, onRead, onTmp, addTmp, opTo}
 use Rattle.meaning.specs.declared.scope.ExprValue.{ExprValue}
 use Rattle.meaning.proofs.scope.ExprValue as exprValue
 use Rattle.meaning.specs.declared.scope.Meaning.{Meaning}
-use Rattle.expression.specs.declared.expr.Expr.{Expr}
+use Rattle.terms.specs.declared.answers.Expr.{Expr}
 use Rattle.meaning.specs.Scopes.{resolveIdent, plainLocal, namedTmp}
 use Rattle.meaning.proofs.PlainLaws.{plain-means, plain-wrong}
 use Rattle.reading.specs.Reading.{constant, byteAligned, sliced, readValue, readOperand}
-use Rattle.expression.specs.Answers.{resolved, onExpr, after}
+use Rattle.terms.specs.Answers.{resolved, onExpr, after}
 use Rattle.expression.specs.Expressions.{exprValue, atom, resolveExpr}
 use Rattle.expression.proofs.ExprLaws.{name-plain, expr-atom}
 use Rattle.walking.specs.declared.walk.Walk.{Walk}

@@ -14,12 +14,12 @@ use Rattle.pcode.specs.Values.{absent, noOutput}
 use Rattle.pushing.specs.Pushes.{pushed, push, pushOp}
 use Rattle.meaning.specs.declared.scope.ExprValue.{ExprValue}
 use Rattle.meaning.proofs.scope.ExprValue as exprValue
-use Rattle.expression.specs.declared.expr.Expr.{Expr}
-use Rattle.expression.specs.declared.expr.Operand.{Operand}
+use Rattle.terms.specs.declared.answers.Expr.{Expr}
+use Rattle.terms.specs.declared.answers.Operand.{Operand}
 use Rattle.reading.specs.declared.read.Stated.{Stated}
 use Rattle.reading.specs.Reading.{setStated, takeStated}
-use Rattle.expression.specs.Answers.{resolved, onExpr, operand, onOperand, after}
-use Rattle.expression.specs.Addresses.{resolveAddress}
+use Rattle.terms.specs.Answers.{resolved, onExpr, operand, onOperand, after}
+use Rattle.terms.specs.Addresses.{resolveAddress}
 use Rattle.expression.specs.Expressions.{exprValue, skipExpr, resolveExpr}
 use Rattle.walking.specs.declared.walk.Walk.{Walk}
 use Rattle.walking.specs.declared.walk.Step.{Step}

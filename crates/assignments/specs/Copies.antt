@@ -16,10 +16,10 @@ use Rattle.pcode.specs.Sizes.{sizeOf}
 use Rattle.pushing.specs.Pushes.{ReadOut, read, onRead, onTmp, addTmp, opTo}
 use Rattle.meaning.specs.declared.scope.ExprValue.{ExprValue}
 use Rattle.meaning.specs.declared.scope.Meaning.{Meaning}
-use Rattle.expression.specs.declared.expr.Expr.{Expr}
+use Rattle.terms.specs.declared.answers.Expr.{Expr}
 use Rattle.meaning.specs.Scopes.{resolveIdent, plainLocal, namedTmp}
 use Rattle.reading.specs.Reading.{constant, byteAligned, sliced, readValue, readOperand}
-use Rattle.expression.specs.Answers.{ExprOut, resolved, onExpr, after}
+use Rattle.terms.specs.Answers.{ExprOut, resolved, onExpr, after}
 use Rattle.expression.specs.Expressions.{resolveExpr}
 use Rattle.walking.specs.declared.walk.Walk.{Walk}
 use Rattle.walking.specs.Walks.{Stepped, stepped, stepRead, stop, readThen}

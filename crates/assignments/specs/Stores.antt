@@ -11,8 +11,8 @@ use Rattle.pushing.specs.Pushes.{push, pushOp}
 use Rattle.meaning.specs.declared.scope.ExprValue.{ExprValue}
 use Rattle.reading.specs.declared.read.Stated.{Stated}
 use Rattle.reading.specs.Reading.{setStated, takeStated}
-use Rattle.expression.specs.Answers.{onExpr, onOperand, after}
-use Rattle.expression.specs.Addresses.{resolveAddress}
+use Rattle.terms.specs.Answers.{onExpr, onOperand, after}
+use Rattle.terms.specs.Addresses.{resolveAddress}
 use Rattle.expression.specs.Expressions.{exprValue, skipExpr, resolveExpr}
 use Rattle.walking.specs.declared.walk.Walk.{Walk}
 use Rattle.walking.specs.Walks.{Stepped, stepped, stepPushed, stop, pushedThen}

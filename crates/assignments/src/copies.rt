@@ -1,8 +1,6 @@
 // Copies: the target is a local, a place in RAM or a range of bits, which keeps the bits around it.
 use crate::stores::store;
 use cells::u16_in;
-use expression::expr::Expr;
-use expression::expr::after;
 use expression::expr::resolve_expr;
 use meaning::scope::ExprValue;
 use meaning::scope::Meaning;
@@ -23,6 +21,8 @@ use reading::read::constant;
 use reading::read::read_operand;
 use reading::read::read_value;
 use reading::read::sliced;
+use terms::answers::Expr;
+use terms::answers::after;
 use walking::walk::Step;
 use walking::walk::Walk;
 use walking::walk::read_then;
@@ -31,7 +31,7 @@ ghost use mathlib.Core.Path.{_≡_};
 ghost use Prim.Native.Nat.{_<_};
 ghost use Rattle.pcode.specs.Base.{listed};
 ghost use Rattle.pushing.specs.Pushes.{read};
-ghost use Rattle.expression.specs.Answers.{resolved};
+ghost use Rattle.terms.specs.Answers.{resolved};
 ghost use Rattle.walking.specs.Walks.{stepped};
 ghost use Rattle.assignments.specs.Copies.{maskBut, mergeBits, extendBits, insertIn, insertBits, keepBits, writeBits, copyBits, copyBytes, copyRange, copyRam, copyInto, targetName, targetSize, afterTarget, newTarget, isWrong, isNew, plainTarget, resolveDst, copyTarget, copyStatement};
 

@@ -1,9 +1,5 @@
 // Stores: the value is read before the pointer.
 use cells::u16_in;
-use expression::address::resolve_address;
-use expression::expr::Expr;
-use expression::expr::Operand;
-use expression::expr::after;
 use expression::expr::expr_value;
 use expression::expr::resolve_expr;
 use expression::expr::skip_expr;
@@ -17,6 +13,10 @@ use pushing::push::push;
 use pushing::push::push_op;
 use reading::read::set_stated;
 use reading::read::take_stated;
+use terms::address::resolve_address;
+use terms::answers::Expr;
+use terms::answers::Operand;
+use terms::answers::after;
 use walking::walk::Step;
 use walking::walk::Walk;
 use walking::walk::pushed_then;

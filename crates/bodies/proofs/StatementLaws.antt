@@ -11,7 +11,7 @@ use Rattle.pushing.specs.declared.push.Env.{Env}
 use Rattle.pcode.specs.Base.{if_then_else_, listed, thenL}
 use Rattle.meaning.proofs.scope.ExprValue as exprValue
 use Rattle.meaning.specs.declared.args.Args.{Args}
-use Rattle.expression.specs.Answers.{passed, onArgs, after}
+use Rattle.terms.specs.Answers.{passed, onArgs, after}
 use Rattle.walking.specs.declared.walk.Walk.{Walk}
 use Rattle.walking.specs.declared.walk.Step.{Step}
 use Rattle.semantics.specs.declared.calls.Called.{Called}

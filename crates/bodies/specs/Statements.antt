@@ -7,7 +7,7 @@ use Rattle.cells.specs.Le.{le16}
 use Rattle.pushing.specs.declared.push.State.{State}
 use Rattle.pushing.specs.declared.push.Env.{Env}
 use Rattle.pcode.specs.Base.{if_then_else_, thenL}
-use Rattle.expression.specs.Answers.{onArgs, after}
+use Rattle.terms.specs.Answers.{onArgs, after}
 use Rattle.walking.specs.declared.walk.Walk.{Walk}
 use Rattle.walking.specs.declared.walk.Step.{Step}
 use Rattle.semantics.specs.declared.calls.Called.{Called}

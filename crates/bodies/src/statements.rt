@@ -2,7 +2,6 @@
 use assignments::copies::copy_statement;
 use assignments::stores::store_statement;
 use cells::u16_in;
-use expression::expr::after;
 use jumps::branches::branch;
 use jumps::branches::cond_branch;
 use jumps::branches::label_statement;
@@ -19,6 +18,7 @@ use semantics::simple::export_statement;
 use semantics::simple::local_assignment;
 use semantics::simple::local_statement;
 use semantics::simple::unimplemented;
+use terms::answers::after;
 use walking::walk::Step;
 use walking::walk::Walk;
 use walking::walk::stop;

@@ -23,34 +23,22 @@ use Rattle.pushing.specs.Pushes.{read}
 use Rattle.meaning.specs.declared.scope.ExprValue.{ExprValue}
 use Rattle.meaning.proofs.scope.ExprValue as exprValues
 use Rattle.meaning.specs.declared.scope.Meaning.{Meaning}
-use Rattle.expression.specs.declared.expr.Expr.{Expr}
-use Rattle.expression.specs.declared.expr.Operand.{Operand}
+use Rattle.terms.specs.declared.answers.Expr.{Expr}
+use Rattle.terms.specs.declared.answers.Operand.{Operand}
 use Rattle.expression.specs.declared.expr.Order.{Order}
 use Rattle.meaning.specs.declared.args.Args.{Args}
-use Rattle.expression.specs.declared.calls.Callee.{Callee}
+use Rattle.terms.specs.declared.calls.Callee.{Callee}
 use Rattle.meaning.specs.Slots.{putArg}
 use Rattle.meaning.specs.Scopes.{resolveIdent, plainLocal}
 use Rattle.meaning.proofs.PlainLaws.{plain-means, plain-least}
 use Rattle.reading.specs.Reading.{constant, copyTo, readValue, readOperand}
-use Rattle.expression.specs.Answers.{resolved, onExpr, operand, onOperand, ArgsOut, passed, onArgs, operandOf, appliedTo, after}
-use Rattle.expression.specs.Slices.{sliceBits}
-use Rattle.expression.specs.Addresses.{resolveAddress}
-use Rattle.expression.specs.Calls.{calleeOf, applied, callUserOp, subpiece}
+use Rattle.terms.specs.Answers.{resolved, onExpr, operand, onOperand, ArgsOut, passed, onArgs, operandOf, appliedTo, after}
+use Rattle.terms.specs.Slices.{sliceBits}
+use Rattle.terms.specs.Addresses.{resolveAddress}
+use Rattle.terms.specs.Calls.{calleeOf, applied, callUserOp, subpiece}
 use Rattle.expression.specs.Expressions.{valueThen, meansAt, localAddress, addressMeant, addressOf, atom, plainAt, plainOperand, operationOf, later, skipExpr, order, orderOf, operandsAround, operandsOf, apply1, apply2, partAt, withPart, Walk, exprValue, part, binary, resolveOp, secondOf, callInbuilt, resolveArgs, userOp, callNamed, resolveCall, byCode, resolveExpr}
 
 -- ---- positions
-pub after-near : (pos n : ℕ) → pos < 65536 → n < 65536 → pos + n ≡ after pos n
-unfolding after if_then_else_
-after-near pos n h k = rw (lt-ltb pos 65536 h, lt-ltb n 65536 k)
-
-pub after-long : (pos n : ℕ) → pos < 65536 → 65536 ≤ n → pos ≡ after pos n
-unfolding after if_then_else_
-after-long pos n h k = rw (lt-ltb pos 65536 h, le-ltb n 65536 k)
-
-pub after-far : (pos n : ℕ) → 65536 ≤ pos → pos ≡ after pos n
-unfolding after if_then_else_
-after-far pos n h = rw (le-ltb pos 65536 h)
-
 pub later-second : (x y : ℕ) → x < y → y ≡ later x y
 unfolding later if_then_else_
 later-second x y h = rw (lt-ltb x y h)
@@ -409,6 +397,6 @@ value-plain d s t p e pos a m st q z f h g = rw g (go (eqb d 0) refl (eqb (getD 
     go false ex false ey true ew f = rw f (integer-atom d s t p e pos a m st (eqb-false d 0 ex) (eqb-true (getD s (pos + 0) 0) 1 ew))
     go false ex false ey false ew f = absurd (omega arith)
 
-pub ruleset expr-laws = (after-near, after-long, after-far, later-second, later-first, part-deref, part-other, skip-law, then-no, then-value, means-wrong, means-value, apply1-no, apply1-value, apply2-no, apply2-value, address-local, address-other, address-wrong, address-meant, name-plain, name-other, atom-name, atom-integer, atom-address, plain-deep, plain-name, plain-integer, plain-none, operand-local, operand-integer, operation-33, operation-34, operation-35, operation-36, operation-37, operation-38, operation-same, order-written, order-swapped, with-truncate, with-slice, with-deref)
+pub ruleset expr-laws = (later-second, later-first, part-deref, part-other, skip-law, then-no, then-value, means-wrong, means-value, apply1-no, apply1-value, apply2-no, apply2-value, address-local, address-other, address-wrong, address-meant, name-plain, name-other, atom-name, atom-integer, atom-address, plain-deep, plain-name, plain-integer, plain-none, operand-local, operand-integer, operation-33, operation-34, operation-35, operation-36, operation-37, operation-38, operation-same, order-written, order-swapped, with-truncate, with-slice, with-deref)
 
 pub ruleset walk-laws = (part-no, part-yes, value-no, value-yes, value-plain, operator-no, operator-yes, inbuilt-one, inbuilt-no, inbuilt-two, user-no, user-yes, call-inbuilt, call-user-op, call-subpiece, call-refused, expr-deep, expr-atom, expr-operator, expr-part, expr-pool, expr-call)

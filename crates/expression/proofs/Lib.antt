@@ -1,3 +1,1 @@
-pub mod SliceLaws
-pub mod CallLaws
 pub mod ExprLaws

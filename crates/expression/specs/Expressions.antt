@@ -14,18 +14,18 @@ use Rattle.pcode.specs.Base.{if_then_else_}
 use Rattle.pcode.specs.Values.{absent, local}
 use Rattle.meaning.specs.declared.scope.ExprValue.{ExprValue}
 use Rattle.meaning.specs.declared.scope.Meaning.{Meaning}
-use Rattle.expression.specs.declared.expr.Expr.{Expr}
-use Rattle.expression.specs.declared.expr.Operand.{Operand}
+use Rattle.terms.specs.declared.answers.Expr.{Expr}
+use Rattle.terms.specs.declared.answers.Operand.{Operand}
 use Rattle.expression.specs.declared.expr.Order.{Order}
 use Rattle.meaning.specs.declared.args.Args.{Args}
-use Rattle.expression.specs.declared.calls.Callee.{Callee}
+use Rattle.terms.specs.declared.calls.Callee.{Callee}
 use Rattle.meaning.specs.Slots.{putArg}
 use Rattle.meaning.specs.Scopes.{resolveIdent, plainLocal}
 use Rattle.reading.specs.Reading.{constant, readOperand}
-use Rattle.expression.specs.Answers.{ExprOut, resolved, onExpr, OperandOut, operand, onOperand, ArgsOut, passed, onArgs, operandOf, appliedTo, after}
-use Rattle.expression.specs.Slices.{sliceBits}
-use Rattle.expression.specs.Addresses.{resolveAddress}
-use Rattle.expression.specs.Calls.{calleeOf, applied, callUserOp, subpiece}
+use Rattle.terms.specs.Answers.{ExprOut, resolved, onExpr, OperandOut, operand, onOperand, ArgsOut, passed, onArgs, operandOf, appliedTo, after}
+use Rattle.terms.specs.Slices.{sliceBits}
+use Rattle.terms.specs.Addresses.{resolveAddress}
+use Rattle.terms.specs.Calls.{calleeOf, applied, callUserOp, subpiece}
 
 unfoldable pub valueThen : ℕ → Read → Operand
 valueThen next (Read.Value v st) = Operand.Value v next st

@@ -1,10 +1,4 @@
 // Expressions, resolved by a walk over their prefix code: each part one level deeper.
-use crate::address::resolve_address;
-use crate::calls::applied;
-use crate::calls::call_user_op;
-use crate::calls::callee_of;
-use crate::calls::subpiece;
-use crate::slices::slice_bits;
 use cells::u16_in;
 use meaning::args::Args;
 use meaning::args::put_arg;
@@ -21,42 +15,24 @@ use pushing::push::State;
 use reading::read::constant;
 use reading::read::read_operand;
 use syntax::cursor::Cursor;
+use terms::address::resolve_address;
+use terms::answers::Expr;
+use terms::answers::Operand;
+use terms::answers::after;
+use terms::calls::applied;
+use terms::calls::call_user_op;
+use terms::calls::callee_of;
+use terms::calls::subpiece;
+use terms::slices::slice_bits;
 ghost use mathlib.Core.Path.{_≡_};
-ghost use Rattle.expression.specs.Answers.{after, resolved, operand, passed};
+ghost use Rattle.terms.specs.Answers.{resolved, operand, passed};
 ghost use Rattle.expression.specs.Expressions.{valueThen, meansAt, localAddress, addressOf, atom, plainAt, plainOperand, operationOf, later, skipExpr, operandsOf, apply1, apply2, partAt, withPart, exprValue, part, resolveOp, callInbuilt, resolveArgs, userOp, resolveCall, resolveExpr};
-
-// The place comes first: so the value begins on a boundary of 16 bytes, which makes copies of it faster.
-pub enum Expr {
-    Value {
-        next: usize,
-        x: ExprValue,
-        st: State,
-    },
-    No(u64),
-}
-
-pub enum Operand {
-    Value { v: Value, next: usize, st: State },
-    No(u64),
-}
 
 // Where the operands of an operator stand, in the order in which they are resolved.
 pub struct Order {
     pub op: u64,
     pub first: usize,
     pub second: usize,
-}
-
-// A position so many bytes on; a stream has fewer than 65,536.
-pub fn after(pos: usize, n: usize) -> usize
-    ensures { λ r. ⌜ r ≡ after pos n ⌝ }
-{
-    if pos < 65536 {
-        if n < 65536 {
-            return pos + n;
-        }
-    }
-    pos
 }
 
 fn value_then(r: Read, next: usize) -> Operand

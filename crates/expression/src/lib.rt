@@ -1,5 +1,2 @@
-// Expressions: slices, addresses and calls, and the walk over an expression's prefix code.
-pub mod address;
-pub mod calls;
+// The walk over an expression's prefix code.
 pub mod expr;
-mod slices;

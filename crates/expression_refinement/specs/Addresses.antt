@@ -28,11 +28,11 @@ use Rattle.pushing.specs.Pushes.{ReadOut, read}
 use Rattle.section_refinement.specs.Holds.{Holds, spaceAt, spaceKind, symbolWord, absentAt}
 use Rattle.refinement.specs.Encoding.{encV, Sound}
 use Rattle.refinement.specs.Seen.{yes, no, seenRead}
-use Rattle.expression.specs.declared.expr.Expr.{Expr}
-use Rattle.expression.specs.declared.address.Space.{Space}
-use Rattle.expression.specs.Answers.{ExprOut, resolved, exprOf}
+use Rattle.terms.specs.declared.answers.Expr.{Expr}
+use Rattle.terms.specs.declared.address.Space.{Space}
+use Rattle.terms.specs.Answers.{ExprOut, resolved, exprOf}
 use Rattle.reading.specs.Reading.{readOperand}
-use Rattle.expression.specs.Addresses.{orSize, inConstSpace, kindOfSpace, spaceOf, namedSpace, defaultSpace, resolveSpace, referenceTo, reference, inSpace, addressIn, resolveAddress}
+use Rattle.terms.specs.Addresses.{orSize, inConstSpace, kindOfSpace, spaceOf, namedSpace, defaultSpace, resolveSpace, referenceTo, reference, inSpace, addressIn, resolveAddress}
 use Rattle.expression_refinement.specs.Encodings.{encX, Small, SoundX, count, Stood}
 use Rattle.expression_refinement.specs.Answers.{acts, temps, word, seenExpr, refines-stopped, bind}
 use Rattle.expression_refinement.specs.Below.{Spare, Below}

@@ -19,10 +19,10 @@ use Rattle.pushing.specs.Pushes.{ReadOut, read, PushedOut, pushed, onRead, onPu
 use Rattle.refinement.specs.Encoding.{actionsIn, temporariesIn, encS}
 use Rattle.refinement.specs.Seen.{Seen, no, yes, seenRead, seenPushed, seenTmp, outcome}
 use Rattle.meaning.specs.declared.scope.ExprValue.{ExprValue as WordExpr}
-use Rattle.expression.specs.declared.expr.Expr.{Expr}
-use Rattle.expression.specs.declared.expr.Operand.{Operand}
+use Rattle.terms.specs.declared.answers.Expr.{Expr}
+use Rattle.terms.specs.declared.answers.Operand.{Operand}
 use Rattle.meaning.specs.declared.args.Args.{Args}
-use Rattle.expression.specs.Answers.{ExprOut, resolved, onExpr, OperandOut, operand, onOperand, ArgsOut, passed, onArgs}
+use Rattle.terms.specs.Answers.{ExprOut, resolved, onExpr, OperandOut, operand, onOperand, ArgsOut, passed, onArgs}
 use Rattle.expression_refinement.specs.Encodings.{count, Stood, Later, later-refl, later-trans}
 
 -- the value and the position behind it

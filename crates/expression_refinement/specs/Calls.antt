@@ -30,12 +30,12 @@ use Rattle.refinement.specs.Encoding.{encV, Sound, Each}
 use Rattle.refinement.specs.RuleKinds.{kindOf}
 use Rattle.refinement.specs.Lists.{firstOf, secondOf}
 use Rattle.refinement.specs.Seen.{yes, no, seenRead, seenPushed}
-use Rattle.expression.specs.declared.expr.Expr.{Expr}
-use Rattle.expression.specs.declared.calls.Callee.{Callee}
+use Rattle.terms.specs.declared.answers.Expr.{Expr}
+use Rattle.terms.specs.declared.calls.Callee.{Callee}
 use Rattle.meaning.specs.Slots.{argAt}
-use Rattle.expression.specs.Answers.{ExprOut, resolved, exprOf, after}
+use Rattle.terms.specs.Answers.{ExprOut, resolved, exprOf, after}
 use Rattle.reading.specs.Reading.{readOperand}
-use Rattle.expression.specs.Calls.{callee, symbolOf, inbuiltOr, calleeOf, passArg, passFrom, passArgs, applied, userOpTwo, userOpSome, callUserOp, onlyInteger, subpieceFrom, subpieceOf, subpieceMeant, subpiece}
+use Rattle.terms.specs.Calls.{callee, symbolOf, inbuiltOr, calleeOf, passArg, passFrom, passArgs, applied, userOpTwo, userOpSome, callUserOp, onlyInteger, subpieceFrom, subpieceOf, subpieceMeant, subpiece}
 use Rattle.expression_refinement.specs.Encodings.{encX, SoundX, Applies, sound-more, x-more, each-more, count, Stood}
 use Rattle.expression_refinement.specs.Answers.{acts, temps, word, seenExpr, Refines, refines-done, refines-stopped, bind, bind-read, bind-pushed, bind-unless}
 use Rattle.expression_refinement.specs.Below.{Spare, Below}

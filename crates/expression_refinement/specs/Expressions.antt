@@ -40,15 +40,15 @@ use Rattle.refinement.specs.Encoding.{encV, Sound, Each}
 use Rattle.refinement.specs.Lists.{firstOf, secondOf}
 use Rattle.refinement.specs.Seen.{yes, no, seenRead, outcome}
 use Rattle.meaning.specs.declared.scope.ExprValue.{ExprValue as WordExpr}
-use Rattle.expression.specs.declared.expr.Expr.{Expr}
-use Rattle.expression.specs.declared.expr.Operand.{Operand}
-use Rattle.expression.specs.Answers.{ExprOut, resolved, OperandOut, operand, operandOf, appliedTo, after}
+use Rattle.terms.specs.declared.answers.Expr.{Expr}
+use Rattle.terms.specs.declared.answers.Operand.{Operand}
+use Rattle.terms.specs.Answers.{ExprOut, resolved, OperandOut, operand, operandOf, appliedTo, after}
 use Rattle.meaning.specs.Slots.{argAt, putArg}
 use Rattle.reading.specs.Reading.{readOperand}
-use Rattle.expression.specs.Calls as calls
-use Rattle.expression.specs.Calls.{inbuiltOr, callUserOp, subpiece}
-use Rattle.expression.specs.Slices.{sliceBits}
-use Rattle.expression.specs.Addresses.{resolveAddress}
+use Rattle.terms.specs.Calls as calls
+use Rattle.terms.specs.Calls.{inbuiltOr, callUserOp, subpiece}
+use Rattle.terms.specs.Slices.{sliceBits}
+use Rattle.terms.specs.Addresses.{resolveAddress}
 use Rattle.expression.specs.Expressions as words
 use Rattle.expression.specs.Expressions.{valueThen, localAddress, addressMeant, addressOf, atom, later, skipExpr, order, orderOf, operandsAround, operandsOf, apply1, apply2, partAt, withPart, exprValue, part, binary, byCode, resolveExpr}
 use Rattle.expression_refinement.specs.Encodings.{encX, SoundX, Applies, sound-more, x-more, count, Stood}

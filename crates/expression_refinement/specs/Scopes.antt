@@ -27,7 +27,7 @@ use Rattle.refinement.specs.Encoding.{encV, temporariesIn, Sound, SoundTmp, Eac
 use Rattle.refinement.specs.Marks.{tmp-at, tmp-name, tmp-mark}
 use Rattle.meaning.specs.declared.scope.ExprValue.{ExprValue as WordExpr}
 use Rattle.meaning.specs.declared.scope.Meaning.{Meaning as WordMeaning}
-use Rattle.expression.specs.Answers.{resolved}
+use Rattle.terms.specs.Answers.{resolved}
 use Rattle.expression.specs.Expressions.{meansAt}
 use Rattle.meaning.specs.Slots.{ofSlot, slotAt, paramPlace}
 use Rattle.meaning.specs.Scopes as words

@@ -23,10 +23,10 @@ use Rattle.pushing.specs.Pushes.{ReadOut, read}
 use Rattle.refinement.specs.Encoding.{encV, Sound}
 use Rattle.refinement.specs.Seen.{yes, no, seenRead}
 use Rattle.meaning.specs.declared.scope.ExprValue.{ExprValue as WordExpr}
-use Rattle.expression.specs.declared.expr.Expr.{Expr}
-use Rattle.expression.specs.Answers.{ExprOut, resolved, exprOf}
+use Rattle.terms.specs.declared.answers.Expr.{Expr}
+use Rattle.terms.specs.Answers.{ExprOut, resolved, exprOf}
 use Rattle.reading.specs.Reading.{neededBytes, readSlice}
-use Rattle.expression.specs.Slices.{lowBits, unboundThen, sliceRead, constBytes, sliceConst, sliceRange, sliceBits}
+use Rattle.terms.specs.Slices.{lowBits, unboundThen, sliceRead, constBytes, sliceConst, sliceRange, sliceBits}
 use Rattle.expression_refinement.specs.Encodings.{encX, Small, SoundX, count, Stood}
 use Rattle.expression_refinement.specs.Answers.{acts, temps, word, seenExpr, Refines, refines-done, bind, bind-read, bind-unless}
 use Rattle.expression_refinement.specs.Below.{Spare, Below}

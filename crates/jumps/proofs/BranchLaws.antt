@@ -18,10 +18,10 @@ use Rattle.pushing.specs.Pushes.{read, pushed, onRead, pushOp}
 use Rattle.meaning.specs.declared.scope.ExprValue.{ExprValue}
 use Rattle.meaning.proofs.scope.ExprValue as exprValue
 use Rattle.meaning.specs.declared.scope.Meaning.{Meaning}
-use Rattle.expression.specs.declared.expr.Operand.{Operand}
+use Rattle.terms.specs.declared.answers.Operand.{Operand}
 use Rattle.meaning.specs.Scopes.{resolveIdent}
 use Rattle.reading.specs.Reading.{constant, readOperand}
-use Rattle.expression.specs.Answers.{operand, onOperand, after}
+use Rattle.terms.specs.Answers.{operand, onOperand, after}
 use Rattle.expression.specs.Expressions.{exprValue, resolveExpr}
 use Rattle.walking.specs.declared.walk.Walk.{Walk}
 use Rattle.walking.specs.declared.walk.Step.{Step}

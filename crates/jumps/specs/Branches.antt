@@ -14,7 +14,7 @@ use Rattle.meaning.specs.declared.scope.ExprValue.{ExprValue}
 use Rattle.meaning.specs.declared.scope.Meaning.{Meaning}
 use Rattle.meaning.specs.Scopes.{resolveIdent}
 use Rattle.reading.specs.Reading.{constant, readOperand}
-use Rattle.expression.specs.Answers.{onOperand, after}
+use Rattle.terms.specs.Answers.{onOperand, after}
 use Rattle.expression.specs.Expressions.{exprValue, resolveExpr}
 use Rattle.walking.specs.declared.walk.Walk.{Walk}
 use Rattle.walking.specs.Walks.{Stepped, stepped, Walked, walked, stepPushed, besideL, stop, pushedThen}

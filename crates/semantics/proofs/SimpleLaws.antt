@@ -19,10 +19,10 @@ use Rattle.pcode.specs.Sizes.{entry}
 use Rattle.pushing.specs.Pushes.{read, pushed, onTmp, push, pushOp}
 use Rattle.meaning.specs.declared.scope.ExprValue.{ExprValue}
 use Rattle.meaning.proofs.scope.ExprValue as exprValue
-use Rattle.expression.specs.declared.expr.Expr.{Expr}
+use Rattle.terms.specs.declared.answers.Expr.{Expr}
 use Rattle.meaning.specs.Scopes.{global, namedTmp}
 use Rattle.reading.specs.Reading.{readValue, readOperand}
-use Rattle.expression.specs.Answers.{resolved, onExpr, after}
+use Rattle.terms.specs.Answers.{resolved, onExpr, after}
 use Rattle.expression.specs.Expressions.{exprValue, resolveExpr}
 use Rattle.walking.specs.declared.walk.Walk.{Walk}
 use Rattle.walking.specs.declared.walk.Step.{Step}

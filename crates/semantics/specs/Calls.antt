@@ -14,8 +14,8 @@ use Rattle.meaning.specs.declared.args.Args.{Args}
 use Rattle.meaning.specs.Slots.{paramPlace, argAt}
 use Rattle.meaning.specs.Scopes.{global}
 use Rattle.reading.specs.Reading.{readOperand}
-use Rattle.expression.specs.Answers.{ArgsOut, passed, onArgs, after}
-use Rattle.expression.specs.Calls.{onlyInteger}
+use Rattle.terms.specs.Answers.{ArgsOut, passed, onArgs, after}
+use Rattle.terms.specs.Calls.{onlyInteger}
 use Rattle.expression.specs.Expressions.{resolveArgs, resolveExpr}
 use Rattle.walking.specs.declared.walk.Walk.{Walk}
 use Rattle.walking.specs.declared.walk.Step.{Step}

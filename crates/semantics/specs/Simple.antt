@@ -15,7 +15,7 @@ use Rattle.pushing.specs.Pushes.{onTmp, push, pushOp}
 use Rattle.meaning.specs.declared.scope.ExprValue.{ExprValue}
 use Rattle.meaning.specs.Scopes.{global, namedTmp}
 use Rattle.reading.specs.Reading.{readValue, readOperand}
-use Rattle.expression.specs.Answers.{onExpr, after}
+use Rattle.terms.specs.Answers.{onExpr, after}
 use Rattle.expression.specs.Expressions.{resolveExpr}
 use Rattle.walking.specs.declared.walk.Walk.{Walk}
 use Rattle.walking.specs.declared.walk.Step.{Step}

@@ -1,7 +1,5 @@
 // Calls that enter no macro: the delay slot and user ops; and what a macro call is given.
 use cells::u16_in;
-use expression::calls::only_integer;
-use expression::expr::after;
 use expression::expr::resolve_args;
 use meaning::args::Args;
 use meaning::args::arg_at;
@@ -18,13 +16,15 @@ use pushing::push::Read;
 use pushing::push::State;
 use pushing::push::push;
 use reading::read::read_operand;
+use terms::answers::after;
+use terms::calls::only_integer;
 use walking::walk::Step;
 use walking::walk::Walk;
 use walking::walk::pushed_then;
 use walking::walk::stop;
 ghost use mathlib.Core.Path.{_≡_};
 ghost use Rattle.pcode.specs.Base.{listed};
-ghost use Rattle.expression.specs.Answers.{passed};
+ghost use Rattle.terms.specs.Answers.{passed};
 ghost use Rattle.walking.specs.Walks.{stepped};
 ghost use Rattle.semantics.specs.Calls.{symbolOf, calledOf, delaySlot, argsRead, readArgs, writeInputs, pushUserOp, userOpArgs, userOpStatement, otherCall, macroAt, bindNames, counted, macroArgs};
 

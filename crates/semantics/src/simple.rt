@@ -1,7 +1,5 @@
 // Statements of one step: unimplemented, the export, locals, and builds.
 use cells::u16_in;
-use expression::expr::Expr;
-use expression::expr::after;
 use expression::expr::resolve_expr;
 use meaning::scope::ExprValue;
 use meaning::scope::global;
@@ -17,6 +15,8 @@ use pushing::push::push;
 use pushing::push::push_op;
 use reading::read::read_operand;
 use reading::read::read_value;
+use terms::answers::Expr;
+use terms::answers::after;
 use walking::walk::Export;
 use walking::walk::Step;
 use walking::walk::Walk;

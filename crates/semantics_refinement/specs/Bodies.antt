@@ -28,7 +28,7 @@ use Rattle.pushing.specs.declared.push.State.{State as WordState}
 use Rattle.section_refinement.specs.Holds.{Holds}
 use Rattle.section_refinement.specs.Inversion.{statement-at, MacroParts}
 use Rattle.refinement.specs.Encoding.{Each}
-use Rattle.expression.specs.Answers.{after}
+use Rattle.terms.specs.Answers.{after}
 use Rattle.walking.specs.declared.walk.Walk.{Walk}
 use Rattle.walking.specs.declared.walk.Step.{Step}
 use Rattle.walking.specs.Walks.{Walked, onStep}

@@ -39,7 +39,7 @@ use Rattle.walking.specs.declared.walk.Walk.{Walk}
 use Rattle.walking.specs.Walks.{stepPushed, Walked, walked, besideL, stop, pushedThen}
 use Rattle.jumps.specs.Labels.{getOrInsertLabel, onLabel, resolveLabel, labelsAfter}
 use Rattle.jumps.specs.Branches.{pushLabel, labelStatement, branchLabel, labelBranch, jumpValue, afterJump, jumpTo, jumpMeant, jump, resolveBranch, branch, condBranch}
-use Rattle.expression.specs.Answers.{after}
+use Rattle.terms.specs.Answers.{after}
 use Rattle.expression.specs.Expressions.{exprValue, resolveExpr}
 use Rattle.expression_refinement.specs.Encodings.{encX, SoundX, opAction, each-last, placed-last, count, stood-more}
 use Rattle.expression_refinement.specs.Answers.{acts, temps, word}

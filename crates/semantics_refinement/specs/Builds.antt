@@ -24,7 +24,7 @@ use Rattle.pcode.specs.Base.{if_then_else_, Listed, listed, thenL}
 use Rattle.pcode.specs.Sizes.{entry}
 use Rattle.section_refinement.specs.Holds.{subtableAt, symbolWord}
 use Rattle.refinement.specs.Lists.{firstOf, secondOf, outputOf}
-use Rattle.expression.specs.Answers.{after}
+use Rattle.terms.specs.Answers.{after}
 use Rattle.walking.specs.declared.walk.Walk.{Walk}
 use Rattle.walking.specs.declared.walk.Step.{Step}
 use Rattle.walking.specs.Walks.{stepped, stop}

@@ -29,8 +29,8 @@ use Rattle.section_refinement.specs.Holds.{symbolWord}
 use Rattle.section_refinement.specs.Inversion.{CallStatementAt, call-statement-at}
 use Rattle.refinement.specs.Seen.{seenPush}
 use Rattle.refinement.specs.Lists.{firstOf, secondOf, outputOf}
-use Rattle.expression.specs.Answers.{after}
-use Rattle.expression.specs.Calls.{onlyInteger}
+use Rattle.terms.specs.Answers.{after}
+use Rattle.terms.specs.Calls.{onlyInteger}
 use Rattle.walking.specs.declared.walk.Walk.{Walk}
 use Rattle.walking.specs.declared.walk.Step.{Step}
 use Rattle.walking.specs.Walks.{Stepped, stepped, besideL, stop, pushedThen}

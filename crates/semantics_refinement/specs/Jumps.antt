@@ -24,7 +24,7 @@ use Rattle.pcode.specs.Base.{if_then_else_}
 use Rattle.refinement.specs.Encoding.{encV, Within, Sound}
 use Rattle.refinement.specs.Lists.{firstOf, secondOf}
 use Rattle.refinement.specs.RuleKinds.{kindOf}
-use Rattle.expression.specs.Answers.{after}
+use Rattle.terms.specs.Answers.{after}
 use Rattle.walking.specs.declared.walk.Walk.{Walk}
 use Rattle.walking.specs.Walks.{Stepped, stepped, stop}
 use Rattle.jumps.specs.Branches.{branchTo, directAddress, direct, indirect}

@@ -32,7 +32,7 @@ use Rattle.section_refinement.specs.Inversion.{CallStatementAt, call-statement-
 use Rattle.refinement.specs.Encoding.{Each}
 use Rattle.refinement.specs.Seen.{outcome}
 use Rattle.meaning.specs.declared.args.Args.{Args as WordArgs}
-use Rattle.expression.specs.Answers.{ArgsOut, passed, onArgs, after}
+use Rattle.terms.specs.Answers.{ArgsOut, passed, onArgs, after}
 use Rattle.expression.specs.Expressions.{resolveArgs, resolveExpr}
 use Rattle.walking.specs.declared.walk.Walk.{Walk}
 use Rattle.semantics.specs.declared.calls.Called.{Called}

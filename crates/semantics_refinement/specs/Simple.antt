@@ -27,7 +27,7 @@ use Rattle.refinement.specs.Encoding.{encV, Sound}
 use Rattle.refinement.specs.Lists.{firstOf, secondOf}
 use Rattle.refinement.specs.RuleKinds.{kindOf}
 use Rattle.refinement.specs.Seen.{seenRead}
-use Rattle.expression.specs.Answers.{after}
+use Rattle.terms.specs.Answers.{after}
 use Rattle.reading.specs.Reading.{readOperand}
 use Rattle.walking.specs.declared.walk.Walk.{Walk}
 use Rattle.walking.specs.Walks.{Stepped, stepRead}

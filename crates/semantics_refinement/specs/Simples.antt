@@ -22,7 +22,7 @@ use Rattle.pcode.specs.Base.{if_then_else_, listed, thenL}
 use Rattle.section_refinement.specs.Holds.{absentAt}
 use Rattle.section_refinement.specs.Inversion.{unimplemented-at, export-at, local-at, local-assignment-at, build-at, copy-at, store-at}
 use Rattle.refinement.specs.Seen.{outcome}
-use Rattle.expression.specs.Answers.{after}
+use Rattle.terms.specs.Answers.{after}
 use Rattle.meaning.specs.Scopes.{namedTmp}
 use Rattle.walking.specs.Walks.{Stepped, stepped, besideL, readThen}
 use Rattle.semantics.specs.Simple.{unimplemented, exportStatement, localStatement, localAssignment, build}

@@ -21,9 +21,9 @@ use Rattle.pcode.specs.Base.{if_then_else_}
 use Rattle.refinement.specs.Encoding.{encV, Sound, EachOption}
 use Rattle.refinement.specs.Seen.{Seen, no, yes, outcome}
 use Rattle.meaning.specs.declared.scope.ExprValue.{ExprValue as WordExpr}
-use Rattle.expression.specs.declared.expr.Expr.{Expr}
-use Rattle.expression.specs.declared.expr.Operand.{Operand}
-use Rattle.expression.specs.Answers.{ExprOut, resolved, onExpr, OperandOut, operand, onOperand}
+use Rattle.terms.specs.declared.answers.Expr.{Expr}
+use Rattle.terms.specs.declared.answers.Operand.{Operand}
+use Rattle.terms.specs.Answers.{ExprOut, resolved, onExpr, OperandOut, operand, onOperand}
 use Rattle.walking.specs.declared.walk.Step.{Step}
 use Rattle.walking.specs.Walks.{Stepped, stepped, Walked, walked, besideL}
 use Rattle.expression_refinement.specs.Encodings.{encX, SoundX, count, sound-more}

@@ -38,7 +38,7 @@ use Rattle.refinement.specs.RuleKinds.{kindOf}
 use Rattle.refinement.specs.Seen.{no, yes}
 use Rattle.reading.specs.declared.read.Stated.{Stated}
 use Rattle.reading.specs.Reading.{stated, setSize, setStated, takeStated}
-use Rattle.expression.specs.Addresses.{resolveAddress}
+use Rattle.terms.specs.Addresses.{resolveAddress}
 use Rattle.expression.specs.Expressions.{skipExpr}
 use Rattle.walking.specs.declared.walk.Walk.{Walk}
 use Rattle.walking.specs.Walks.{Stepped, stepped, stepPushed, stop, pushedThen}

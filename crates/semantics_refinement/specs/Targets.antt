@@ -30,8 +30,8 @@ use Rattle.section_refinement.specs.Inversion.{LocalAssignmentAt, CopyAt}
 use Rattle.section_refinement.specs.Inversion as at
 use Rattle.refinement.specs.Encoding.{encV, actionsIn, Sound}
 use Rattle.meaning.specs.declared.scope.ExprValue.{ExprValue as WordExpr}
-use Rattle.expression.specs.declared.expr.Expr.{Expr}
-use Rattle.expression.specs.Answers.{resolved, onExpr}
+use Rattle.terms.specs.declared.answers.Expr.{Expr}
+use Rattle.terms.specs.Answers.{resolved, onExpr}
 use Rattle.meaning.specs.Scopes.{namedTmp}
 use Rattle.expression.specs.Expressions.{resolveExpr}
 use Rattle.walking.specs.Walks.{Stepped, stepped, besideL, stop}

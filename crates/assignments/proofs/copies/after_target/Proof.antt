@@ -4,7 +4,7 @@ use Rattle.assignments.proofs.copies.after_target.Tie as tie
 use Rattle.assignments.proofs.copies.after_target.Reads as reads
 use Rattle.assignments.proofs.copies.after_target.Lts as lts
 use Rattle.cells.proofs.byte.Reads as byte-reads
-use Rattle.expression.proofs.expr.after.Reads as after-reads
+use Rattle.terms.proofs.answers.after.Reads as after-reads
 use Rattle.assignments.proofs.CopyLaws.{bit-laws}
 use Rattle.assignments.proofs.CopyLaws.{copy-laws}
 use Rattle.assignments.proofs.CopyLaws.{after-cut}

@@ -4,7 +4,7 @@ use Rattle.assignments.proofs.copies.copy_statement.Tie as tie
 use Rattle.assignments.proofs.copies.copy_statement.Reads as reads
 use Rattle.assignments.proofs.copies.copy_statement.Lts as lts
 use Rattle.assignments.proofs.copies.copy_target.Reads as copy-target-reads
-use Rattle.expression.proofs.expr.after.Reads as after-reads
+use Rattle.terms.proofs.answers.after.Reads as after-reads
 use Rattle.expression.proofs.expr.resolve_expr.Reads as resolve-expr-reads
 use Rattle.walking.proofs.walk.stop.Reads as stop-reads
 use Rattle.assignments.proofs.CopyLaws.{bit-laws, copy-laws}

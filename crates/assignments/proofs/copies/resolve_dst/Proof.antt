@@ -7,7 +7,7 @@ use Rattle.assignments.proofs.copies.is_new.Reads as is-new-reads
 use Rattle.assignments.proofs.copies.new_target.Reads as new-target-reads
 use Rattle.assignments.proofs.copies.plain_target.Reads as plain-target-reads
 use Rattle.assignments.proofs.copies.target_name.Reads as target-name-reads
-use Rattle.expression.proofs.expr.after.Reads as after-reads
+use Rattle.terms.proofs.answers.after.Reads as after-reads
 use Rattle.expression.proofs.expr.resolve_expr.Reads as resolve-expr-reads
 use Rattle.pcode.proofs.value.local.Reads as local-reads
 use Rattle.assignments.proofs.CopyLaws.{bit-laws, copy-laws}

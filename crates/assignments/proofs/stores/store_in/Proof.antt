@@ -5,7 +5,7 @@ use Rattle.assignments.proofs.stores.store_in.Reads as reads
 use Rattle.assignments.proofs.stores.store_in.Lts as lts
 use Rattle.assignments.proofs.stores.store_at.Reads as store-at-reads
 use Rattle.cells.proofs.u16_in.Reads as u16-in-reads
-use Rattle.expression.proofs.address.resolve_address.Reads as resolve-address-reads
+use Rattle.terms.proofs.address.resolve_address.Reads as resolve-address-reads
 use Rattle.walking.proofs.walk.stop.Reads as stop-reads
 use Rattle.assignments.proofs.StoreLaws.{store-laws}
 

@@ -4,7 +4,7 @@ use Rattle.assignments.proofs.stores.store_pointer.Tie as tie
 use Rattle.assignments.proofs.stores.store_pointer.Reads as reads
 use Rattle.assignments.proofs.stores.store_pointer.Lts as lts
 use Rattle.assignments.proofs.stores.store_in.Reads as store-in-reads
-use Rattle.expression.proofs.expr.after.Reads as after-reads
+use Rattle.terms.proofs.answers.after.Reads as after-reads
 use Rattle.expression.proofs.expr.resolve_expr.Reads as resolve-expr-reads
 use Rattle.walking.proofs.walk.stop.Reads as stop-reads
 use Rattle.assignments.proofs.StoreLaws.{store-laws}

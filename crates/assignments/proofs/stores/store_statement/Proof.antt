@@ -4,7 +4,7 @@ use Rattle.assignments.proofs.stores.store_statement.Tie as tie
 use Rattle.assignments.proofs.stores.store_statement.Reads as reads
 use Rattle.assignments.proofs.stores.store_statement.Lts as lts
 use Rattle.assignments.proofs.stores.store_pointer.Reads as store-pointer-reads
-use Rattle.expression.proofs.expr.after.Reads as after-reads
+use Rattle.terms.proofs.answers.after.Reads as after-reads
 use Rattle.expression.proofs.expr.expr_value.Reads as expr-value-reads
 use Rattle.expression.proofs.expr.skip_expr.Reads as skip-expr-reads
 use Rattle.walking.proofs.walk.stop.Reads as stop-reads

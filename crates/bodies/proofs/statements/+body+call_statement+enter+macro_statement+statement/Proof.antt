@@ -25,7 +25,7 @@ use Rattle.bodies.proofs.statements.other_statement.Reads as other-stat
 use Rattle.bodies.proofs.statements.returned.Reads as returned-reads
 use Rattle.cells.proofs.byte.Reads as byte-reads
 use Rattle.cells.proofs.u16_in.Reads as u16-in-reads
-use Rattle.expression.proofs.expr.after.Reads as after-reads
+use Rattle.terms.proofs.answers.after.Reads as after-reads
 use Rattle.semantics.proofs.calls.called_of.Reads as called-of-reads
 use Rattle.semantics.proofs.calls.macro_args.Reads as macro-args-reads
 use Rattle.semantics.proofs.calls.macro_at.Reads as macro-at-reads

@@ -3,7 +3,7 @@ use Rattle.bodies.proofs.statements.body_at.Statement.{statement}
 use Rattle.bodies.proofs.statements.body_at.Tie as tie
 use Rattle.bodies.proofs.statements.body_at.Reads as reads
 use Rattle.bodies.proofs.statements.body_at.Lts as lts
-use Rattle.expression.proofs.expr.after.Reads as after-reads
+use Rattle.terms.proofs.answers.after.Reads as after-reads
 use Rattle.bodies.proofs.StatementLaws.{code-laws}
 use Rattle.bodies.proofs.StatementLaws.{begin-laws}
 

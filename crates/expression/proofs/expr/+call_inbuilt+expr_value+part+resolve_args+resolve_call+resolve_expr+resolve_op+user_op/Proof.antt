@@ -27,10 +27,10 @@ use Rattle.expression.proofs.expr.user_op.Kinds as user-op-kinds
 use Rattle.expression.proofs.expr.+call_inbuilt+expr_value+part+resolve_args+resolve_call+resolve_expr+resolve_op+user_op.Lts-user_op as user-op-lts
 use Rattle.cells.proofs.byte.Reads as byte-reads
 use Rattle.cells.proofs.u16_in.Reads as u16-in-reads
-use Rattle.expression.proofs.calls.call_user_op.Reads as call-user-op-reads
-use Rattle.expression.proofs.calls.callee_of.Reads as callee-of-reads
-use Rattle.expression.proofs.calls.subpiece.Reads as subpiece-reads
-use Rattle.expression.proofs.expr.after.Reads as after-reads
+use Rattle.terms.proofs.calls.call_user_op.Reads as call-user-op-reads
+use Rattle.terms.proofs.calls.callee_of.Reads as callee-of-reads
+use Rattle.terms.proofs.calls.subpiece.Reads as subpiece-reads
+use Rattle.terms.proofs.answers.after.Reads as after-reads
 use Rattle.expression.proofs.expr.apply1.Reads as apply1-reads
 use Rattle.expression.proofs.expr.apply2.Reads as apply2-reads
 use Rattle.expression.proofs.expr.atom.Reads as atom-reads

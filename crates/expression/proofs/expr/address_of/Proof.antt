@@ -3,7 +3,7 @@ use Rattle.expression.proofs.expr.address_of.Statement.{statement}
 use Rattle.expression.proofs.expr.address_of.Tie as tie
 use Rattle.expression.proofs.expr.address_of.Reads as reads
 use Rattle.expression.proofs.expr.address_of.Lts as lts
-use Rattle.expression.proofs.expr.after.Reads as after-reads
+use Rattle.terms.proofs.answers.after.Reads as after-reads
 use Rattle.expression.proofs.expr.local_address.Reads as local-address-reads
 use Rattle.meaning.proofs.scope.resolve_ident.Reads as resolve-ident-reads
 use Rattle.cells.proofs.u16_in.Reads as u16-in-reads

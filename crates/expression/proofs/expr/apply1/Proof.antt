@@ -3,7 +3,7 @@ use Rattle.expression.proofs.expr.apply1.Statement.{statement}
 use Rattle.expression.proofs.expr.apply1.Tie as tie
 use Rattle.expression.proofs.expr.apply1.Reads as reads
 use Rattle.expression.proofs.expr.apply1.Lts as lts
-use Rattle.expression.proofs.calls.applied.Reads as applied-reads
+use Rattle.terms.proofs.calls.applied.Reads as applied-reads
 use Rattle.pcode.proofs.value.absent.Reads as absent-reads
 use Rattle.expression.proofs.ExprLaws.{expr-laws}
 

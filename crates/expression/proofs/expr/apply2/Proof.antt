@@ -3,7 +3,7 @@ use Rattle.expression.proofs.expr.apply2.Statement.{statement}
 use Rattle.expression.proofs.expr.apply2.Tie as tie
 use Rattle.expression.proofs.expr.apply2.Reads as reads
 use Rattle.expression.proofs.expr.apply2.Lts as lts
-use Rattle.expression.proofs.calls.applied.Reads as applied-reads
+use Rattle.terms.proofs.calls.applied.Reads as applied-reads
 use Rattle.expression.proofs.expr.later.Reads as later-reads
 use Rattle.expression.proofs.ExprLaws.{expr-laws}
 

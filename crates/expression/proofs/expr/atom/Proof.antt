@@ -5,7 +5,7 @@ use Rattle.expression.proofs.expr.atom.Reads as reads
 use Rattle.expression.proofs.expr.atom.Lts as lts
 use Rattle.cells.proofs.u64_at.Reads as u64-at-reads
 use Rattle.expression.proofs.expr.address_of.Reads as address-of-reads
-use Rattle.expression.proofs.expr.after.Reads as after-reads
+use Rattle.terms.proofs.answers.after.Reads as after-reads
 use Rattle.expression.proofs.expr.name_at.Reads as name-at-reads
 use Rattle.expression.proofs.ExprLaws.{expr-laws}
 

@@ -3,7 +3,7 @@ use Rattle.expression.proofs.expr.name_at.Statement.{statement}
 use Rattle.expression.proofs.expr.name_at.Tie as tie
 use Rattle.expression.proofs.expr.name_at.Reads as reads
 use Rattle.expression.proofs.expr.name_at.Lts as lts
-use Rattle.expression.proofs.expr.after.Reads as after-reads
+use Rattle.terms.proofs.answers.after.Reads as after-reads
 use Rattle.expression.proofs.expr.means_at.Reads as means-at-reads
 use Rattle.meaning.proofs.scope.plain_local.Reads as plain-local-reads
 use Rattle.meaning.proofs.scope.resolve_ident.Reads as resolve-ident-reads

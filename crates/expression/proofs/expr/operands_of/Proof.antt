@@ -4,7 +4,7 @@ use Rattle.expression.proofs.expr.operands_of.Tie as tie
 use Rattle.expression.proofs.expr.operands_of.Reads as reads
 use Rattle.expression.proofs.expr.operands_of.Lts as lts
 use Rattle.cells.proofs.byte.Reads as byte-reads
-use Rattle.expression.proofs.expr.after.Reads as after-reads
+use Rattle.terms.proofs.answers.after.Reads as after-reads
 use Rattle.expression.proofs.expr.operation_of.Reads as operation-of-reads
 use Rattle.expression.proofs.expr.skip_expr.Reads as skip-expr-reads
 use Rattle.expression.proofs.ExprLaws.{expr-laws}

@@ -4,7 +4,7 @@ use Rattle.expression.proofs.expr.plain_operand.Tie as tie
 use Rattle.expression.proofs.expr.plain_operand.Reads as reads
 use Rattle.expression.proofs.expr.plain_operand.Lts as lts
 use Rattle.cells.proofs.u64_at.Reads as u64-at-reads
-use Rattle.expression.proofs.expr.after.Reads as after-reads
+use Rattle.terms.proofs.answers.after.Reads as after-reads
 use Rattle.reading.proofs.read.constant.Reads as constant-reads
 use Rattle.pcode.proofs.value.local.Reads as local-reads
 use Rattle.expression.proofs.ExprLaws.{expr-laws}

@@ -3,10 +3,10 @@ use Rattle.expression.proofs.expr.with_part.Statement.{statement}
 use Rattle.expression.proofs.expr.with_part.Tie as tie
 use Rattle.expression.proofs.expr.with_part.Reads as reads
 use Rattle.expression.proofs.expr.with_part.Lts as lts
-use Rattle.expression.proofs.address.resolve_address.Reads as resolve-address-reads
-use Rattle.expression.proofs.expr.after.Reads as after-reads
+use Rattle.terms.proofs.address.resolve_address.Reads as resolve-address-reads
+use Rattle.terms.proofs.answers.after.Reads as after-reads
 use Rattle.cells.proofs.u16_in.Reads as u16-in-reads
-use Rattle.expression.proofs.slices.slice_bits.Reads as slice-bits-reads
+use Rattle.terms.proofs.slices.slice_bits.Reads as slice-bits-reads
 use Rattle.expression.proofs.ExprLaws.{expr-laws}
 
 -- src/expr.rt:203:50

@@ -4,7 +4,7 @@ use Rattle.jumps.proofs.branches.after_jump.Tie as tie
 use Rattle.jumps.proofs.branches.after_jump.Reads as reads
 use Rattle.jumps.proofs.branches.after_jump.Lts as lts
 use Rattle.cells.proofs.byte.Reads as byte-reads
-use Rattle.expression.proofs.expr.after.Reads as after-reads
+use Rattle.terms.proofs.answers.after.Reads as after-reads
 use Rattle.jumps.proofs.BranchLaws.{branch-laws}
 use Rattle.jumps.proofs.BranchLaws.{after-integer}
 

@@ -3,7 +3,7 @@ use Rattle.jumps.proofs.branches.branch.Statement.{statement}
 use Rattle.jumps.proofs.branches.branch.Tie as tie
 use Rattle.jumps.proofs.branches.branch.Reads as reads
 use Rattle.jumps.proofs.branches.branch.Lts as lts
-use Rattle.expression.proofs.expr.after.Reads as after-reads
+use Rattle.terms.proofs.answers.after.Reads as after-reads
 use Rattle.reading.proofs.read.constant.Reads as constant-reads
 use Rattle.jumps.proofs.branches.resolve_branch.Reads as resolve-branch-reads
 use Rattle.jumps.proofs.BranchLaws.{branch-laws}

@@ -4,7 +4,7 @@ use Rattle.jumps.proofs.branches.branch_to.Tie as tie
 use Rattle.jumps.proofs.branches.branch_to.Reads as reads
 use Rattle.jumps.proofs.branches.branch_to.Lts as lts
 use Rattle.cells.proofs.byte.Reads as byte-reads
-use Rattle.expression.proofs.expr.after.Reads as after-reads
+use Rattle.terms.proofs.answers.after.Reads as after-reads
 use Rattle.pushing.proofs.push.push_op.Reads as push-op-reads
 use Rattle.pcode.proofs.value.no_output.Reads as no-output-reads
 use Rattle.walking.proofs.walk.pushed_then.Reads as pushed-then-reads

@@ -3,7 +3,7 @@ use Rattle.jumps.proofs.branches.cond_branch.Statement.{statement}
 use Rattle.jumps.proofs.branches.cond_branch.Tie as tie
 use Rattle.jumps.proofs.branches.cond_branch.Reads as reads
 use Rattle.jumps.proofs.branches.cond_branch.Lts as lts
-use Rattle.expression.proofs.expr.after.Reads as after-reads
+use Rattle.terms.proofs.answers.after.Reads as after-reads
 use Rattle.expression.proofs.expr.expr_value.Reads as expr-value-reads
 use Rattle.jumps.proofs.branches.resolve_branch.Reads as resolve-branch-reads
 use Rattle.walking.proofs.walk.stop.Reads as stop-reads

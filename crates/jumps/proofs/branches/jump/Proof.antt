@@ -4,7 +4,7 @@ use Rattle.jumps.proofs.branches.jump.Tie as tie
 use Rattle.jumps.proofs.branches.jump.Reads as reads
 use Rattle.jumps.proofs.branches.jump.Lts as lts
 use Rattle.cells.proofs.byte.Reads as byte-reads
-use Rattle.expression.proofs.expr.after.Reads as after-reads
+use Rattle.terms.proofs.answers.after.Reads as after-reads
 use Rattle.jumps.proofs.branches.after_jump.Reads as after-jump-reads
 use Rattle.jumps.proofs.branches.jump_to.Reads as jump-to-reads
 use Rattle.jumps.proofs.branches.jump_value.Reads as jump-value-reads

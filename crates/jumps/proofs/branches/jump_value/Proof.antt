@@ -5,7 +5,7 @@ use Rattle.jumps.proofs.branches.jump_value.Reads as reads
 use Rattle.jumps.proofs.branches.jump_value.Lts as lts
 use Rattle.cells.proofs.byte.Reads as byte-reads
 use Rattle.cells.proofs.u64_at.Reads as u64-at-reads
-use Rattle.expression.proofs.expr.after.Reads as after-reads
+use Rattle.terms.proofs.answers.after.Reads as after-reads
 use Rattle.meaning.proofs.scope.resolve_ident.Reads as resolve-ident-reads
 use Rattle.cells.proofs.u16_in.Reads as u16-in-reads
 use Rattle.jumps.proofs.BranchLaws.{branch-laws}

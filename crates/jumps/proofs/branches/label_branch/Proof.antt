@@ -3,7 +3,7 @@ use Rattle.jumps.proofs.branches.label_branch.Statement.{statement}
 use Rattle.jumps.proofs.branches.label_branch.Tie as tie
 use Rattle.jumps.proofs.branches.label_branch.Reads as reads
 use Rattle.jumps.proofs.branches.label_branch.Lts as lts
-use Rattle.expression.proofs.expr.after.Reads as after-reads
+use Rattle.terms.proofs.answers.after.Reads as after-reads
 use Rattle.cells.proofs.u16_in.Reads as u16-in-reads
 use Rattle.jumps.proofs.branches.branch_label.Reads as branch-label-reads
 use Rattle.jumps.proofs.labels.get_or_insert_label.Reads as get-or-insert-label-reads

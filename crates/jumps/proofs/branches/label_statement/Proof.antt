@@ -3,7 +3,7 @@ use Rattle.jumps.proofs.branches.label_statement.Statement.{statement}
 use Rattle.jumps.proofs.branches.label_statement.Tie as tie
 use Rattle.jumps.proofs.branches.label_statement.Reads as reads
 use Rattle.jumps.proofs.branches.label_statement.Lts as lts
-use Rattle.expression.proofs.expr.after.Reads as after-reads
+use Rattle.terms.proofs.answers.after.Reads as after-reads
 use Rattle.cells.proofs.u16_in.Reads as u16-in-reads
 use Rattle.jumps.proofs.branches.push_label.Reads as push-label-reads
 use Rattle.jumps.proofs.labels.resolve_label.Reads as resolve-label-reads

@@ -3,8 +3,8 @@ use Rattle.semantics.proofs.calls.delay_slot.Statement.{statement}
 use Rattle.semantics.proofs.calls.delay_slot.Tie as tie
 use Rattle.semantics.proofs.calls.delay_slot.Reads as reads
 use Rattle.semantics.proofs.calls.delay_slot.Lts as lts
-use Rattle.expression.proofs.calls.only_integer.Reads as only-integer-reads
-use Rattle.expression.proofs.expr.after.Reads as after-reads
+use Rattle.terms.proofs.calls.only_integer.Reads as only-integer-reads
+use Rattle.terms.proofs.answers.after.Reads as after-reads
 use Rattle.pushing.proofs.push.push.Reads as push-reads
 use Rattle.pcode.proofs.value.absent.Reads as absent-reads
 use Rattle.walking.proofs.walk.pushed_then.Reads as pushed-then-reads

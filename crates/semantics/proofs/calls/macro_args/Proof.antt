@@ -3,7 +3,7 @@ use Rattle.semantics.proofs.calls.macro_args.Statement.{statement}
 use Rattle.semantics.proofs.calls.macro_args.Tie as tie
 use Rattle.semantics.proofs.calls.macro_args.Reads as reads
 use Rattle.semantics.proofs.calls.macro_args.Lts as lts
-use Rattle.expression.proofs.expr.after.Reads as after-reads
+use Rattle.terms.proofs.answers.after.Reads as after-reads
 use Rattle.expression.proofs.expr.resolve_args.Reads as resolve-args-reads
 use Rattle.semantics.proofs.calls.bind_names.Reads as bind-names-reads
 use Rattle.semantics.proofs.calls.counted.Reads as counted-reads

@@ -3,7 +3,7 @@ use Rattle.semantics.proofs.calls.user_op_statement.Statement.{statemen
 use Rattle.semantics.proofs.calls.user_op_statement.Tie as tie
 use Rattle.semantics.proofs.calls.user_op_statement.Reads as reads
 use Rattle.semantics.proofs.calls.user_op_statement.Lts as lts
-use Rattle.expression.proofs.expr.after.Reads as after-reads
+use Rattle.terms.proofs.answers.after.Reads as after-reads
 use Rattle.expression.proofs.expr.resolve_args.Reads as resolve-args-reads
 use Rattle.semantics.proofs.calls.user_op_args.Reads as user-op-args-reads
 use Rattle.walking.proofs.walk.pushed_then.Reads as pushed-then-reads

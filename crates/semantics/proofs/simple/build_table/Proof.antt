@@ -4,7 +4,7 @@ use Rattle.semantics.proofs.simple.build_table.Tie as tie
 use Rattle.semantics.proofs.simple.build_table.Reads as reads
 use Rattle.semantics.proofs.simple.build_table.Lts as lts
 use Rattle.cells.proofs.u16_at.Reads as u16-at-reads
-use Rattle.expression.proofs.expr.after.Reads as after-reads
+use Rattle.terms.proofs.answers.after.Reads as after-reads
 use Rattle.pushing.proofs.push.push.Reads as push-reads
 use Rattle.pcode.proofs.value.absent.Reads as absent-reads
 use Rattle.semantics.proofs.simple.find_subtable.Reads as find-subtable-reads

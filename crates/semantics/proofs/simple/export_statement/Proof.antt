@@ -3,7 +3,7 @@ use Rattle.semantics.proofs.simple.export_statement.Statement.{statemen
 use Rattle.semantics.proofs.simple.export_statement.Tie as tie
 use Rattle.semantics.proofs.simple.export_statement.Reads as reads
 use Rattle.semantics.proofs.simple.export_statement.Lts as lts
-use Rattle.expression.proofs.expr.after.Reads as after-reads
+use Rattle.terms.proofs.answers.after.Reads as after-reads
 use Rattle.expression.proofs.expr.resolve_expr.Reads as resolve-expr-reads
 use Rattle.semantics.proofs.simple.export_of.Reads as export-of-reads
 use Rattle.walking.proofs.walk.stop.Reads as stop-reads

@@ -4,7 +4,7 @@ use Rattle.semantics.proofs.simple.local_assignment.Tie as tie
 use Rattle.semantics.proofs.simple.local_assignment.Reads as reads
 use Rattle.semantics.proofs.simple.local_assignment.Lts as lts
 use Rattle.cells.proofs.u16_in.Reads as u16-in-reads
-use Rattle.expression.proofs.expr.after.Reads as after-reads
+use Rattle.terms.proofs.answers.after.Reads as after-reads
 use Rattle.meaning.proofs.scope.named_tmp.Reads as named-tmp-reads
 use Rattle.semantics.proofs.simple.assign.Reads as assign-reads
 use Rattle.walking.proofs.walk.stop.Reads as stop-reads

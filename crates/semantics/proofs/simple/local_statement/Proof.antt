@@ -3,7 +3,7 @@ use Rattle.semantics.proofs.simple.local_statement.Statement.{statement
 use Rattle.semantics.proofs.simple.local_statement.Tie as tie
 use Rattle.semantics.proofs.simple.local_statement.Reads as reads
 use Rattle.semantics.proofs.simple.local_statement.Lts as lts
-use Rattle.expression.proofs.expr.after.Reads as after-reads
+use Rattle.terms.proofs.answers.after.Reads as after-reads
 use Rattle.meaning.proofs.scope.named_tmp.Reads as named-tmp-reads
 use Rattle.cells.proofs.u16_in.Reads as u16-in-reads
 use Rattle.walking.proofs.walk.read_then.Reads as read-then-reads

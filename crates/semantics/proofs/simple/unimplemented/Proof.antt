@@ -3,7 +3,7 @@ use Rattle.semantics.proofs.simple.unimplemented.Statement.{statement}
 use Rattle.semantics.proofs.simple.unimplemented.Tie as tie
 use Rattle.semantics.proofs.simple.unimplemented.Reads as reads
 use Rattle.semantics.proofs.simple.unimplemented.Lts as lts
-use Rattle.expression.proofs.expr.after.Reads as after-reads
+use Rattle.terms.proofs.answers.after.Reads as after-reads
 use Rattle.pushing.proofs.push.push_op.Reads as push-op-reads
 use Rattle.pcode.proofs.value.absent.Reads as absent-reads
 use Rattle.pcode.proofs.value.no_output.Reads as no-output-reads
