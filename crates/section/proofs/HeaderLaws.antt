@@ -1,8 +1,9 @@
 -- One law for each way out of the functions over the header, and what a header that is not refused tells.
-use mathlib.Core.Path.{_≡_}
+use mathlib.Core.Path.{_≡_, refl, _∙_}
 use mathlib.Core.List.{List}
-use Prim.Native.Nat.{ℕ, suc, _≤_, _<_}
+use Prim.Native.Nat.{ℕ, suc, _+_, _≤_, _<_}
 use native.Mathlib.Omega.{arith}
+use lib.ListN.{length}
 use Rattle.cells.specs.Le.{le16}
 use Rattle.syntax.specs.declared.cursor.Cursor.{Cursor}
 use Rattle.syntax.specs.Cursors.{cursor, u16, u16or, name}
@@ -31,7 +32,7 @@ good s lim k c e = u16-read s lim (suc k) c (omega arith) e .good
 
 roles-good : (s : List ℕ) (c : Cursor) → roles s c .bad ≡ 0 → c .bad ≡ 0
 unfolding roles
-roles-good s c e = u16or-read s (le16 s 4) 5 c (omega arith) (good s (le16 s 2) 4 _ (good s (le16 s 2) 4 _ (good s (le16 s 2) 4 _ (good s (le16 s 2) 4 _ e))))
+roles-good s c e = u16or-read s (le16 s 4) 5 c (omega arith) (good s (le16 s 2) 4 _ (good s (le16 s 2) 4 _ (good s (le16 s 2) 4 _ (good s (le16 s 2) 4 _ e)))) .good
 
 counts-good : (s : List ℕ) (c : Cursor) → counts s c .bad ≡ 0 → c .bad ≡ 0
 unfolding counts
@@ -50,5 +51,48 @@ unfolding header
 header-few s h m e z p =
     let b : header s .bad ≡ 0 = rw e at z in
     omega (arith, names-few s (counts-good s _ (roles-good s _ b)))
+
+-- a cursor that is not refused is at n, inside the stream
+Reached : List ℕ → ℕ → Cursor → Type 0
+Reached s n c = c .bad ≡ 0 → (c .at ≡ n) × (n ≤ length s)
+
+field : (s : List ℕ) (n lim k : ℕ) (c : Cursor) → Reached s n c → Reached s (n + 2) (u16 s lim (suc k) c)
+unfolding Reached
+field s n lim k c h e =
+    let r = u16-read s lim (suc k) c (omega arith) e in
+    let p = h (r .good) in
+    (r .next ∙ rw (p .0), omega (arith, r .fits, p .0))
+
+field-or : (s : List ℕ) (n lim k : ℕ) (c : Cursor) → Reached s n c → Reached s (n + 2) (u16or s lim (suc k) c)
+unfolding Reached
+field-or s n lim k c h e =
+    let r = u16or-read s lim (suc k) c (omega arith) e in
+    let p = h (r .good) in
+    (r .next ∙ rw (p .0), omega (arith, r .fits, p .0))
+
+globals-reached : (s : List ℕ) → Reached s 18 (globalCounts s (cursor 0 0 0))
+unfolding globalCounts Reached
+globals-reached s =
+    field s 16 1025 3 _ (field s 14 129 3 _ (field s 12 257 3 _ (field s 10 257 3 _ (field s 8 1025 3 _ (field s 6 1025 3 _ (field s 4 9 3 _ (field s 2 1025 3 _ (field s 0 1 3 _ begun))))))))
+  where
+    begun : Reached s 0 (cursor 0 0 0)
+    begun e = (refl, omega arith)
+
+counts-reached : (s : List ℕ) (c : Cursor) → Reached s 18 c → Reached s 24 (counts s c)
+unfolding counts
+counts-reached s c h = field s 22 1025 3 _ (field s 20 33 3 _ (field s 18 65 3 _ h))
+
+roles-reached : (s : List ℕ) (c : Cursor) → Reached s 24 c → Reached s 34 (roles s c)
+unfolding roles
+roles-reached s c h =
+    field s 32 (le16 s 2) 4 _ (field s 30 (le16 s 2) 4 _ (field s 28 (le16 s 2) 4 _ (field s 26 (le16 s 2) 4 _ (field-or s 24 (le16 s 4) 4 _ h))))
+
+-- a stream that is shorter than a header is refused
+pub header-short : (s : List ℕ) (h : Cursor) → h ≡ header s → length s < 34 → h .bad ≡ 0 → ⊥
+unfolding header Reached
+header-short s h e short z =
+    let b : header s .bad ≡ 0 = rw e at z in
+    let r = roles-reached s _ (counts-reached s _ (globals-reached s)) b in
+    absurd (omega (arith, r .1))
 
 pub ruleset header-laws = (global-counts-law, counts-law, roles-law, header-law)

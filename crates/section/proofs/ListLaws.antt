@@ -19,6 +19,7 @@ use Rattle.section.specs.Lists.{slot, stamp, mark, Which, whichOf, after
 use Rattle.section.specs.Stream.{Answer, answer, answerOf, zeros, tail, statements, readStream}
 use Rattle.syntax.proofs.CursorLaws.{run-end}
 use Rattle.syntax.proofs.CodeLaws.{counted-law}
+use Rattle.section.proofs.HeaderLaws.{header-short}
 
 pub slot-global : (k x : ℕ) → k < 7 → 1024 + x % 65536 ≡ slot k x
 unfolding slot if_then_else_
@@ -185,10 +186,14 @@ pub stream-bad : (s t : List ℕ) (h : Cursor) → h ≡ header s → (h .bad �
 unfolding readStream if_then_else_
 stream-bad s t h e z = rw (← e, ne-eqb (h .bad) 0 z)
 
+-- of a stream that is shorter than a header
+pub stream-short : (s t : List ℕ) (h : Cursor) → length s < 34 → h ≡ header s → answer (h .bad) t ≡ readStream s t
+stream-short s t h short e = stream-bad s t h e (header-short s h e short)
+
 pub stream-read : (s t t1 t2 t3 : List ℕ) (h c1 c2 c3 : Cursor) (m : ℕ) → h ≡ header s → h .bad ≡ 0 → (m ≡ le16 s 2) × (m < 65536) → reading c1 t1 ≡ names s m (reading h t) → reading c2 t2 ≡ lists s (reading c1 t1) → reading c3 t3 ≡ statements s (reading c2 t2) → answer (c3 .bad) t3 ≡ readStream s t
 unfolding readStream if_then_else_
 stream-read s t t1 t2 t3 h c1 c2 c3 m e z hm p q w =
     let f : names s (le16 s 2) (reading h t) ≡ reading c1 t1 = rw (← hm .0) (sym p) in
     rw (← e, eq-eqb (h .bad) 0 z, f, ← q, ← w)
 
-pub ruleset list-laws = (slot-global, slot-local, stamp-global, stamp-local, mark-bad, mark-second, mark-new, after-spaces, after-registers, after-bitRanges, after-tables, after-userOps, after-macros, after-others, after-fields, after-subtables, macro-head-law, noted-law, macro-law, entry-macro, entry-other, tail-found, tail-end, statements-law, stream-bad, stream-read)
+pub ruleset list-laws = (slot-global, slot-local, stamp-global, stamp-local, mark-bad, mark-second, mark-new, after-spaces, after-registers, after-bitRanges, after-tables, after-userOps, after-macros, after-others, after-fields, after-subtables, macro-head-law, noted-law, macro-law, entry-macro, entry-other, tail-found, tail-end, statements-law, stream-short, stream-bad, stream-read)

@@ -39,6 +39,10 @@ fn own_statements(s: &[u8], c: Cursor, t: &mut [u16]) -> Cursor
 pub fn read_stream(s: &[u8], t: &mut [u16; 3344]) -> u64
     ensures { λ r. ⌜ answer r (now (t .exit)) ≡ readStream (now (s .entry)) (now (t .entry)) ⌝ }
 {
+    // Called from two places, the header is not compiled into what follows, which is faster without it.
+    if s.len() < 34 {
+        return header(s).bad;
+    }
     let h = header(s);
     if h.bad != 0 {
         return h.bad;

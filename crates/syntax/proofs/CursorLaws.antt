@@ -7,7 +7,7 @@ use native.Mathlib.Nat.{add-zero}
 use native.Mathlib.Omega.{arith}
 use lib.ListN.{length, getD}
 use lib.Dec.{eqb, leb, ltb}
-use borrow.Author.Tests.{eq-eqb, ne-eqb, le-leb, lt-leb, lt-ltb, le-ltb, eqb-true, eqb-false, ltb-true, ltb-false}
+use borrow.Author.Tests.{eq-eqb, ne-eqb, le-leb, lt-leb, lt-ltb, le-ltb, eqb-true, eqb-false, ltb-true, ltb-false, leb-true}
 use Rattle.definition.specs.Base.{if_then_else_}
 use Rattle.cells.specs.Le.{le16}
 use Rattle.syntax.specs.declared.cursor.Cursor.{Cursor}
@@ -48,30 +48,31 @@ unfolding number refuse if_then_else_
 number-out v n len lim k c r h l m b e = simp (eq-eqb (c .bad) 0 h, le-leb (c .at + n) len (omega arith), le-ltb v lim b) (e ∙ simp (eq-eqb (c .bad) 0 h))
 
 -- a number that was read and not refused
-pub record Read (v n lim : ℕ) (c r : Cursor) : Type 0 where
+pub record Read (v n len lim : ℕ) (c r : Cursor) : Type 0 where
   pub good : c .bad ≡ 0
+  pub fits : c .at + n ≤ len
   pub below : v < lim
   pub next : r .at ≡ c .at + n
 
-number-read : (v n len lim k : ℕ) (c : Cursor) → 0 < k → number v n len lim k c .bad ≡ 0 → Read v n lim c (number v n len lim k c)
+number-read : (v n len lim k : ℕ) (c : Cursor) → 0 < k → number v n len lim k c .bad ≡ 0 → Read v n len lim c (number v n len lim k c)
 unfolding number if_then_else_
-number-read v n len lim k c l e = go (eqb (c .bad) 0) (leb (c .at + n) len) (ltb v lim) refl refl e
+number-read v n len lim k c l e = go (eqb (c .bad) 0) (leb (c .at + n) len) (ltb v lim) refl refl refl e
   where
-    go : (a b d : Bool) → eqb (c .bad) 0 ≡ a → ltb v lim ≡ d →
+    go : (a b d : Bool) → eqb (c .bad) 0 ≡ a → leb (c .at + n) len ≡ b → ltb v lim ≡ d →
         (if a then (if b then (if d then cursor (c .at + n) 0 v else cursor (c .at) k 0) else cursor (c .at) 3 0) else c) .bad ≡ 0 →
-        Read v n lim c (if a then (if b then (if d then cursor (c .at + n) 0 v else cursor (c .at) k 0) else cursor (c .at) 3 0) else c)
-    go true true true p q z = record { good = eqb-true _ _ p; below = ltb-true _ _ q; next = refl }
-    go true true false p q z = absurd (omega arith)
-    go true false d p q z = absurd (omega arith)
-    go false b d p q z = absurd (eqb-false _ _ p z)
+        Read v n len lim c (if a then (if b then (if d then cursor (c .at + n) 0 v else cursor (c .at) k 0) else cursor (c .at) 3 0) else c)
+    go true true true p f q z = record { good = eqb-true _ _ p; fits = leb-true _ _ f; below = ltb-true _ _ q; next = refl }
+    go true true false p f q z = absurd (omega arith)
+    go true false d p f q z = absurd (omega arith)
+    go false b d p f q z = absurd (eqb-false _ _ p z)
 
-pub u16-read : (s : List ℕ) (lim k : ℕ) (c : Cursor) → 0 < k → u16 s lim k c .bad ≡ 0 → Read (le16 s (c .at)) 2 lim c (u16 s lim k c)
+pub u16-read : (s : List ℕ) (lim k : ℕ) (c : Cursor) → 0 < k → u16 s lim k c .bad ≡ 0 → Read (le16 s (c .at)) 2 (length s) lim c (u16 s lim k c)
 unfolding u16
 u16-read s lim k c l e = number-read (le16 s (c .at)) 2 (length s) lim k c l e
 
-pub u16or-read : (s : List ℕ) (lim k : ℕ) (c : Cursor) → 0 < k → u16or s lim k c .bad ≡ 0 → c .bad ≡ 0
+pub u16or-read : (s : List ℕ) (lim k : ℕ) (c : Cursor) → 0 < k → u16or s lim k c .bad ≡ 0 → Read (le16 s (c .at)) 2 (length s) (if eqb (le16 s (c .at)) 65535 then 65536 else lim) c (u16or s lim k c)
 unfolding u16or
-u16or-read s lim k c l e = number-read (le16 s (c .at)) 2 (length s) (if eqb (le16 s (c .at)) 65535 then 65536 else lim) k c l e .good
+u16or-read s lim k c l e = number-read (le16 s (c .at)) 2 (length s) (if eqb (le16 s (c .at)) 65535 then 65536 else lim) k c l e
 
 pub u8-law : (s : List ℕ) (lim k v : ℕ) (c r : Cursor) → (v ≡ getD s (c .at + 0) 0) × (v < 256) → r ≡ number v 1 (length s) lim k c → r ≡ u8 s lim k c
 unfolding u8
