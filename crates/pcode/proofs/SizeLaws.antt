@@ -10,9 +10,9 @@ use borrow.Author.Tests.{eq-eqb, ne-eqb, eqb-true, eqb-false, le-leb, lt-leb, le
 use Rattle.cells.specs.Le.{le16}
 use Rattle.pcode.specs.declared.value.Value.{Value}
 use Rattle.pcode.specs.declared.sizes.Sizing.{Sizing}
-use Rattle.pcode.specs.Base.{if_then_else_, listed, thenL}
+use Rattle.pcode.specs.Base.{if_then_else_, thenL}
 use Rattle.pcode.specs.Values.{valueOf, valueAt, putSize}
-use Rattle.pcode.specs.Sizes.{Sized, sized, thenS, entry, listSize, exportSizeOf, tmpSize, listedSize, sizeOfLocal, sizeOf, sizeAt, sumOfErrors, recorded, error, sizeTemporary, settled, setOperand, setTwo, setThree, fallsBack, pairFallback, sharePair, setSizeOfPair, tripleFallsBack, tripleFallback, shareSize, allEqual, shareTriple, setSizeOfTriple, setUnsized, Settles, Counted}
+use Rattle.pcode.specs.Sizes.{Sized, thenS, entry, listSize, exportSizeOf, tmpSize, listedSize, sizeOfLocal, sizeOf, sizeAt, sumOfErrors, recorded, error, sizeTemporary, settled, setOperand, setTwo, setThree, fallsBack, pairFallback, sharePair, setSizeOfPair, tripleFallsBack, tripleFallback, shareSize, allEqual, shareTriple, setSizeOfTriple, setUnsized, Settles, Counted}
 
 pub list-size-law : (s t : List ℕ) (k i e r : ℕ) → e ≡ entry t k (i % 65536 * 4 + 2) → (r ≡ le16 s e) × (r < 65536) → r ≡ listSize s t k i
 unfolding listSize
@@ -107,67 +107,32 @@ sum-some x y h e = go (leb (x + y) 18446744073709551615) refl
     go true p = let k = sum-below x y (leb-true (x + y) 18446744073709551615 p) in h (omega arith)
     go false p = let k = sum-most x y (leb-false (x + y) 18446744073709551615 p) in absurd (omega arith)
 
-sum-most-left : (y : ℕ) → sumOfErrors 18446744073709551615 y ≡ 18446744073709551615
-sum-most-left y = go (leb (18446744073709551615 + y) 18446744073709551615) refl
+sum-equal : (x y u v : ℕ) → x + y ≡ u + v → sumOfErrors x y ≡ sumOfErrors u v
+unfolding sumOfErrors
+sum-equal x y u v h = rw h
+
+sum-from-most : (y : ℕ) → sumOfErrors 18446744073709551615 y ≡ 18446744073709551615
+sum-from-most y = go (leb (18446744073709551615 + y) 18446744073709551615) refl
   where
     go : (b : Bool) → leb (18446744073709551615 + y) 18446744073709551615 ≡ b → sumOfErrors 18446744073709551615 y ≡ 18446744073709551615
     go true p = let k = leb-true (18446744073709551615 + y) 18446744073709551615 p in let e = sum-below 18446744073709551615 y k in omega arith
     go false p = sym (sum-most 18446744073709551615 y (leb-false (18446744073709551615 + y) 18446744073709551615 p))
 
-sum-most-right : (x : ℕ) → sumOfErrors x 18446744073709551615 ≡ 18446744073709551615
-sum-most-right x = go (leb (x + 18446744073709551615) 18446744073709551615) refl
+sum-again : (x y k : ℕ) → sumOfErrors (sumOfErrors x y) k ≡ sumOfErrors x (y + k)
+sum-again x y k = go (leb (x + y) 18446744073709551615) refl
   where
-    go : (b : Bool) → leb (x + 18446744073709551615) 18446744073709551615 ≡ b → sumOfErrors x 18446744073709551615 ≡ 18446744073709551615
-    go true p = let k = leb-true (x + 18446744073709551615) 18446744073709551615 p in let e = sum-below x 18446744073709551615 k in omega arith
-    go false p = sym (sum-most x 18446744073709551615 (leb-false (x + 18446744073709551615) 18446744073709551615 p))
-
-sum-regroup : (e x y : ℕ) → sumOfErrors e (x + y) ≡ sumOfErrors (e + x) y
-unfolding sumOfErrors
-sum-regroup e x y = let k : e + (x + y) ≡ e + x + y = omega arith in rw k
+    go : (b : Bool) → leb (x + y) 18446744073709551615 ≡ b → sumOfErrors (sumOfErrors x y) k ≡ sumOfErrors x (y + k)
+    go true p = rw (← (sum-below x y (leb-true (x + y) 18446744073709551615 p))) (sum-equal (x + y) k x (y + k) (omega arith))
+    go false p =
+        let h = leb-false (x + y) 18446744073709551615 p in
+        rw (← (sum-most x y h)) (sum-from-most k ∙ sum-most x (y + k) (omega arith))
 
 sum-of-sum : (e x y : ℕ) → sumOfErrors e (sumOfErrors x y) ≡ sumOfErrors (sumOfErrors e x) y
-sum-of-sum e x y = go (leb (x + y) 18446744073709551615) (leb (e + x) 18446744073709551615) refl refl
-  where
-    go : (b c : Bool) → leb (x + y) 18446744073709551615 ≡ b → leb (e + x) 18446744073709551615 ≡ c → sumOfErrors e (sumOfErrors x y) ≡ sumOfErrors (sumOfErrors e x) y
-    go true true p q =
-        let f = sum-below x y (leb-true (x + y) 18446744073709551615 p) in
-        let g = sum-below e x (leb-true (e + x) 18446744073709551615 q) in
-        rw (← f, ← g) (sum-regroup e x y)
-    go true false p q =
-        let k = leb-false (e + x) 18446744073709551615 q in
-        let f = sum-below x y (leb-true (x + y) 18446744073709551615 p) in
-        let g = sum-most e x k in
-        rw (← f, ← g) (sym (sum-most e (x + y) (omega arith)) ∙ sym (sum-most-left y))
-    go false true p q =
-        let k = leb-false (x + y) 18446744073709551615 p in
-        let f = sum-most x y k in
-        let g = sum-below e x (leb-true (e + x) 18446744073709551615 q) in
-        rw (← f, ← g) (sum-most-right e ∙ sum-most (e + x) y (omega arith))
-    go false false p q =
-        let f = sum-most x y (leb-false (x + y) 18446744073709551615 p) in
-        let g = sum-most e x (leb-false (e + x) 18446744073709551615 q) in
-        rw (← f, ← g) (sum-most-right e ∙ sym (sum-most-left y))
-
-sum-once : (e k : ℕ) → sumOfErrors (sumOfErrors e 0) k ≡ sumOfErrors e k
-sum-once e k = go (leb (e + 0) 18446744073709551615) refl
-  where
-    go : (b : Bool) → leb (e + 0) 18446744073709551615 ≡ b → sumOfErrors (sumOfErrors e 0) k ≡ sumOfErrors e k
-    go true p = let f = sum-below e 0 (leb-true (e + 0) 18446744073709551615 p) in let g : sumOfErrors e 0 ≡ e = omega arith in rw g
-    go false p =
-        let h = leb-false (e + 0) 18446744073709551615 p in
-        let f = sum-most e 0 h in
-        rw (← f) (sum-most-left k ∙ sum-most e k (omega arith))
-
-sum-twice : (e n : ℕ) → sumOfErrors (sumOfErrors e n) 0 ≡ sumOfErrors e n
-sum-twice e n = go (leb (e + n) 18446744073709551615) refl
-  where
-    go : (b : Bool) → leb (e + n) 18446744073709551615 ≡ b → sumOfErrors (sumOfErrors e n) 0 ≡ sumOfErrors e n
-    go true p =
-        let h = leb-true (e + n) 18446744073709551615 p in
-        let f = sum-below e n h in
-        let g = sum-below (sumOfErrors e n) 0 (omega arith) in
-        omega arith
-    go false p = let f = sum-most e n (leb-false (e + n) 18446744073709551615 p) in rw (← f) (sum-most-left 0)
+sum-of-sum e x y =
+    sum-equal e (sumOfErrors x y) (sumOfErrors x y) e (omega arith)
+    ∙ sum-again x y e
+    ∙ sum-equal x (y + e) e (x + y) (omega arith)
+    ∙ sym (sum-again e x y)
 
 -- first n errors, then k
 pub record-sum : (z : Sizing) (n k : ℕ) → recorded (sumOfErrors n k) z ≡ recorded k (recorded n z)
@@ -186,12 +151,12 @@ record-sum z n k = go (eqb n 0) (eqb k 0) refl refl
         let x = eqb-true n 0 p in
         let f = eqb-false k 0 q in
         let e = sum-some n k (λ h. f (omega arith)) in
-        rw (ne-eqb (sumOfErrors n k) 0 e, q, p, total, x, sum-once (z .errors) k)
+        rw (ne-eqb (sumOfErrors n k) 0 e, q, p, total, x, sum-again (z .errors) 0 k, sum-equal (z .errors) (0 + k) (z .errors) k (omega arith))
     go false true p q =
         let y = eqb-true k 0 q in
         let g = eqb-false n 0 p in
         let e = sum-some n k (λ h. g (omega arith)) in
-        rw (ne-eqb (sumOfErrors n k) 0 e, p, q, total, y, sum-twice (z .errors) n)
+        rw (ne-eqb (sumOfErrors n k) 0 e, p, q, total, y, sum-again (z .errors) n 0, sum-equal (z .errors) (n + 0) (z .errors) n (omega arith))
     go false false p q =
         let f = eqb-false k 0 q in
         let e = sum-some n k (λ h. f (omega arith)) in

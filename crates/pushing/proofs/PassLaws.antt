@@ -60,7 +60,7 @@ pass-recorded s t a m a1 m1 fallback base n ptr k z y h e = rw e (h .counted z)
 
 pub pass-one : (s t a m a1 m1 : List ℕ) (at ptr k : ℕ) (z y : Sizing) → Counted k a1 m1 (pass s t false a m at 1 ptr) → y ≡ recorded k z → sized y a1 m1 ≡ updateOperandSizes s t false a m at ptr z
 unfolding pass turns runDown updateAction actionPlace thenS if_then_else_
-pass-one s t a m a1 m1 at ptr k z y h e = rw e (h .counted z)
+pass-one s t a m a1 m1 at ptr k z y h e = pass-recorded s t a m a1 m1 false at 1 ptr k z y h e
 
 module _ (s t a m : List ℕ) (base n ptr : ℕ) (z : Sizing) where
   none : n - 0 ≡ n

@@ -15,7 +15,7 @@ use Rattle.pushing.specs.declared.push.Read.{Read}
 use Rattle.pushing.specs.declared.push.Pushed.{Pushed}
 use Rattle.pcode.specs.Base.{if_then_else_, run, listed}
 use Rattle.pcode.specs.Values.{local, valueAt, putValue, zeroWord}
-use Rattle.pcode.specs.Sizes.{sized, thenS, recorded, Counted}
+use Rattle.pcode.specs.Sizes.{thenS, recorded, Counted}
 use Rattle.pushing.specs.Passes.{pass}
 use Rattle.pushing.proofs.PassLaws.{pass-one}
 use Rattle.pushing.specs.Pushes.{read, pushed, state, onPushed, onTmp, onPush, onState, withEnd, withTemporaries, withSizing, tmpWord, addTmp, outputOr, writeOperands, writeZeros, writeHead, write, push, updateLast, pushOp, opTo, op}

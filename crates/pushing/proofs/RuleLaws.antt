@@ -7,9 +7,8 @@ use native.Mathlib.Omega.{arith}
 use lib.ListN.{getD}
 use lib.Dec.{eqb, ltb}
 use borrow.Author.Tests.{eq-eqb, ne-eqb, eqb-true, lt-ltb, le-ltb}
-use Rattle.pcode.specs.declared.sizes.Sizing.{Sizing}
 use Rattle.pcode.specs.Base.{if_then_else_}
-use Rattle.pcode.specs.Sizes.{sized, thenS, sumOfErrors, recorded, setOperand, setThree, setSizeOfPair, setSizeOfTriple, setUnsized, Counted}
+use Rattle.pcode.specs.Sizes.{sumOfErrors, recorded, setOperand, setThree, setSizeOfPair, setSizeOfTriple, setUnsized, Counted}
 use Rattle.pcode.proofs.SizeLaws.{counted-then}
 use Rattle.pushing.specs.Rules.{ruleOfOperator, ruleOfOneInput, ruleOfOther, ruleOf, shift, comparison, pairs, partner, pairRule, boolNot, branch, fewOperands, applyRule, updateOperandSizes}
 

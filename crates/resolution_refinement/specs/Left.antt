@@ -1,6 +1,6 @@
 -- What the end of the actions leaves as it was, whether it refuses or not: the number of words, and the ordinal of the
 -- statement begun last. In the definition a refusal there has that ordinal and no errors.
-use Prim.Native.Nat.{ℕ, zero, suc, _+_, _*_, _%_, _^_}
+use Prim.Native.Nat.{ℕ, zero, suc, _+_, _*_, _%_}
 use mathlib.Core.Path.{_≡_, refl, _∙_}
 use mathlib.Core.Bool.{Bool, true, false}
 use mathlib.Core.List.{List, [], _∷_}

@@ -12,7 +12,7 @@ use native.Mathlib.Omega.{arith}
 use mathlib.Core.Path.{_≡_, refl}
 use lib.ListN.{length}
 use Rattle.pcode.specs.declared.sizes.Sizing.{Sizing}
-use Rattle.pcode.specs.Sizes.{sized, recorded, Counted}
+use Rattle.pcode.specs.Sizes.{sized, recorded}
 use Rattle.pushing.specs.Passes.{updateAction, turns, pass}
 use Rattle.pushing.proofs.PassLaws.{update-action-law, pass-start, turns-again, turns-end}
 
