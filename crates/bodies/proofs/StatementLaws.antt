@@ -1,10 +1,12 @@
 -- One law for each way out of the statements and macro bodies.
-use mathlib.Core.Path.{_≡_, refl, _∙_, ap}
+use mathlib.Core.Path.{_≡_, refl, sym, _∙_, ap, subst}
+use mathlib.Core.Bool.{Bool, true, false, _&&_, not}
 use mathlib.Core.List.{List}
 use Prim.Native.Nat.{ℕ, suc, _+_, _-_, _*_, _%_, _^_, _≤_, _<_}
 use native.Mathlib.Omega.{arith}
-use lib.ListN.{getD, replicate}
-use borrow.Author.Tests.{eq-eqb, ne-eqb, le-leb, lt-leb}
+use lib.ListN.{length, getD, replicate}
+use lib.Dec.{T, ltb, leb}
+use borrow.Author.Tests.{eq-eqb, ne-eqb, le-leb, lt-leb, ltb-true, leb-true}
 use Rattle.cells.specs.Le.{le16}
 use Rattle.pushing.specs.declared.push.State.{State}
 use Rattle.pushing.specs.declared.push.Env.{Env}
@@ -21,7 +23,7 @@ use Rattle.semantics.specs.Simple.{unimplemented, exportStatement, localStateme
 use Rattle.assignments.specs.Stores.{storeStatement}
 use Rattle.assignments.specs.Copies.{copyStatement}
 use Rattle.semantics.specs.Calls.{calledOf, otherCall, macroAt, macroArgs}
-use Rattle.bodies.specs.Statements.{simple, otherStatement, begun, begin, entered, returned, returnedTo, macroEnv, bodyAt, firstOrdinal, Enter, macroStatement, callNamed, callStatement, statementBy, statementBegun, resolveStatement, Statement, resolveAll, macroBody, enterMacro, resolveBody}
+use Rattle.bodies.specs.Statements.{simple, otherStatement, begun, begin, entered, returned, returnedTo, macroEnv, bodyAt, firstOrdinal, Enter, macroStatement, callNamed, callStatement, statementBy, statementBegun, resolveStatement, Statement, forward, resolveAll, macroBody, enterMacro, resolveBody}
 
 module _ (code : ℕ) (s t p a m : List ℕ) (e : Env) (pos : ℕ) (w : Walk) (z : Step) where
   pub code-unimplemented : (a1 m1 : List ℕ) → code ≡ 0 → stepped z a1 m1 ≡ unimplemented s t a m e pos w → stepped z a1 m1 ≡ simple code s t p a m e pos w
@@ -153,17 +155,39 @@ module _ (enter : Enter) (s t p : List ℕ) (e : Env) (pos ordinal : ℕ) (l a m
     statement-other k h = rw (← f, q, ← ec .0, ne-eqb code 7 k) h
 
 -- ---- bodies; what is left to resolve gives the whole, B
-pub body-start : (deep : ℕ) (s t p l a m : List ℕ) (e : Env) (pos n ordinal : ℕ) (w : Walk) → resolveAll (resolveStatement (enterMacro deep s t) s t p e) (n - 0) 0 ordinal pos l a m w ≡ resolveBody deep s t p l a m e pos n ordinal w
+pub forward-law : (pos next len : ℕ) → (ltb pos next && leb next len) ≡ forward pos next len
+unfolding forward
+forward-law pos next len = refl
+
+both-true : (x y : Bool) → x && y ≡ true → (x ≡ true) × (y ≡ true)
+both-true true true h = (refl, refl)
+both-true true false h = (refl, h)
+both-true false y h = (h, absurd (subst T (sym h) tt))
+
+passed-test : (x : Bool) → not x ≡ false → x ≡ true
+passed-test true h = refl
+passed-test false h = sym h
+
+failed-test : (x : Bool) → not x ≡ true → x ≡ false
+failed-test true h = sym h
+failed-test false h = refl
+
+-- the bytes left fall
+pub bytes-fall : (pos next len : ℕ) (x : Bool) → x ≡ forward pos next len → not x ≡ false → len - next < len - pos
+unfolding forward
+bytes-fall pos next len x e h = let k = both-true (ltb pos next) (leb next len) (sym e ∙ passed-test x h) in omega (arith, ltb-true pos next (k .0), leb-true next len (k .1))
+
+pub body-start : (deep : ℕ) (s t p l a m : List ℕ) (e : Env) (pos n ordinal : ℕ) (w : Walk) → resolveAll (resolveStatement (enterMacro deep s t) s t p e) (length s) (n - 0) 0 ordinal pos l a m w ≡ resolveBody deep s t p l a m e pos n ordinal w
 unfolding resolveBody
 body-start deep s t p l a m e pos n ordinal w = let z : n - 0 ≡ n = omega arith in rw z
 
-module _ (resolve : Statement) (n i ordinal pos : ℕ) (l a m : List ℕ) (w : Walk) (B : Walked) (inv : resolveAll resolve (n - i) i ordinal pos l a m w ≡ B) where
+module _ (resolve : Statement) (len n i ordinal pos : ℕ) (l a m : List ℕ) (w : Walk) (B : Walked) (inv : resolveAll resolve len (n - i) i ordinal pos l a m w ≡ B) where
   pub body-end : n ≤ i → walked (Step.Next pos w) l a m ≡ B
   unfolding resolveAll
   body-end h = let z : n - i ≡ 0 = omega arith in rw z at inv
 
   module _ (h : i < n) (o : ℕ) (eo : o ≡ (ordinal + i) % 2 ^ 64) (r : Step) (l1 a1 m1 : List ℕ) (f : walked r l1 a1 m1 ≡ resolve pos o l a m w) where
-    turn : onStep (walked r l1 a1 m1) (λ next w1 q b u. resolveAll resolve (n - (i + 1)) (suc i) ordinal next q b u w1) ≡ B
+    turn : onStep (walked r l1 a1 m1) (λ next w1 q b u. if forward pos next len then resolveAll resolve len (n - (i + 1)) (suc i) ordinal next q b u w1 else walked (stop 3 w1) q b u) ≡ B
     unfolding resolveAll
     turn = let z : n - i ≡ suc (n - (i + 1)) = omega arith in rw (f, eo) (rw z at inv)
 
@@ -171,12 +195,17 @@ module _ (resolve : Statement) (n i ordinal pos : ℕ) (l a m : List ℕ) (w : W
     unfolding onStep
     body-stop refusal k q = rw q at turn
 
-    pub body-next : (next : ℕ) (w1 : Walk) → r ≡ Step.Next next w1 → resolveAll resolve (n - (i + 1)) (i + 1) ordinal next l1 a1 m1 w1 ≡ B
-    unfolding onStep
-    body-next next w1 q = let o1 : i + 1 ≡ suc i = omega arith in rw o1 (rw (q, o1) at turn)
+    module _ (next : ℕ) (w1 : Walk) (q : r ≡ Step.Next next w1) (x : Bool) (ex : x ≡ forward pos next len) where
+      pub body-cut : (z : Step) → not x ≡ true → z ≡ stop 3 w1 → walked z l1 a1 m1 ≡ B
+      unfolding onStep if_then_else_
+      body-cut z c y = rw y (rw (q, ← ex, failed-test x c) at turn)
+
+      pub body-next : not x ≡ false → resolveAll resolve len (n - (i + 1)) (i + 1) ordinal next l1 a1 m1 w1 ≡ B
+      unfolding onStep if_then_else_
+      body-next c = let o1 : i + 1 ≡ suc i = omega arith in rw o1 (rw (q, ← ex, passed-test x c, o1) at turn)
 
 pub ruleset code-laws = (code-unimplemented, code-export, code-local, code-assignment, code-build, code-copy, code-store, code-branch, code-cond, code-label, code-simple)
 
-pub ruleset begin-laws = (begin-exported, begin-many, begin-next, returned-stop, returned-next, body-at-law, first-law)
+pub ruleset begin-laws = (begin-exported, begin-many, begin-next, returned-stop, returned-next, body-at-law, first-law, forward-law)
 
-pub ruleset statement-laws = (enter-deep, enter-body, macro-stop, macro-next, call-macro, call-other, statement-stop, statement-call, statement-other, body-start, body-end, body-stop, body-next)
+pub ruleset statement-laws = (enter-deep, enter-body, macro-stop, macro-next, call-macro, call-other, statement-stop, statement-call, statement-other, body-start, body-end, body-stop, body-cut, body-next)

@@ -1,8 +1,9 @@
 -- Statements and macro bodies. A statement takes what enters a macro as an argument; only that goes a level deeper.
 use Prim.Native.Nat.{ℕ, zero, suc, _+_, _*_, _%_, _^_}
+use mathlib.Core.Bool.{Bool, _&&_}
 use mathlib.Core.List.{List}
-use lib.ListN.{getD, replicate}
-use lib.Dec.{eqb, leb}
+use lib.ListN.{length, getD, replicate}
+use lib.Dec.{eqb, leb, ltb}
 use Rattle.cells.specs.Le.{le16}
 use Rattle.pushing.specs.declared.push.State.{State}
 use Rattle.pushing.specs.declared.push.Env.{Env}
@@ -113,17 +114,23 @@ resolveStatement enter s t p e pos ordinal l a m w = statementBegun (begin ordin
 abbrev pub Statement : Type 0
 Statement = ℕ → ℕ → List ℕ → List ℕ → List ℕ → Walk → Walked
 
--- k statements from a position on, the first number i of a body whose first has that ordinal
-unfoldable pub resolveAll : Statement → ℕ → ℕ → ℕ → ℕ → List ℕ → List ℕ → List ℕ → Walk → Walked
-resolveAll resolve zero i ordinal pos l a m w = walked (Step.Next pos w) l a m
-resolveAll resolve (suc k) i ordinal pos l a m w =
-    onStep (resolve pos ((ordinal + i) % 2 ^ 64) l a m w) λ next w1 q b u. resolveAll resolve k (suc i) ordinal next q b u w1
+-- a statement that begins at a position ends behind it, inside a stream of so many bytes
+unfoldable pub forward : ℕ → ℕ → ℕ → Bool
+forward pos next len = ltb pos next && leb next len
+
+-- k statements from a position on, the first number i of a body whose first has that ordinal, in a stream of so many bytes.
+-- Each ends behind its beginning; one that did not would be refused as cut.
+unfoldable pub resolveAll : Statement → ℕ → ℕ → ℕ → ℕ → ℕ → List ℕ → List ℕ → List ℕ → Walk → Walked
+resolveAll resolve len zero i ordinal pos l a m w = walked (Step.Next pos w) l a m
+resolveAll resolve len (suc k) i ordinal pos l a m w =
+    onStep (resolve pos ((ordinal + i) % 2 ^ 64) l a m w) λ next w1 q b u.
+    if forward pos next len then resolveAll resolve len k (suc i) ordinal next q b u w1 else walked (stop 3 w1) q b u
 
 -- the body of a macro that stands at a position, with its parameters, in a scope of its own
 unfoldable pub macroBody : Enter → List ℕ → List ℕ → List ℕ → ℕ → List ℕ → List ℕ → List ℕ → Env → ℕ → ℕ → State → Walk → Walked
 macroBody enter s t args at l a m e id n st w =
     resolveAll
-    (resolveStatement enter s t args (macroEnv ((w .scopes + 1) % 2 ^ 64) n e))
+    (resolveStatement enter s t args (macroEnv ((w .scopes + 1) % 2 ^ 64) n e)) (length s)
     (le16 s (bodyAt at n + 0)) 0 (firstOrdinal t id) (after (bodyAt at n) 2) l a m (entered st ((w .scopes + 1) % 2 ^ 64) w)
 
 -- with macro calls so deep at most
@@ -133,4 +140,4 @@ enterMacro (suc d) s t l a m e id args n next st w =
     returnedTo next (macroBody (enterMacro d s t) s t args (macroAt t id) l a m e id n st w)
 
 unfoldable pub resolveBody : ℕ → List ℕ → List ℕ → List ℕ → List ℕ → List ℕ → List ℕ → Env → ℕ → ℕ → ℕ → Walk → Walked
-resolveBody deep s t p l a m e pos n ordinal w = resolveAll (resolveStatement (enterMacro deep s t) s t p e) n 0 ordinal pos l a m w
+resolveBody deep s t p l a m e pos n ordinal w = resolveAll (resolveStatement (enterMacro deep s t) s t p e) (length s) n 0 ordinal pos l a m w

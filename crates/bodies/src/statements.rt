@@ -24,7 +24,7 @@ use walking::walk::Walk;
 use walking::walk::stop;
 ghost use mathlib.Core.Path.{_≡_};
 ghost use Rattle.walking.specs.Walks.{stepped, walked};
-ghost use Rattle.bodies.specs.Statements.{simple, otherStatement, begun, begin, entered, returned, macroEnv, bodyAt, firstOrdinal, callStatement, macroStatement, enterMacro, resolveStatement, resolveBody};
+ghost use Rattle.bodies.specs.Statements.{simple, otherStatement, begun, begin, entered, returned, macroEnv, bodyAt, firstOrdinal, callStatement, macroStatement, enterMacro, resolveStatement, forward, resolveBody};
 
 fn simple(
     code: u64,
@@ -279,7 +279,15 @@ fn statement(
     }
 }
 
-// n statements from a position on, the first with that ordinal; macro calls so deep at most.
+// Whether a statement that begins at a position ends behind it, inside the stream, as every one of an accepted stream does.
+fn forward(pos: usize, next: usize, len: usize) -> bool
+    ensures { λ r. ⌜ r ≡ forward pos next len ⌝ }
+{
+    (pos < next) & (next <= len)
+}
+
+// n statements from a position on, the first with that ordinal; macro calls so deep at most. From one statement to the next
+// the bytes left of the stream fall; a statement that took none would be refused as cut.
 pub fn body(
     deep: u64,
     s: &[u8],
@@ -298,7 +306,8 @@ pub fn body(
 {
     let mut at = pos;
     let mut w = w;
-    for i in 0..n {
+    let mut i = 0;
+    while i < n {
         let own = std::num::wrapping_add_u64(ordinal, i);
         match statement(deep, s, t, p, l, a, m, e, at, own, w) {
             Step::Stop {
@@ -309,8 +318,12 @@ pub fn body(
                 ordinal: o,
             },
             Step::Next { next, w: w1 } => {
+                if !forward(at, next, s.len()) {
+                    return stop(w1, 3);
+                }
                 at = next;
                 w = w1;
+                i += 1;
             }
         }
     }

@@ -5,7 +5,7 @@ use mathlib.Core.List.{List, [], _∷_, map}
 use mathlib.Core.Option.{Option, none, some}
 use Prim.Native.Nat.{ℕ, zero, suc, _+_, _-_, _*_, _≤_, _<_}
 use native.Mathlib.Omega.{arith}
-use lib.ListN.{length, getElem?}
+use lib.ListN.{length, length-drop, drop, getElem?}
 use lib.Dec.{eqb, leb, ltb}
 use Rattle.definition.specs.Base.{if_then_else_}
 use Rattle.definition.specs.Refusals.{Refusal, malformed, outsideLimit}
@@ -210,6 +210,10 @@ module _ (m : ℕ) where
       (also (bind-takes 0 (d.branchDst m) _ target-takes (λ x. bind-takes 0 (d.branchHint m) _ hint-takes (λ h. pure-takes _)))
       (also (bind-takes 0 (d.expr m) _ expr-any (λ c. bind-takes 0 (d.branchDst m) _ target-takes (λ x. bind-takes 0 (d.branchHint m) _ hint-takes (λ h. pure-takes _))))
       (also (bind-takes 0 (d.name m) _ name-takes (λ n. pure-takes _)) nil)))))))))))
+
+  -- so a statement that stands at a position ends behind it
+  pub statement-ends : (s : List ℕ) (pos next : ℕ) (x : Statement) → d.statement m (drop pos s) ≡ parsed x (drop next s) → pos ≤ length s → next ≤ length s → pos < next
+  statement-ends s pos next x e i j = let h = statement-takes .takes (drop pos s) x (drop next s) e in omega (arith, length-drop pos s, length-drop next s)
 
   pub params-take : (n : ℕ) → Takes 0 (listOf (d.name m) n)
   params-take n = list-takes-any (d.name m) name-takes n

@@ -2,11 +2,14 @@
 -- the levels that are left.
 use Prim.Native.Nat.{ℕ, zero, suc, _+_, _*_, _%_, _^_, _≤_, _<_}
 use mathlib.Core.Path.{_≡_, refl, sym, _∙_, subst}
+use mathlib.Core.Bool.{true}
 use mathlib.Core.List.{List, [], _∷_}
 use mathlib.Core.Option.{some}
 use native.Mathlib.Nat.{add-zero}
 use native.Mathlib.Omega.{arith}
 use lib.ListN.{length, getD, take, drop, getElem?}
+use borrow.Author.Tests.{lt-ltb, le-leb}
+use Rattle.pcode.specs.Base.{if_then_else_}
 use Rattle.cells.specs.Le.{le16}
 use Rattle.definition.specs.Refusals.{refusalNumber, macroTooDeep}
 use Rattle.definition.specs.Ast.{Statement, Macro}
@@ -26,13 +29,14 @@ use Rattle.guarantee.specs.KeptStatements.{keep-body}
 use Rattle.pushing.specs.declared.push.Env.{Env as WordEnv}
 use Rattle.pushing.specs.declared.push.State.{State as WordState}
 use Rattle.section_refinement.specs.Holds.{Holds}
+use Rattle.section_refinement.specs.Forward.{statement-ends}
 use Rattle.section_refinement.specs.Inversion.{statement-at, MacroParts}
 use Rattle.refinement.specs.Encoding.{Each}
 use Rattle.terms.specs.Answers.{after}
 use Rattle.walking.specs.declared.walk.Walk.{Walk}
 use Rattle.walking.specs.declared.walk.Step.{Step}
-use Rattle.walking.specs.Walks.{Walked, onStep}
-use Rattle.bodies.specs.Statements.{statementBy, statementBegun, resolveStatement, resolveAll, macroEnv, bodyAt, returned, returnedTo, macroBody, enterMacro, resolveBody}
+use Rattle.walking.specs.Walks.{Walked, walked, onStep, stop}
+use Rattle.bodies.specs.Statements.{statementBy, statementBegun, resolveStatement, resolveAll, macroEnv, bodyAt, forward, returned, returnedTo, macroBody, enterMacro, resolveBody}
 use Rattle.expression_refinement.specs.Encodings.{SoundX, count}
 use Rattle.expression_refinement.specs.Answers.{acts, temps, word}
 use Rattle.expression_refinement.specs.Expressions.{after-is}
@@ -145,23 +149,29 @@ module _ (s t : List ℕ) (e : Env) (front tail rest : List ℕ) (spare : ℕ) w
 
     abbrev All : ℕ → ℕ → ℕ → ℕ → List Statement → Type 0
     All k i first pos xs = (ls marks : List ℕ) (b : Beside) (st : State) → Between we p ls marks b st
-        → Whole ls marks b st (resolveAll (resolveStatement (enterMacro deep s t) s t p we) k i first pos ls (acts (e .section) front tail marks rest st) (temps (e .section) front tail marks rest st) (walkOf b (word (e .section) front tail marks rest st)))
+        → Whole ls marks b st (resolveAll (resolveStatement (enterMacro deep s t) s t p we) (length s) k i first pos ls (acts (e .section) front tail marks rest st) (temps (e .section) front tail marks rest st) (walkOf b (word (e .section) front tail marks rest st)))
         (d.resolveAll (d.resolveStatement (enterOf deep)) (first + i) xs e st)
+
+    -- a statement that is read ends behind its beginning
+    goes-forward : (pos : ℕ) (x : Statement) (next : ℕ) → statement (le16 s 2) (drop pos s) ≡ parsed x (drop next s) → pos ≤ length s → next ≤ length s → forward pos next (length s) ≡ true
+    unfolding forward
+    goes-forward pos x next reads inside ends = rw (lt-ltb pos next (statement-ends (le16 s 2) s pos next x reads inside ends), le-leb next (length s) ends)
 
     one-more : (k i first pos : ℕ) (x : Statement) (xs : List Statement) (next : ℕ) → statement (le16 s 2) (drop pos s) ≡ parsed x (drop next s) → pos ≤ length s → next ≤ length s → StatementWithin x → first + i < 2 ^ 64
         → All k (suc i) first next xs → All (suc k) i first pos (x ∷ xs)
-    unfolding resolveAll d.resolveAll resolveStatement
+    unfolding resolveAll d.resolveAll resolveStatement if_then_else_
     one-more k i first pos x xs next reads inside ends within few more ls marks b st h =
         let z : (first + i) % 2 ^ 64 ≡ first + i = omega arith in
         let y : first + suc i ≡ suc (first + i) = omega arith in
+        let goes : forward pos next (length s) ≡ true = goes-forward pos x next reads inside ends in
         rw z (then-rest ls marks b st h (first + i) pos x next reads inside ends within
-        (λ next1 w1 q a m. resolveAll (resolveStatement (enterMacro deep s t) s t p we) k (suc i) first next1 q a m w1) (d.resolveAll (d.resolveStatement (enterOf deep)) (suc (first + i)) xs)
-        (λ q last c u g. rw (← y) (more q last c u g)) _ _
+        (λ next1 w1 q a m. if forward pos next1 (length s) then resolveAll (resolveStatement (enterMacro deep s t) s t p we) (length s) k (suc i) first next1 q a m w1 else walked (stop 3 w1) q a m) (d.resolveAll (d.resolveStatement (enterOf deep)) (suc (first + i)) xs)
+        (λ q last c u g. rw (goes, ← y) (more q last c u g)) _ _
         (begin-is e (length front) (first + i) b st (h .standing .statements) (h .standing .export)))
 
     pub all-follow : (k i first pos : ℕ) (xs : List Statement) (end : List ℕ) → listOf (statement (le16 s 2)) k (drop pos s) ≡ parsed xs end → pos ≤ length s → tests.Each StatementWithin xs → first + i + k < 2 ^ 64
         → (ls marks : List ℕ) (b : Beside) (st : State) → Between we p ls marks b st
-        → Whole ls marks b st (resolveAll (resolveStatement (enterMacro deep s t) s t p we) k i first pos ls (acts (e .section) front tail marks rest st) (temps (e .section) front tail marks rest st) (walkOf b (word (e .section) front tail marks rest st)))
+        → Whole ls marks b st (resolveAll (resolveStatement (enterMacro deep s t) s t p we) (length s) k i first pos ls (acts (e .section) front tail marks rest st) (temps (e .section) front tail marks rest st) (walkOf b (word (e .section) front tail marks rest st)))
         (d.resolveAll (d.resolveStatement (enterOf deep)) (first + i) xs e st)
     unfolding resolveAll d.resolveAll
     all-follow zero i first pos xs end reads inside within few ls marks b st h =
@@ -179,7 +189,7 @@ module _ (s t : List ℕ) (e : Env) (front tail rest : List ℕ) (spare : ℕ) w
     unfolding resolveBody
     body-follows-by k first pos xs end reads inside within few ls marks b st h =
         rw (body-is deep first xs)
-        (subst (λ (i : ℕ). Whole ls marks b st (resolveAll (resolveStatement (enterMacro deep s t) s t p we) k 0 first pos ls (acts (e .section) front tail marks rest st) (temps (e .section) front tail marks rest st) (walkOf b (word (e .section) front tail marks rest st))) (d.resolveAll (d.resolveStatement (enterOf deep)) i xs e st))
+        (subst (λ (i : ℕ). Whole ls marks b st (resolveAll (resolveStatement (enterMacro deep s t) s t p we) (length s) k 0 first pos ls (acts (e .section) front tail marks rest st) (temps (e .section) front tail marks rest st) (walkOf b (word (e .section) front tail marks rest st))) (d.resolveAll (d.resolveStatement (enterOf deep)) i xs e st))
         (add-zero first) (all-follow k 0 first pos xs end reads inside within (omega arith) ls marks b st h))
 
 -- a macro entered with a level left

@@ -20,17 +20,18 @@ use Rattle.bodies.proofs.statements.begin.Reads as begin-reads
 use Rattle.bodies.proofs.statements.body_at.Reads as body-at-reads
 use Rattle.bodies.proofs.statements.entered.Reads as entered-reads
 use Rattle.bodies.proofs.statements.first_ordinal.Reads as first-ordinal-reads
+use Rattle.bodies.proofs.statements.forward.Reads as forward-reads
 use Rattle.bodies.proofs.statements.macro_env.Reads as macro-env-reads
 use Rattle.bodies.proofs.statements.other_statement.Reads as other-statement-reads
 use Rattle.bodies.proofs.statements.returned.Reads as returned-reads
 use Rattle.cells.proofs.byte.Reads as byte-reads
 use Rattle.cells.proofs.u16_in.Reads as u16-in-reads
-use Rattle.terms.proofs.answers.after.Reads as after-reads
 use Rattle.semantics.proofs.calls.called_of.Reads as called-of-reads
 use Rattle.semantics.proofs.calls.macro_args.Reads as macro-args-reads
 use Rattle.semantics.proofs.calls.macro_at.Reads as macro-at-reads
 use Rattle.semantics.proofs.calls.other_call.Reads as other-call-reads
 use Rattle.std.proofs.num.wrapping_add_u64.Reads as wrapping-add-u64-reads
+use Rattle.terms.proofs.answers.after.Reads as after-reads
 use Rattle.walking.proofs.walk.stop.Reads as stop-reads
 use Rattle.bodies.proofs.statements.+body+call_statement+enter+macro_statement+statement.{statement}
 use Rattle.bodies.proofs.statements.+body+call_statement+enter+macro_statement+statement.Tie.{close}
@@ -38,7 +39,7 @@ use borrow.Author.Needs.{needs}
 use mathlib.Core.Path.{_≡_}
 use lib.ListN.{length}
 use Rattle.bodies.specs.Statements.{enterMacro, resolveStatement, resolveAll, resolveBody}
-use Rattle.bodies.proofs.StatementLaws.{statement-laws, enter-body, body-next}
+use Rattle.bodies.proofs.StatementLaws.{statement-laws, enter-body, bytes-fall, body-cut, body-next}
 use native.Mathlib.Omega.{arith}
 
 abbrev μ-body : Measures 6 body-kinds.ps ℕ
@@ -109,156 +110,298 @@ statement-below t =
 
 abbrev body-Inv-loop : body-lts.InvT-loop
 body-Inv-loop deep s t p l₀ a₀ m₀ e pos n ordinal at₀ w₀ i₀ l a m at w i = (length l ≡ length l₀) × (length a ≡ length a₀) × (length m ≡ length m₀)
-    × (resolveAll (resolveStatement (enterMacro deep s t) s t p e) (n - i) i ordinal at l a m w ≡ resolveBody deep s t p l₀ a₀ m₀ e pos n ordinal w₀)
+    × (resolveAll (resolveStatement (enterMacro deep s t) s t p e) (length s) (n - i) i ordinal at l a m w ≡ resolveBody deep s t p l₀ a₀ m₀ e pos n ordinal w₀)
 
 abbrev body-μ-loop : body-lts.MeasureT-loop
-body-μ-loop deep s t p l₀ a₀ m₀ e pos n ordinal at₀ w₀ i₀ l a m at w i = n - i
+body-μ-loop deep s t p l₀ a₀ m₀ e pos n ordinal at₀ w₀ i₀ l a m at w i = length s - at
 
--- src/statements.rt:302:5
+-- src/statements.rt:310:5
 body-loop-holds : (t : ℕ) → body-lts.Need-loop-holds (
   wrapping-add-u64-reads.Asked,
   wrapping-add-u64-reads.Learnt,
   statement-below t,
   statement′.Post,
+  forward-reads.Asked,
+  forward-reads.Learnt,
+  stop-reads.Asked,
+  stop-reads.Learnt,
 ) (body-at t) body.Post body-Inv-loop body-μ-loop
 body-loop-holds t c = search (statement-laws, needs)
 
--- src/statements.rt:303:13
+-- src/statements.rt:311:13
 body-wrapping-add-u64-requires : (t : ℕ) → body-lts.Need-wrapping-add-u64-requires (
   wrapping-add-u64-reads.Asked,
   wrapping-add-u64-reads.Learnt,
   statement-below t,
   statement′.Post,
+  forward-reads.Asked,
+  forward-reads.Learnt,
+  stop-reads.Asked,
+  stop-reads.Learnt,
 ) (body-at t) body.Post body-Inv-loop body-μ-loop
 body-wrapping-add-u64-requires t c κs = search (statement-laws, needs)
 
--- src/statements.rt:304:15
+-- src/statements.rt:312:15
 body-statement-requires : (t : ℕ) → body-lts.Need-statement-requires (
   wrapping-add-u64-reads.Asked,
   wrapping-add-u64-reads.Learnt,
   statement-below t,
   statement′.Post,
+  forward-reads.Asked,
+  forward-reads.Learnt,
+  stop-reads.Asked,
+  stop-reads.Learnt,
 ) (body-at t) body.Post body-Inv-loop body-μ-loop
 body-statement-requires t c κs = search (statement-laws, needs)
 
--- src/statements.rt:306:17
+-- src/statements.rt:314:17
 body-enum-known-refusal : (t : ℕ) → body-lts.Need-enum-known-refusal (
   wrapping-add-u64-reads.Asked,
   wrapping-add-u64-reads.Learnt,
   statement-below t,
   statement′.Post,
+  forward-reads.Asked,
+  forward-reads.Learnt,
+  stop-reads.Asked,
+  stop-reads.Learnt,
 ) (body-at t) body.Post body-Inv-loop body-μ-loop
 body-enum-known-refusal t c = search (statement-laws, needs)
 
--- src/statements.rt:308:18
+-- src/statements.rt:316:18
 body-same-length : (t : ℕ) → body-lts.Need-same-length (
   wrapping-add-u64-reads.Asked,
   wrapping-add-u64-reads.Learnt,
   statement-below t,
   statement′.Post,
+  forward-reads.Asked,
+  forward-reads.Learnt,
+  stop-reads.Asked,
+  stop-reads.Learnt,
 ) (body-at t) body.Post body-Inv-loop body-μ-loop
 body-same-length t c = search (statement-laws, needs)
 
--- src/statements.rt:308:18
+-- src/statements.rt:316:18
 body-same-length-2 : (t : ℕ) → body-lts.Need-same-length-2 (
   wrapping-add-u64-reads.Asked,
   wrapping-add-u64-reads.Learnt,
   statement-below t,
   statement′.Post,
+  forward-reads.Asked,
+  forward-reads.Learnt,
+  stop-reads.Asked,
+  stop-reads.Learnt,
 ) (body-at t) body.Post body-Inv-loop body-μ-loop
 body-same-length-2 t c = search (statement-laws, needs)
 
--- src/statements.rt:308:18
+-- src/statements.rt:316:18
 body-same-length-3 : (t : ℕ) → body-lts.Need-same-length-3 (
   wrapping-add-u64-reads.Asked,
   wrapping-add-u64-reads.Learnt,
   statement-below t,
   statement′.Post,
+  forward-reads.Asked,
+  forward-reads.Learnt,
+  stop-reads.Asked,
+  stop-reads.Learnt,
 ) (body-at t) body.Post body-Inv-loop body-μ-loop
 body-same-length-3 t c = search (statement-laws, needs)
 
--- src/statements.rt:308:18
+-- src/statements.rt:316:18
 body-returns : (t : ℕ) → body-lts.Need-returns (
   wrapping-add-u64-reads.Asked,
   wrapping-add-u64-reads.Learnt,
   statement-below t,
   statement′.Post,
+  forward-reads.Asked,
+  forward-reads.Learnt,
+  stop-reads.Asked,
+  stop-reads.Learnt,
 ) (body-at t) body.Post body-Inv-loop body-μ-loop
 body-returns t c = search (statement-laws, needs)
 
--- src/statements.rt:312:26
+-- src/statements.rt:320:26
 body-enum-known-next : (t : ℕ) → body-lts.Need-enum-known-next (
   wrapping-add-u64-reads.Asked,
   wrapping-add-u64-reads.Learnt,
   statement-below t,
   statement′.Post,
+  forward-reads.Asked,
+  forward-reads.Learnt,
+  stop-reads.Asked,
+  stop-reads.Learnt,
 ) (body-at t) body.Post body-Inv-loop body-μ-loop
 body-enum-known-next t c = search (statement-laws, needs)
 
--- src/statements.rt:302:9
-body-add-i : (t : ℕ) → body-lts.Need-add-i (
+-- src/statements.rt:321:21
+body-forward-requires : (t : ℕ) → body-lts.Need-forward-requires (
   wrapping-add-u64-reads.Asked,
   wrapping-add-u64-reads.Learnt,
   statement-below t,
   statement′.Post,
+  forward-reads.Asked,
+  forward-reads.Learnt,
+  stop-reads.Asked,
+  stop-reads.Learnt,
 ) (body-at t) body.Post body-Inv-loop body-μ-loop
-body-add-i t c = omega (arith, c .before .before .before .before .before .before .before .before .before .before .before .before .before .before .loop-test .taken, c .before .before .before .before .before .before .before .before .before .before .before .before .before .before .before .before .before .before .before .before .before .fits)
+body-forward-requires t c κs = search (statement-laws, needs)
 
--- src/statements.rt:302:5
-body-loop-less : (t : ℕ) → body-lts.Need-loop-less (
+-- src/statements.rt:322:21
+body-stop-requires : (t : ℕ) → body-lts.Need-stop-requires (
   wrapping-add-u64-reads.Asked,
   wrapping-add-u64-reads.Learnt,
   statement-below t,
   statement′.Post,
+  forward-reads.Asked,
+  forward-reads.Learnt,
+  stop-reads.Asked,
+  stop-reads.Learnt,
 ) (body-at t) body.Post body-Inv-loop body-μ-loop
-body-loop-less t c = search (statement-laws, needs)
+body-stop-requires t c κs = search (statement-laws, needs)
 
--- src/statements.rt:302:5
-body-loop-again : (t : ℕ) → body-lts.Need-loop-again (
-  wrapping-add-u64-reads.Asked,
-  wrapping-add-u64-reads.Learnt,
-  statement-below t,
-  statement′.Post,
-) (body-at t) body.Post body-Inv-loop body-μ-loop
-body-loop-again t c = (search (c .before .before .before .before .before .before .before .before .l .given, c .before .before .before .before .before .before .before .before .before .before .before .before .before .before .before .loop .inv .0, needs), search (c .before .before .before .before .before .before .a .given, c .before .before .before .before .before .before .before .before .before .before .before .before .before .before .before .loop .inv .1, needs), search (c .before .before .before .before .m .given, c .before .before .before .before .before .before .before .before .before .before .before .before .before .before .before .loop .inv .2, needs), body-next _ _ _ _ _ _ _ _ _ _ (c .before .before .before .before .before .before .before .before .before .before .before .before .before .before .before .loop .inv .3) (c .before .before .before .before .before .before .before .before .before .before .before .before .before .before .loop-test .taken) _ (c .before .before .before .before .before .before .before .before .before .before .before .before .before .wrapping-add-u64 .ensures) _ _ _ _ (c .before .before .before .before .before .before .before .before .before .statement .ensures) _ _ (search needs))
-
--- src/statements.rt:284:1
+-- src/statements.rt:322:21
 body-same-length-4 : (t : ℕ) → body-lts.Need-same-length-4 (
   wrapping-add-u64-reads.Asked,
   wrapping-add-u64-reads.Learnt,
   statement-below t,
   statement′.Post,
+  forward-reads.Asked,
+  forward-reads.Learnt,
+  stop-reads.Asked,
+  stop-reads.Learnt,
 ) (body-at t) body.Post body-Inv-loop body-μ-loop
-body-same-length-4 t c = search (statement-laws, needs)
+body-same-length-4 t c = search (c .before .before .before .before .before .before .before .before .before .before .before .l .given, c .before .before .before .before .before .before .before .before .before .before .before .before .before .before .before .before .before .before .loop .inv .0, needs)
 
--- src/statements.rt:284:1
+-- src/statements.rt:322:21
 body-same-length-5 : (t : ℕ) → body-lts.Need-same-length-5 (
   wrapping-add-u64-reads.Asked,
   wrapping-add-u64-reads.Learnt,
   statement-below t,
   statement′.Post,
+  forward-reads.Asked,
+  forward-reads.Learnt,
+  stop-reads.Asked,
+  stop-reads.Learnt,
 ) (body-at t) body.Post body-Inv-loop body-μ-loop
-body-same-length-5 t c = search (statement-laws, needs)
+body-same-length-5 t c = search (c .before .before .before .before .before .before .before .before .before .a .given, c .before .before .before .before .before .before .before .before .before .before .before .before .before .before .before .before .before .before .loop .inv .1, needs)
 
--- src/statements.rt:284:1
+-- src/statements.rt:322:21
 body-same-length-6 : (t : ℕ) → body-lts.Need-same-length-6 (
   wrapping-add-u64-reads.Asked,
   wrapping-add-u64-reads.Learnt,
   statement-below t,
   statement′.Post,
+  forward-reads.Asked,
+  forward-reads.Learnt,
+  stop-reads.Asked,
+  stop-reads.Learnt,
 ) (body-at t) body.Post body-Inv-loop body-μ-loop
-body-same-length-6 t c = search (statement-laws, needs)
+body-same-length-6 t c = search (c .before .before .before .before .before .before .before .m .given, c .before .before .before .before .before .before .before .before .before .before .before .before .before .before .before .before .before .before .loop .inv .2, needs)
 
--- src/statements.rt:284:1
+-- src/statements.rt:322:21
 body-returns-2 : (t : ℕ) → body-lts.Need-returns-2 (
   wrapping-add-u64-reads.Asked,
   wrapping-add-u64-reads.Learnt,
   statement-below t,
   statement′.Post,
+  forward-reads.Asked,
+  forward-reads.Learnt,
+  stop-reads.Asked,
+  stop-reads.Learnt,
 ) (body-at t) body.Post body-Inv-loop body-μ-loop
-body-returns-2 t c = search (statement-laws, needs)
+body-returns-2 t c = body-cut _ _ _ _ _ _ _ _ _ _ _ (c .before .before .before .before .before .before .before .before .before .before .before .before .before .before .before .before .before .before .loop .inv .3) (c .before .before .before .before .before .before .before .before .before .before .before .before .before .before .before .before .before .loop-test .taken) _ (c .before .before .before .before .before .before .before .before .before .before .before .before .before .before .before .before .wrapping-add-u64 .ensures) _ _ _ _ (c .before .before .before .before .before .before .before .before .before .before .before .before .statement .ensures) (c .before .before .before .before .next .given .0 .0) (c .before .before .before .before .next .given .0 .1 .0) (search needs) _ (c .before .before .forward .ensures) _ (c .before .if1 .taken) (c .stop .ensures)
 
--- src/statements.rt:242:9
+-- src/statements.rt:326:17
+body-add-i : (t : ℕ) → body-lts.Need-add-i (
+  wrapping-add-u64-reads.Asked,
+  wrapping-add-u64-reads.Learnt,
+  statement-below t,
+  statement′.Post,
+  forward-reads.Asked,
+  forward-reads.Learnt,
+  stop-reads.Asked,
+  stop-reads.Learnt,
+) (body-at t) body.Post body-Inv-loop body-μ-loop
+body-add-i t c = omega (arith, c .before .before .before .before .before .before .before .before .before .before .before .before .before .before .before .before .loop-test .taken, c .before .before .before .before .before .before .before .before .before .before .before .before .before .before .before .before .before .before .before .before .before .before .before .fits)
+
+-- src/statements.rt:310:5
+body-loop-less : (t : ℕ) → body-lts.Need-loop-less (
+  wrapping-add-u64-reads.Asked,
+  wrapping-add-u64-reads.Learnt,
+  statement-below t,
+  statement′.Post,
+  forward-reads.Asked,
+  forward-reads.Learnt,
+  stop-reads.Asked,
+  stop-reads.Learnt,
+) (body-at t) body.Post body-Inv-loop body-μ-loop
+body-loop-less t c = bytes-fall _ _ _ _ (c .before .forward .ensures) (c .if1 .left)
+
+-- src/statements.rt:310:5
+body-loop-again : (t : ℕ) → body-lts.Need-loop-again (
+  wrapping-add-u64-reads.Asked,
+  wrapping-add-u64-reads.Learnt,
+  statement-below t,
+  statement′.Post,
+  forward-reads.Asked,
+  forward-reads.Learnt,
+  stop-reads.Asked,
+  stop-reads.Learnt,
+) (body-at t) body.Post body-Inv-loop body-μ-loop
+body-loop-again t c = (search (c .before .before .before .before .before .before .before .before .before .before .l .given, c .before .before .before .before .before .before .before .before .before .before .before .before .before .before .before .before .before .loop .inv .0, needs), search (c .before .before .before .before .before .before .before .before .a .given, c .before .before .before .before .before .before .before .before .before .before .before .before .before .before .before .before .before .loop .inv .1, needs), search (c .before .before .before .before .before .before .m .given, c .before .before .before .before .before .before .before .before .before .before .before .before .before .before .before .before .before .loop .inv .2, needs), body-next _ _ _ _ _ _ _ _ _ _ _ (c .before .before .before .before .before .before .before .before .before .before .before .before .before .before .before .before .before .loop .inv .3) (c .before .before .before .before .before .before .before .before .before .before .before .before .before .before .before .before .loop-test .taken) _ (c .before .before .before .before .before .before .before .before .before .before .before .before .before .before .before .wrapping-add-u64 .ensures) _ _ _ _ (c .before .before .before .before .before .before .before .before .before .before .before .statement .ensures) _ _ (search needs) _ (c .before .forward .ensures) (c .if1 .left))
+
+-- src/statements.rt:291:1
+body-same-length-7 : (t : ℕ) → body-lts.Need-same-length-7 (
+  wrapping-add-u64-reads.Asked,
+  wrapping-add-u64-reads.Learnt,
+  statement-below t,
+  statement′.Post,
+  forward-reads.Asked,
+  forward-reads.Learnt,
+  stop-reads.Asked,
+  stop-reads.Learnt,
+) (body-at t) body.Post body-Inv-loop body-μ-loop
+body-same-length-7 t c = search (statement-laws, needs)
+
+-- src/statements.rt:291:1
+body-same-length-8 : (t : ℕ) → body-lts.Need-same-length-8 (
+  wrapping-add-u64-reads.Asked,
+  wrapping-add-u64-reads.Learnt,
+  statement-below t,
+  statement′.Post,
+  forward-reads.Asked,
+  forward-reads.Learnt,
+  stop-reads.Asked,
+  stop-reads.Learnt,
+) (body-at t) body.Post body-Inv-loop body-μ-loop
+body-same-length-8 t c = search (statement-laws, needs)
+
+-- src/statements.rt:291:1
+body-same-length-9 : (t : ℕ) → body-lts.Need-same-length-9 (
+  wrapping-add-u64-reads.Asked,
+  wrapping-add-u64-reads.Learnt,
+  statement-below t,
+  statement′.Post,
+  forward-reads.Asked,
+  forward-reads.Learnt,
+  stop-reads.Asked,
+  stop-reads.Learnt,
+) (body-at t) body.Post body-Inv-loop body-μ-loop
+body-same-length-9 t c = search (statement-laws, needs)
+
+-- src/statements.rt:291:1
+body-returns-3 : (t : ℕ) → body-lts.Need-returns-3 (
+  wrapping-add-u64-reads.Asked,
+  wrapping-add-u64-reads.Learnt,
+  statement-below t,
+  statement′.Post,
+  forward-reads.Asked,
+  forward-reads.Learnt,
+  stop-reads.Asked,
+  stop-reads.Learnt,
+) (body-at t) body.Post body-Inv-loop body-μ-loop
+body-returns-3 t c = search (statement-laws, needs)
+
+-- src/statements.rt:241:9
 call-statement-byte-requires : (t : ℕ) → call-statement-lts.Need-byte-requires (
   byte-reads.Asked,
   byte-reads.Learnt,
@@ -273,7 +416,7 @@ call-statement-byte-requires : (t : ℕ) → call-statement-lts.Need-byte-requir
 ) (call-statement-at t) call-statement.Post
 call-statement-byte-requires t c κs = search (statement-laws, needs)
 
--- src/statements.rt:243:29
+-- src/statements.rt:242:29
 call-statement-u16-in-requires : (t : ℕ) → call-statement-lts.Need-u16-in-requires (
   byte-reads.Asked,
   byte-reads.Learnt,
@@ -288,7 +431,7 @@ call-statement-u16-in-requires : (t : ℕ) → call-statement-lts.Need-u16-in-re
 ) (call-statement-at t) call-statement.Post
 call-statement-u16-in-requires t c κs = search (statement-laws, needs)
 
--- src/statements.rt:243:9
+-- src/statements.rt:242:9
 call-statement-called-of-requires : (t : ℕ) → call-statement-lts.Need-called-of-requires (
   byte-reads.Asked,
   byte-reads.Learnt,
@@ -303,7 +446,7 @@ call-statement-called-of-requires : (t : ℕ) → call-statement-lts.Need-called
 ) (call-statement-at t) call-statement.Post
 call-statement-called-of-requires t c κs = search (statement-laws, needs)
 
--- src/statements.rt:245:9
+-- src/statements.rt:244:9
 call-statement-macro-statement-requires :
     (t : ℕ) → call-statement-lts.Need-macro-statement-requires (
       byte-reads.Asked,
@@ -319,7 +462,7 @@ call-statement-macro-statement-requires :
     ) (call-statement-at t) call-statement.Post
 call-statement-macro-statement-requires t c κs = search (statement-laws, needs)
 
--- src/statements.rt:245:9
+-- src/statements.rt:244:9
 call-statement-same-length : (t : ℕ) → call-statement-lts.Need-same-length (
   byte-reads.Asked,
   byte-reads.Learnt,
@@ -334,7 +477,7 @@ call-statement-same-length : (t : ℕ) → call-statement-lts.Need-same-length (
 ) (call-statement-at t) call-statement.Post
 call-statement-same-length t c = search (statement-laws, needs)
 
--- src/statements.rt:245:9
+-- src/statements.rt:244:9
 call-statement-same-length-2 : (t : ℕ) → call-statement-lts.Need-same-length-2 (
   byte-reads.Asked,
   byte-reads.Learnt,
@@ -349,7 +492,7 @@ call-statement-same-length-2 : (t : ℕ) → call-statement-lts.Need-same-length
 ) (call-statement-at t) call-statement.Post
 call-statement-same-length-2 t c = search (statement-laws, needs)
 
--- src/statements.rt:245:9
+-- src/statements.rt:244:9
 call-statement-same-length-3 : (t : ℕ) → call-statement-lts.Need-same-length-3 (
   byte-reads.Asked,
   byte-reads.Learnt,
@@ -364,7 +507,7 @@ call-statement-same-length-3 : (t : ℕ) → call-statement-lts.Need-same-length
 ) (call-statement-at t) call-statement.Post
 call-statement-same-length-3 t c = search (statement-laws, needs)
 
--- src/statements.rt:245:9
+-- src/statements.rt:244:9
 call-statement-returns : (t : ℕ) → call-statement-lts.Need-returns (
   byte-reads.Asked,
   byte-reads.Learnt,
@@ -379,7 +522,7 @@ call-statement-returns : (t : ℕ) → call-statement-lts.Need-returns (
 ) (call-statement-at t) call-statement.Post
 call-statement-returns t c = search (statement-laws, needs)
 
--- src/statements.rt:247:5
+-- src/statements.rt:246:5
 call-statement-other-call-requires : (t : ℕ) → call-statement-lts.Need-other-call-requires (
   byte-reads.Asked,
   byte-reads.Learnt,
@@ -394,7 +537,7 @@ call-statement-other-call-requires : (t : ℕ) → call-statement-lts.Need-other
 ) (call-statement-at t) call-statement.Post
 call-statement-other-call-requires t c κs = search (statement-laws, needs)
 
--- src/statements.rt:228:1
+-- src/statements.rt:227:1
 call-statement-same-length-4 : (t : ℕ) → call-statement-lts.Need-same-length-4 (
   byte-reads.Asked,
   byte-reads.Learnt,
@@ -409,7 +552,7 @@ call-statement-same-length-4 : (t : ℕ) → call-statement-lts.Need-same-length
 ) (call-statement-at t) call-statement.Post
 call-statement-same-length-4 t c = search (statement-laws, needs)
 
--- src/statements.rt:228:1
+-- src/statements.rt:227:1
 call-statement-same-length-5 : (t : ℕ) → call-statement-lts.Need-same-length-5 (
   byte-reads.Asked,
   byte-reads.Learnt,
@@ -424,7 +567,7 @@ call-statement-same-length-5 : (t : ℕ) → call-statement-lts.Need-same-length
 ) (call-statement-at t) call-statement.Post
 call-statement-same-length-5 t c = search (statement-laws, needs)
 
--- src/statements.rt:228:1
+-- src/statements.rt:227:1
 call-statement-returns-2 : (t : ℕ) → call-statement-lts.Need-returns-2 (
   byte-reads.Asked,
   byte-reads.Learnt,
@@ -439,7 +582,7 @@ call-statement-returns-2 : (t : ℕ) → call-statement-lts.Need-returns-2 (
 ) (call-statement-at t) call-statement.Post
 call-statement-returns-2 t c = search (statement-laws, needs)
 
--- src/statements.rt:190:9
+-- src/statements.rt:189:9
 enter-stop-requires : (t : ℕ) → enter-lts.Need-stop-requires (
   stop-reads.Asked,
   stop-reads.Learnt,
@@ -466,7 +609,7 @@ enter-stop-requires : (t : ℕ) → enter-lts.Need-stop-requires (
 ) (enter-at t) enter.Post
 enter-stop-requires t c κs = search (statement-laws, needs)
 
--- src/statements.rt:190:9
+-- src/statements.rt:189:9
 enter-returns : (t : ℕ) → enter-lts.Need-returns (
   stop-reads.Asked,
   stop-reads.Learnt,
@@ -493,7 +636,7 @@ enter-returns : (t : ℕ) → enter-lts.Need-returns (
 ) (enter-at t) enter.Post
 enter-returns t c = search (statement-laws, needs)
 
--- src/statements.rt:192:9
+-- src/statements.rt:191:9
 enter-macro-at-requires : (t : ℕ) → enter-lts.Need-macro-at-requires (
   stop-reads.Asked,
   stop-reads.Learnt,
@@ -520,7 +663,7 @@ enter-macro-at-requires : (t : ℕ) → enter-lts.Need-macro-at-requires (
 ) (enter-at t) enter.Post
 enter-macro-at-requires t c κs = search (statement-laws, needs)
 
--- src/statements.rt:193:9
+-- src/statements.rt:192:9
 enter-wrapping-add-u64-requires : (t : ℕ) → enter-lts.Need-wrapping-add-u64-requires (
   stop-reads.Asked,
   stop-reads.Learnt,
@@ -547,7 +690,7 @@ enter-wrapping-add-u64-requires : (t : ℕ) → enter-lts.Need-wrapping-add-u64-
 ) (enter-at t) enter.Post
 enter-wrapping-add-u64-requires t c κs = search (statement-laws, needs)
 
--- src/statements.rt:194:9
+-- src/statements.rt:193:9
 enter-body-at-requires : (t : ℕ) → enter-lts.Need-body-at-requires (
   stop-reads.Asked,
   stop-reads.Learnt,
@@ -574,7 +717,7 @@ enter-body-at-requires : (t : ℕ) → enter-lts.Need-body-at-requires (
 ) (enter-at t) enter.Post
 enter-body-at-requires t c κs = search (statement-laws, needs)
 
--- src/statements.rt:195:9
+-- src/statements.rt:194:9
 enter-u16-in-requires : (t : ℕ) → enter-lts.Need-u16-in-requires (
   stop-reads.Asked,
   stop-reads.Learnt,
@@ -601,7 +744,7 @@ enter-u16-in-requires : (t : ℕ) → enter-lts.Need-u16-in-requires (
 ) (enter-at t) enter.Post
 enter-u16-in-requires t c κs = search (statement-laws, needs)
 
--- src/statements.rt:196:9
+-- src/statements.rt:195:9
 enter-macro-env-requires : (t : ℕ) → enter-lts.Need-macro-env-requires (
   stop-reads.Asked,
   stop-reads.Learnt,
@@ -628,7 +771,7 @@ enter-macro-env-requires : (t : ℕ) → enter-lts.Need-macro-env-requires (
 ) (enter-at t) enter.Post
 enter-macro-env-requires t c κs = search (statement-laws, needs)
 
--- src/statements.rt:197:9
+-- src/statements.rt:196:9
 enter-first-ordinal-requires : (t : ℕ) → enter-lts.Need-first-ordinal-requires (
   stop-reads.Asked,
   stop-reads.Learnt,
@@ -655,7 +798,7 @@ enter-first-ordinal-requires : (t : ℕ) → enter-lts.Need-first-ordinal-requir
 ) (enter-at t) enter.Post
 enter-first-ordinal-requires t c κs = search (statement-laws, needs)
 
--- src/statements.rt:198:17
+-- src/statements.rt:197:17
 enter-sub-below : (t : ℕ) → enter-lts.Need-sub-below (
   stop-reads.Asked,
   stop-reads.Learnt,
@@ -682,7 +825,7 @@ enter-sub-below : (t : ℕ) → enter-lts.Need-sub-below (
 ) (enter-at t) enter.Post
 enter-sub-below t c = search (statement-laws, needs)
 
--- src/statements.rt:199:9
+-- src/statements.rt:198:9
 enter-after-requires : (t : ℕ) → enter-lts.Need-after-requires (
   stop-reads.Asked,
   stop-reads.Learnt,
@@ -709,7 +852,7 @@ enter-after-requires : (t : ℕ) → enter-lts.Need-after-requires (
 ) (enter-at t) enter.Post
 enter-after-requires t c κs = search (statement-laws, needs)
 
--- src/statements.rt:200:9
+-- src/statements.rt:199:9
 enter-entered-requires : (t : ℕ) → enter-lts.Need-entered-requires (
   stop-reads.Asked,
   stop-reads.Learnt,
@@ -736,7 +879,7 @@ enter-entered-requires : (t : ℕ) → enter-lts.Need-entered-requires (
 ) (enter-at t) enter.Post
 enter-entered-requires t c κs = search (statement-laws, needs)
 
--- src/statements.rt:201:9
+-- src/statements.rt:200:9
 enter-body-requires : (t : ℕ) → enter-lts.Need-body-requires (
   stop-reads.Asked,
   stop-reads.Learnt,
@@ -763,7 +906,7 @@ enter-body-requires : (t : ℕ) → enter-lts.Need-body-requires (
 ) (enter-at t) enter.Post
 enter-body-requires t c κs = search (c .before .before .before .before .before .before .before .before .before .before .before .if1 .left, c .before .before .before .before .before .before .before .before .before .before .before .before .before .before .before .before .before .pre, needs)
 
--- src/statements.rt:202:5
+-- src/statements.rt:201:5
 enter-returned-requires : (t : ℕ) → enter-lts.Need-returned-requires (
   stop-reads.Asked,
   stop-reads.Learnt,
@@ -790,7 +933,7 @@ enter-returned-requires : (t : ℕ) → enter-lts.Need-returned-requires (
 ) (enter-at t) enter.Post
 enter-returned-requires t c κs = search (statement-laws, needs)
 
--- src/statements.rt:172:1
+-- src/statements.rt:171:1
 enter-same-length : (t : ℕ) → enter-lts.Need-same-length (
   stop-reads.Asked,
   stop-reads.Learnt,
@@ -817,7 +960,7 @@ enter-same-length : (t : ℕ) → enter-lts.Need-same-length (
 ) (enter-at t) enter.Post
 enter-same-length t c = search (statement-laws, needs)
 
--- src/statements.rt:172:1
+-- src/statements.rt:171:1
 enter-same-length-2 : (t : ℕ) → enter-lts.Need-same-length-2 (
   stop-reads.Asked,
   stop-reads.Learnt,
@@ -844,7 +987,7 @@ enter-same-length-2 : (t : ℕ) → enter-lts.Need-same-length-2 (
 ) (enter-at t) enter.Post
 enter-same-length-2 t c = search (statement-laws, needs)
 
--- src/statements.rt:172:1
+-- src/statements.rt:171:1
 enter-same-length-3 : (t : ℕ) → enter-lts.Need-same-length-3 (
   stop-reads.Asked,
   stop-reads.Learnt,
@@ -871,7 +1014,7 @@ enter-same-length-3 : (t : ℕ) → enter-lts.Need-same-length-3 (
 ) (enter-at t) enter.Post
 enter-same-length-3 t c = search (statement-laws, needs)
 
--- src/statements.rt:172:1
+-- src/statements.rt:171:1
 enter-returns-2 : (t : ℕ) → enter-lts.Need-returns-2 (
   stop-reads.Asked,
   stop-reads.Learnt,
@@ -898,7 +1041,7 @@ enter-returns-2 : (t : ℕ) → enter-lts.Need-returns-2 (
 ) (enter-at t) enter.Post
 enter-returns-2 t c = enter-body _ _ _ _ _ _ _ _ _ _ _ _ _ _ _ _ _ _ _ _ _ _ _ _ _ _ (c .before .before .before .before .before .before .before .before .before .before .before .before .before .before .before .before .before .before .before .if1 .left) (c .before .before .before .before .before .before .before .before .before .before .before .before .before .before .before .before .before .before .macro-at .ensures) (c .before .before .before .before .before .before .before .before .before .before .before .before .before .before .before .before .before .wrapping-add-u64 .ensures) (c .before .before .before .before .before .before .before .before .before .before .before .before .before .before .before .before .body-at .ensures) (c .before .before .before .before .before .before .before .before .before .before .before .before .before .before .before .u16-in .ensures) (c .before .before .before .before .before .before .before .before .before .before .before .before .before .before .macro-env .ensures) (c .before .before .before .before .before .before .before .before .before .before .before .before .before .first-ordinal .ensures) (c .before .before .before .before .before .before .before .before .before .before .before .before .after .ensures) (c .before .before .before .before .before .before .before .before .before .before .before .entered .ensures) (c .before .before .before .before .before .before .before .body .ensures) (c .returned .ensures)
 
--- src/statements.rt:222:37
+-- src/statements.rt:221:37
 macro-statement-slice-aggregate-macro-args :
     (t : ℕ) → macro-statement-lts.Need-slice-aggregate-macro-args (
       macro-args-reads.Asked,
@@ -910,7 +1053,7 @@ macro-statement-slice-aggregate-macro-args :
     ) (macro-statement-at t) macro-statement.Post
 macro-statement-slice-aggregate-macro-args t c = search (statement-laws, needs)
 
--- src/statements.rt:222:11
+-- src/statements.rt:221:11
 macro-statement-macro-args-requires : (t : ℕ) → macro-statement-lts.Need-macro-args-requires (
   macro-args-reads.Asked,
   macro-args-reads.Learnt,
@@ -921,7 +1064,7 @@ macro-statement-macro-args-requires : (t : ℕ) → macro-statement-lts.Need-mac
 ) (macro-statement-at t) macro-statement.Post
 macro-statement-macro-args-requires t c κs = search (statement-laws, needs)
 
--- src/statements.rt:223:18
+-- src/statements.rt:222:18
 macro-statement-enum-known-k : (t : ℕ) → macro-statement-lts.Need-enum-known-k (
   macro-args-reads.Asked,
   macro-args-reads.Learnt,
@@ -932,7 +1075,7 @@ macro-statement-enum-known-k : (t : ℕ) → macro-statement-lts.Need-enum-known
 ) (macro-statement-at t) macro-statement.Post
 macro-statement-enum-known-k t c = search (statement-laws, needs)
 
--- src/statements.rt:223:24
+-- src/statements.rt:222:24
 macro-statement-stop-requires : (t : ℕ) → macro-statement-lts.Need-stop-requires (
   macro-args-reads.Asked,
   macro-args-reads.Learnt,
@@ -943,7 +1086,7 @@ macro-statement-stop-requires : (t : ℕ) → macro-statement-lts.Need-stop-requ
 ) (macro-statement-at t) macro-statement.Post
 macro-statement-stop-requires t c κs = search (statement-laws, needs)
 
--- src/statements.rt:224:22
+-- src/statements.rt:223:22
 macro-statement-enum-known-next : (t : ℕ) → macro-statement-lts.Need-enum-known-next (
   macro-args-reads.Asked,
   macro-args-reads.Learnt,
@@ -954,7 +1097,7 @@ macro-statement-enum-known-next : (t : ℕ) → macro-statement-lts.Need-enum-kn
 ) (macro-statement-at t) macro-statement.Post
 macro-statement-enum-known-next t c = search (statement-laws, needs)
 
--- src/statements.rt:224:70
+-- src/statements.rt:223:70
 macro-statement-slice-aggregate-enter : (t : ℕ) → macro-statement-lts.Need-slice-aggregate-enter (
   macro-args-reads.Asked,
   macro-args-reads.Learnt,
@@ -965,7 +1108,7 @@ macro-statement-slice-aggregate-enter : (t : ℕ) → macro-statement-lts.Need-s
 ) (macro-statement-at t) macro-statement.Post
 macro-statement-slice-aggregate-enter t c = search (statement-laws, needs)
 
--- src/statements.rt:224:36
+-- src/statements.rt:223:36
 macro-statement-enter-requires : (t : ℕ) → macro-statement-lts.Need-enter-requires (
   macro-args-reads.Asked,
   macro-args-reads.Learnt,
@@ -976,7 +1119,7 @@ macro-statement-enter-requires : (t : ℕ) → macro-statement-lts.Need-enter-re
 ) (macro-statement-at t) macro-statement.Post
 macro-statement-enter-requires t c κs = search (statement-laws, needs)
 
--- src/statements.rt:205:1
+-- src/statements.rt:204:1
 macro-statement-same-length : (t : ℕ) → macro-statement-lts.Need-same-length (
   macro-args-reads.Asked,
   macro-args-reads.Learnt,
@@ -987,7 +1130,7 @@ macro-statement-same-length : (t : ℕ) → macro-statement-lts.Need-same-length
 ) (macro-statement-at t) macro-statement.Post
 macro-statement-same-length t c = search (statement-laws, needs)
 
--- src/statements.rt:205:1
+-- src/statements.rt:204:1
 macro-statement-same-length-2 : (t : ℕ) → macro-statement-lts.Need-same-length-2 (
   macro-args-reads.Asked,
   macro-args-reads.Learnt,
@@ -998,7 +1141,7 @@ macro-statement-same-length-2 : (t : ℕ) → macro-statement-lts.Need-same-leng
 ) (macro-statement-at t) macro-statement.Post
 macro-statement-same-length-2 t c = search (statement-laws, needs)
 
--- src/statements.rt:205:1
+-- src/statements.rt:204:1
 macro-statement-returns : (t : ℕ) → macro-statement-lts.Need-returns (
   macro-args-reads.Asked,
   macro-args-reads.Learnt,
@@ -1009,7 +1152,7 @@ macro-statement-returns : (t : ℕ) → macro-statement-lts.Need-returns (
 ) (macro-statement-at t) macro-statement.Post
 macro-statement-returns t c = search (statement-laws, needs)
 
--- src/statements.rt:205:1
+-- src/statements.rt:204:1
 macro-statement-same-length-3 : (t : ℕ) → macro-statement-lts.Need-same-length-3 (
   macro-args-reads.Asked,
   macro-args-reads.Learnt,
@@ -1020,7 +1163,7 @@ macro-statement-same-length-3 : (t : ℕ) → macro-statement-lts.Need-same-leng
 ) (macro-statement-at t) macro-statement.Post
 macro-statement-same-length-3 t c = search (statement-laws, needs)
 
--- src/statements.rt:205:1
+-- src/statements.rt:204:1
 macro-statement-same-length-4 : (t : ℕ) → macro-statement-lts.Need-same-length-4 (
   macro-args-reads.Asked,
   macro-args-reads.Learnt,
@@ -1031,7 +1174,7 @@ macro-statement-same-length-4 : (t : ℕ) → macro-statement-lts.Need-same-leng
 ) (macro-statement-at t) macro-statement.Post
 macro-statement-same-length-4 t c = search (statement-laws, needs)
 
--- src/statements.rt:205:1
+-- src/statements.rt:204:1
 macro-statement-same-length-5 : (t : ℕ) → macro-statement-lts.Need-same-length-5 (
   macro-args-reads.Asked,
   macro-args-reads.Learnt,
@@ -1042,7 +1185,7 @@ macro-statement-same-length-5 : (t : ℕ) → macro-statement-lts.Need-same-leng
 ) (macro-statement-at t) macro-statement.Post
 macro-statement-same-length-5 t c = search (statement-laws, needs)
 
--- src/statements.rt:205:1
+-- src/statements.rt:204:1
 macro-statement-returns-2 : (t : ℕ) → macro-statement-lts.Need-returns-2 (
   macro-args-reads.Asked,
   macro-args-reads.Learnt,
@@ -1053,7 +1196,7 @@ macro-statement-returns-2 : (t : ℕ) → macro-statement-lts.Need-returns-2 (
 ) (macro-statement-at t) macro-statement.Post
 macro-statement-returns-2 t c = search (statement-laws, needs)
 
--- src/statements.rt:265:11
+-- src/statements.rt:264:11
 statement-begin-requires : (t : ℕ) → statement-lts.Need-begin-requires (
   begin-reads.Asked,
   begin-reads.Learnt,
@@ -1066,7 +1209,7 @@ statement-begin-requires : (t : ℕ) → statement-lts.Need-begin-requires (
 ) (statement-at t) statement′.Post
 statement-begin-requires t c κs = search (statement-laws, needs)
 
--- src/statements.rt:267:13
+-- src/statements.rt:266:13
 statement-enum-known-refusal : (t : ℕ) → statement-lts.Need-enum-known-refusal (
   begin-reads.Asked,
   begin-reads.Learnt,
@@ -1079,7 +1222,7 @@ statement-enum-known-refusal : (t : ℕ) → statement-lts.Need-enum-known-refus
 ) (statement-at t) statement′.Post
 statement-enum-known-refusal t c = search (statement-laws, needs)
 
--- src/statements.rt:273:34
+-- src/statements.rt:272:34
 statement-enum-known-b : (t : ℕ) → statement-lts.Need-enum-known-b (
   begin-reads.Asked,
   begin-reads.Learnt,
@@ -1092,7 +1235,7 @@ statement-enum-known-b : (t : ℕ) → statement-lts.Need-enum-known-b (
 ) (statement-at t) statement′.Post
 statement-enum-known-b t c = search (statement-laws, needs)
 
--- src/statements.rt:274:17
+-- src/statements.rt:273:17
 statement-byte-requires : (t : ℕ) → statement-lts.Need-byte-requires (
   begin-reads.Asked,
   begin-reads.Learnt,
@@ -1105,7 +1248,7 @@ statement-byte-requires : (t : ℕ) → statement-lts.Need-byte-requires (
 ) (statement-at t) statement′.Post
 statement-byte-requires t c κs = search (statement-laws, needs)
 
--- src/statements.rt:276:17
+-- src/statements.rt:275:17
 statement-call-statement-requires : (t : ℕ) → statement-lts.Need-call-statement-requires (
   begin-reads.Asked,
   begin-reads.Learnt,
@@ -1118,7 +1261,7 @@ statement-call-statement-requires : (t : ℕ) → statement-lts.Need-call-statem
 ) (statement-at t) statement′.Post
 statement-call-statement-requires t c κs = search (statement-laws, needs)
 
--- src/statements.rt:276:17
+-- src/statements.rt:275:17
 statement-same-length : (t : ℕ) → statement-lts.Need-same-length (
   begin-reads.Asked,
   begin-reads.Learnt,
@@ -1131,7 +1274,7 @@ statement-same-length : (t : ℕ) → statement-lts.Need-same-length (
 ) (statement-at t) statement′.Post
 statement-same-length t c = search (statement-laws, needs)
 
--- src/statements.rt:276:17
+-- src/statements.rt:275:17
 statement-same-length-2 : (t : ℕ) → statement-lts.Need-same-length-2 (
   begin-reads.Asked,
   begin-reads.Learnt,
@@ -1144,7 +1287,7 @@ statement-same-length-2 : (t : ℕ) → statement-lts.Need-same-length-2 (
 ) (statement-at t) statement′.Post
 statement-same-length-2 t c = search (statement-laws, needs)
 
--- src/statements.rt:276:17
+-- src/statements.rt:275:17
 statement-same-length-3 : (t : ℕ) → statement-lts.Need-same-length-3 (
   begin-reads.Asked,
   begin-reads.Learnt,
@@ -1157,7 +1300,7 @@ statement-same-length-3 : (t : ℕ) → statement-lts.Need-same-length-3 (
 ) (statement-at t) statement′.Post
 statement-same-length-3 t c = search (statement-laws, needs)
 
--- src/statements.rt:276:17
+-- src/statements.rt:275:17
 statement-returns : (t : ℕ) → statement-lts.Need-returns (
   begin-reads.Asked,
   begin-reads.Learnt,
@@ -1170,7 +1313,7 @@ statement-returns : (t : ℕ) → statement-lts.Need-returns (
 ) (statement-at t) statement′.Post
 statement-returns t c = search (statement-laws, needs)
 
--- src/statements.rt:278:13
+-- src/statements.rt:277:13
 statement-other-statement-requires : (t : ℕ) → statement-lts.Need-other-statement-requires (
   begin-reads.Asked,
   begin-reads.Learnt,
@@ -1183,7 +1326,7 @@ statement-other-statement-requires : (t : ℕ) → statement-lts.Need-other-stat
 ) (statement-at t) statement′.Post
 statement-other-statement-requires t c κs = search (statement-laws, needs)
 
--- src/statements.rt:250:1
+-- src/statements.rt:249:1
 statement-returns-2 : (t : ℕ) → statement-lts.Need-returns-2 (
   begin-reads.Asked,
   begin-reads.Learnt,
@@ -1196,7 +1339,7 @@ statement-returns-2 : (t : ℕ) → statement-lts.Need-returns-2 (
 ) (statement-at t) statement′.Post
 statement-returns-2 t c = search (statement-laws, needs)
 
--- src/statements.rt:250:1
+-- src/statements.rt:249:1
 statement-same-length-4 : (t : ℕ) → statement-lts.Need-same-length-4 (
   begin-reads.Asked,
   begin-reads.Learnt,
@@ -1209,7 +1352,7 @@ statement-same-length-4 : (t : ℕ) → statement-lts.Need-same-length-4 (
 ) (statement-at t) statement′.Post
 statement-same-length-4 t c = search (statement-laws, needs)
 
--- src/statements.rt:250:1
+-- src/statements.rt:249:1
 statement-same-length-5 : (t : ℕ) → statement-lts.Need-same-length-5 (
   begin-reads.Asked,
   begin-reads.Learnt,
@@ -1222,7 +1365,7 @@ statement-same-length-5 : (t : ℕ) → statement-lts.Need-same-length-5 (
 ) (statement-at t) statement′.Post
 statement-same-length-5 t c = search (statement-laws, needs)
 
--- src/statements.rt:250:1
+-- src/statements.rt:249:1
 statement-same-length-6 : (t : ℕ) → statement-lts.Need-same-length-6 (
   begin-reads.Asked,
   begin-reads.Learnt,
@@ -1235,7 +1378,7 @@ statement-same-length-6 : (t : ℕ) → statement-lts.Need-same-length-6 (
 ) (statement-at t) statement′.Post
 statement-same-length-6 t c = search (statement-laws, needs)
 
--- src/statements.rt:250:1
+-- src/statements.rt:249:1
 statement-returns-3 : (t : ℕ) → statement-lts.Need-returns-3 (
   begin-reads.Asked,
   begin-reads.Learnt,
@@ -1255,6 +1398,10 @@ pub +body+call-statement+enter+macro-statement+statement-spec : {M : Type 1} →
       wrapping-add-u64-reads.Learnt,
       statement-below t,
       statement′.Post,
+      forward-reads.Asked,
+      forward-reads.Learnt,
+      stop-reads.Asked,
+      stop-reads.Learnt,
     )
     (body-at t)
     body.Post
@@ -1269,13 +1416,19 @@ pub +body+call-statement+enter+macro-statement+statement-spec : {M : Type 1} →
     (body-same-length-3 t)
     (body-returns t)
     (body-enum-known-next t)
-    (body-add-i t)
-    (body-loop-less t)
-    (body-loop-again t)
+    (body-forward-requires t)
+    (body-stop-requires t)
     (body-same-length-4 t)
     (body-same-length-5 t)
     (body-same-length-6 t)
-    (body-returns-2 t))
+    (body-returns-2 t)
+    (body-add-i t)
+    (body-loop-less t)
+    (body-loop-again t)
+    (body-same-length-7 t)
+    (body-same-length-8 t)
+    (body-same-length-9 t)
+    (body-returns-3 t))
     (λ t. call-statement-lts.spec (
       byte-reads.Asked,
       byte-reads.Learnt,
