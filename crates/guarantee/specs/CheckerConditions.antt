@@ -7,33 +7,20 @@ use mathlib.Core.List.{List, [], _∷_, _++_}
 use mathlib.Core.Option.{Option, none, some}
 use native.Mathlib.Omega.{arith}
 use lib.Dec.{eqb, leb}
-use lib.ListN.{length, getElem?, replicate, length-append, take, drop}
+use lib.ListN.{length, getElem?, replicate, take, drop}
 use Rattle.definition.specs.Base.{if_then_else_, orElse, andThen, isSome, any, all, first}
-use Rattle.definition.specs.Operations.{Operation, operationNumber, isOp}
+use Rattle.definition.specs.Operations.{Operation, operationNumber}
 use Rattle.definition.specs.Value.{Kind, Value, ActionKind, SemanticAction, operationOf}
-use Rattle.definition.specs.Sizes.{Operand, Step, equal, sized, unsized, ruleOf, stepsOf, at, isSize}
+use Rattle.definition.specs.Sizes.{Operand, equal, sized, ruleOf, stepsOf, at}
 use Rattle.definition.specs.End.{isBuild, builds}
-use Rattle.definition.specs.ActionList.{filled, actionWords, listWords, placesLabel}
-use Rattle.definition.specs.Checker.{shapeOf, sameCount, countsFit, optionFits, numberFits, valueFits, plainBase, baseFits, layoutFits, isSized, sizeAt, hasSize, allHaveSize, sizeNamed, stepHolds, operationHolds, sizesHold, places, labelsOnce, allBuilt, listHolds, operationNumbered, actionFrom, actionsFrom, check}
-use Rattle.guarantee.specs.Tests.{clash, never, eq-of, eq-same, same, differ, differs, le-of, lt-of, of-lt, and-true, both, if-true, all-at, all-from, first-from, then-some, or-true, list-same, any-from, append-none, first-none, none-some, some-same}
-use Rattle.guarantee.specs.Words.{fits-parts, parts-fit, Shaped, Laid, laid, laid-fits, filled-append, action-length, numbered, subpiece-shapeless, words-pass}
+use Rattle.definition.specs.ActionList.{filled, listWords, placesLabel}
+use Rattle.definition.specs.Checker.{shapeOf, sameCount, countsFit, optionFits, numberFits, valueFits, plainBase, baseFits, layoutFits, isSized, sizeAt, hasSize, allHaveSize, sizeNamed, stepHolds, operationHolds, sizesHold, places, labelsOnce, allBuilt, listHolds, actionFrom, actionsFrom, check}
+use Rattle.guarantee.specs.Tests.{clash, never, eq-of, eq-same, same, differs, le-of, lt-of, and-true, both, if-true, all-at, then-some, or-true, list-same, any-from, first-none, none-some, some-same}
+use Rattle.guarantee.specs.Words.{fits-parts, Shaped, Laid, laid, subpiece-shapeless}
 use Rattle.guarantee.specs.Conditions as conditions
 use Rattle.guarantee.specs.Conditions.{Among, IsOperand, input, output, NumberWithin, ValueWithin, ActionRight, Right}
 use Rattle.guarantee.specs.Rules.{is-size}
-
--- elements and tests
-
-any-at : {A : Type 0} (p : A → Bool) (xs : List A) (i : ℕ) (x : A) → getElem? xs i ≡ some x → p x ≡ true → any p xs ≡ true
-unfolding any if_then_else_
-any-at p [] i x e h = none-some {x = none} refl e
-any-at {A} p (y ∷ xs) zero x e h = rw (subst (λ (z : A). p z ≡ true) (sym (some-same e)) h)
-any-at p (y ∷ xs) (suc i) x e h = go (p y) (any-at p xs i x e h)
-  where
-    go : (b : Bool) → any p xs ≡ true → (if b then true else any p xs) ≡ true
-    go true d = refl
-    go false d = d
-
--- values
+use Rattle.guarantee.specs.RightAccepted.{any-at, Once, list-length, padded, right-accepted}
 
 number-within : (t sub : ℕ) (k : Kind) (n : ℕ) → numberFits t sub k n ≡ true → NumberWithin t sub k n
 unfolding numberFits NumberWithin
@@ -46,26 +33,10 @@ number-within t sub Kind.SubtableRef n h = lt-of n sub h
 number-within t sub Kind.PcodeTmp n h = lt-of n t h
 number-within t sub Kind.Constant n h = tt
 
-within-number : (t sub : ℕ) (k : Kind) (n : ℕ) → NumberWithin t sub k n → numberFits t sub k n ≡ true
-unfolding numberFits NumberWithin
-within-number t sub Kind.InstStart n h = eq-same n 0 h
-within-number t sub Kind.InstNext n h = eq-same n 0 h
-within-number t sub Kind.Register n h = refl
-within-number t sub Kind.Field n h = refl
-within-number t sub Kind.Subtable n h = of-lt n sub h
-within-number t sub Kind.SubtableRef n h = of-lt n sub h
-within-number t sub Kind.PcodeTmp n h = of-lt n t h
-within-number t sub Kind.Constant n h = refl
-
 size-within : (z : Option ℕ) (n : ℕ) → orElse 0 z < 65535 → z ≡ some n → n < 65535
 unfolding orElse
 size-within none n h e = none-some {x = none} refl e
 size-within (some m) n h e = rw (sym (some-same e)) h
-
-within-size : (z : Option ℕ) → ((n : ℕ) → z ≡ some n → n < 65535) → orElse 0 z < 65535
-unfolding orElse
-within-size none h = omega arith
-within-size (some m) h = h m refl
 
 value-within : (t sub : ℕ) (v : Value) → valueFits t sub v ≡ true → ValueWithin t sub v
 value-within t sub v h = let f = fits-parts {t = t} {sub = sub} {v = v} h in
@@ -75,24 +46,10 @@ value-within t sub v h = let f = fits-parts {t = t} {sub = sub} {v = v} h in
       size = λ z e. size-within (v .size) z (f .size) e;
     }
 
-within-value : (t sub : ℕ) (v : Value) → ValueWithin t sub v → valueFits t sub v ≡ true
-within-value t sub v f = parts-fit (record {
-  number = within-number t sub (v .kind) (v .number) (f .number);
-  offset = f .offset;
-  size = within-size (v .size) (f .size);
-})
-
 option-at : {A : Type 0} (p : A → Bool) (o : Option A) (v : A) → optionFits p o ≡ true → o ≡ some v → p v ≡ true
 unfolding optionFits
 option-at p none v h e = none-some {x = none} refl e
 option-at {A} p (some u) v h e = subst (λ (x : A). p x ≡ true) (some-same e) h
-
-option-from : {A : Type 0} (p : A → Bool) (o : Option A) → ((v : A) → o ≡ some v → p v ≡ true) → optionFits p o ≡ true
-unfolding optionFits
-option-from p none h = refl
-option-from p (some u) h = h u refl
-
--- shapes
 
 same-counts : (n m : ℕ) (x y : Bool) → sameCount (n, x) (m, y) ≡ true → _≡_ {A = ℕ × Bool} (m, y) (n, x)
 unfolding sameCount if_then_else_
@@ -100,11 +57,6 @@ same-counts n m true true h = let e = eq-of n m (and-true _ _ h .0) in rw e
 same-counts n m true false h = never (and-true (eqb n m) _ h .1)
 same-counts n m false true h = never (and-true (eqb n m) _ h .1)
 same-counts n m false false h = let e = eq-of n m (and-true _ _ h .0) in rw e
-
-counts-same : (n : ℕ) (x : Bool) → sameCount (n, x) (n, x) ≡ true
-unfolding sameCount if_then_else_
-counts-same n true = both (same n) refl
-counts-same n false = both (same n) refl
 
 plain-base : (v : Value) → plainBase v ≡ true → (v .size ≡ none) × (v .offset ≡ 0)
 unfolding plainBase isSome
@@ -114,43 +66,19 @@ plain-base v h = let k = and-true _ _ h in (go (v .size) (k .0), eq-of (v .offse
     go none e = refl
     go (some n) e = never e
 
-base-plain : (v : Value) → (v .size ≡ none) × (v .offset ≡ 0) → plainBase v ≡ true
-unfolding plainBase isSome
-base-plain v h = both (ap (λ (z : Option ℕ). not (isSome z)) (h .0)) (eq-same (v .offset) 0 (h .1))
-
-bases-fit : (k : ActionKind) (vs : List Value) → (k ≡ ActionKind.AddressOf → all plainBase vs ≡ true) → baseFits k vs ≡ true
-unfolding baseFits
-bases-fit (ActionKind.Op op) vs h = refl
-bases-fit ActionKind.AddressOf vs h = h refl
-bases-fit ActionKind.LoadRegister vs h = refl
-bases-fit ActionKind.StoreRegister vs h = refl
-bases-fit ActionKind.DelaySlot vs h = refl
-bases-fit ActionKind.Build vs h = refl
-
 fit-bases : (k : ActionKind) (vs : List Value) → baseFits k vs ≡ true → k ≡ ActionKind.AddressOf → all plainBase vs ≡ true
 unfolding baseFits
 fit-bases k vs h e = rw e at h
-
--- sizes
 
 size-there : (z : Option ℕ) → isSome z ≡ true → (n : ℕ) × (z ≡ some n)
 unfolding isSome
 size-there none h = never h
 size-there (some n) h = (n, refl)
 
-there-size : (z : Option ℕ) (n : ℕ) → z ≡ some n → isSome z ≡ true
-unfolding isSome
-there-size z n e = rw e
-
 has-size : (n : ℕ) (x : Option Value) (v : Value) → hasSize n x ≡ true → x ≡ some v → v .size ≡ some n
 unfolding hasSize
 has-size n none v h e = none-some {x = none} refl e
 has-size n (some u) v h e = subst (λ (y : Value). y .size ≡ some n) (some-same e) (is-size n (u .size) h)
-
-size-has : (n : ℕ) (x : Option Value) → ((v : Value) → x ≡ some v → v .size ≡ some n) → hasSize n x ≡ true
-unfolding hasSize isSize
-size-has n none h = refl
-size-has n (some u) h = rw (h u refl) (same n)
 
 size-at : (a : SemanticAction) (p : Operand) (v : Value) → at p a ≡ some v → sizeAt a p ≡ v .size
 unfolding sizeAt andThen
@@ -167,22 +95,6 @@ equal-sizes pointer a ps p q v u h i j d e = go (first (sizeAt a) ps) refl h
         ∙ size-at a q u e
     go (some n) c h = has-size n (at p a) v (all-at (λ p. hasSize n (at p a)) ps (i .0) p h (i .1)) d
         ∙ sym (has-size n (at q a) u (all-at (λ p. hasSize n (at p a)) ps (j .0) q h (j .1)) e)
-
-sizes-equal : (pointer : ℕ) (a : SemanticAction) (ps : List Operand)
-    → ((p q : Operand) (v u : Value) → Among p ps → Among q ps → at p a ≡ some v → at q a ≡ some u → v .size ≡ u .size)
-    → stepHolds pointer a (equal ps) ≡ true
-unfolding stepHolds allHaveSize sizeAt
-sizes-equal pointer a ps h = go (first (sizeAt a) ps) refl
-  where
-    go : (x : Option ℕ) → first (sizeAt a) ps ≡ x → allHaveSize a ps x ≡ true
-    go none c = refl
-    go (some n) c =
-        let f = first-from (sizeAt a) ps n c in
-        let s = then-some (at (f .1) a) (λ (v : Value). v .size) n (f .3) in
-        all-from (λ p. hasSize n (at p a)) ps (λ i p d. size-has n (at p a)
-        (λ v k. h p (f .1) v (s .0) (i, d) (f .0, f .2) k (s .1) ∙ s .2))
-
--- one action
 
 op-kind : (k : ActionKind) (op : Operation) → k ≡ ActionKind.Op op → operationOf k ≡ some op
 unfolding operationOf
@@ -238,74 +150,9 @@ module _ (t sub pointer : ℕ) where
       operand v (input i) = value-within t sub v (all-at (valueFits t sub) (a .inputs) (i .0) v (l .inputs) (i .1))
       operand v (output e) = value-within t sub v (option-at (valueFits t sub) (a .output) v (l .output) e)
 
-  action-fits : (a : SemanticAction) → ActionRight t sub pointer a → layoutFits t sub a ≡ true
-  unfolding countsFit
-  action-fits a r = laid-fits t sub a (record {
-    shaped = record {
-      shape = r .shape .shape;
-      is = r .shape .is;
-      counts =
-          any-at (sameCount (length (a .inputs), isSome (a .output))) (r .shape .shape .counts) (r .shape .counts .0) _
-          (r .shape .counts .1) (counts-same _ _);
-      number = r .shape .number;
-    };
-    inputs = all-from (valueFits t sub) (a .inputs) (λ i v e. within-value t sub v (r .operands v (input (i, e))));
-    output = option-from (valueFits t sub) (a .output) (λ v e. within-value t sub v (r .operands v (output e)));
-    base = bases-fit (a .kind) (a .inputs) (λ e. all-from plainBase (a .inputs) (λ i v d. base-plain v (r .bases v e (i, d))));
-  })
-
-  action-holds : (a : SemanticAction) (k : ActionKind) → a .kind ≡ k → ActionRight t sub pointer a
-      → operationHolds pointer (operationOf k) a ≡ true
-  unfolding operationOf operationHolds stepsOf stepHolds isSized
-  action-holds a (ActionKind.Op op) e r =
-      both (both (all-from isSized (a .inputs) (λ i v d. there-size (v .size) _ (r .sizes op v e (input (i, d)) .1)))
-      (option-from isSized (a .output) (λ v d. there-size (v .size) _ (r .sizes op v e (output d) .1))))
-      (all-from (stepHolds pointer a) (ruleOf op) (λ i x d. step x (i, d)))
-    where
-      step : (x : Step) → Among x (ruleOf op) → stepHolds pointer a x ≡ true
-      step (equal ps) i = sizes-equal pointer a ps (λ p q v u ip iq c d. r .equalSizes op ps p q v u e i ip iq c d)
-      step (sized p z) i = size-has (sizeNamed pointer z) (at p a) (λ v d. r .fixedSizes op p z v e i d)
-      step (unsized p z) i = refl
-  action-holds a ActionKind.AddressOf e r = refl
-  action-holds a ActionKind.LoadRegister e r = refl
-  action-holds a ActionKind.StoreRegister e r = refl
-  action-holds a ActionKind.DelaySlot e r = refl
-  action-holds a ActionKind.Build e r = refl
-
-  action-sizes : (a : SemanticAction) → ActionRight t sub pointer a → sizesHold pointer a ≡ true
-  unfolding sizesHold
-  action-sizes a r = action-holds a (a .kind) refl r
-
--- labels
-
-label-number : (op : Operation) → isOp Operation.PcodeLabel op ≡ true → op ≡ Operation.PcodeLabel
-unfolding operationNumber
-label-number op h =
-    let n : operationNumber op ≡ 62 = sym (eq-of 62 (operationNumber op) h) in
-    let d : operationNumbered (operationNumber op) ≡ some op = numbered op (differ (operationNumber op) 66 (λ k. absurd (omega arith))) in
-    some-same (sym d ∙ ap operationNumbered n ∙ numbered Operation.PcodeLabel refl)
-
-is-label : (k : ActionKind) → orElse false (andThen (operationOf k) λ operation. some (isOp Operation.PcodeLabel operation)) ≡ true
-    → k ≡ ActionKind.Op Operation.PcodeLabel
-unfolding orElse andThen operationOf
-is-label (ActionKind.Op op) h = ap ActionKind.Op (label-number op h)
-is-label ActionKind.AddressOf h = never h
-is-label ActionKind.LoadRegister h = never h
-is-label ActionKind.StoreRegister h = never h
-is-label ActionKind.DelaySlot h = never h
-is-label ActionKind.Build h = never h
-
 places-label : (a : SemanticAction) → a .kind ≡ ActionKind.Op Operation.PcodeLabel → placesLabel a ≡ true
 unfolding placesLabel orElse andThen operationOf
 places-label a e = rw e (same (operationNumber Operation.PcodeLabel))
-
-label-places : (a : SemanticAction) → placesLabel a ≡ true → a .kind ≡ ActionKind.Op Operation.PcodeLabel
-unfolding placesLabel
-label-places a h = is-label (a .kind) h
-
-abbrev Once : List SemanticAction → Type 0
-Once xs = (i j : ℕ) (a b : SemanticAction) → getElem? xs i ≡ some a → getElem? xs j ≡ some b → placesLabel a ≡ true → placesLabel b ≡ true
-    → a .number ≡ b .number → i ≡ j
 
 not-both : (b c : Bool) → not (b && c) ≡ true → b ≡ true → c ≡ true → ⊥
 not-both true true h d e = never h
@@ -329,28 +176,6 @@ once-at (x ∷ xs) h (suc i) zero a b d e p q n =
 once-at (x ∷ xs) h (suc i) (suc j) a b d e p q n =
     ap suc (once-at xs (and-true (not (placesLabel x && any (places (x .number)) xs)) _ h .1) i j a b d e p q n)
 
-nowhere : (b c : Bool) → (b ≡ true → c ≡ true → ⊥) → not (b && c) ≡ true
-nowhere true true h = absurd (h refl refl)
-nowhere true false h = refl
-nowhere false c h = refl
-
-at-once : (xs : List SemanticAction) → Once xs → labelsOnce xs ≡ true
-unfolding labelsOnce places
-at-once [] h = refl
-at-once (x ∷ xs) h = both (nowhere (placesLabel x) (any (places (x .number)) xs) (λ p q. clashes p (any-from (places (x .number)) xs q)))
-    (at-once xs (λ i j a b d e p q n. pred-same (h (suc i) (suc j) a b d e p q n)))
-  where
-    pred-same : {i j : ℕ} → suc i ≡ suc j → i ≡ j
-    pred-same {i} {j} e = omega arith
-
-    clashes : placesLabel x ≡ true → ((j : ℕ) × (b : SemanticAction) × (getElem? xs j ≡ some b) × (places (x .number) b ≡ true)) → ⊥
-    clashes p c =
-        let k = and-true _ _ (c .3) in
-        let e : 0 ≡ suc (c .0) = h 0 (suc (c .0)) x (c .1) refl (c .2) p (k .0) (eq-of _ _ (k .1)) in
-        omega arith
-
--- builds
-
 is-build : (k : ActionKind) → isBuild k ≡ true → k ≡ ActionKind.Build
 unfolding isBuild
 is-build (ActionKind.Op op) h = never h
@@ -365,10 +190,6 @@ unfolding builds
 builds-of m a h = let k = if-true (isBuild (a .kind)) (eqb m (a .number)) h in
     (is-build (a .kind) (k .0), sym (eq-of m (a .number) (k .1)))
 
-of-builds : (m : ℕ) (a : SemanticAction) → a .kind ≡ ActionKind.Build → a .number ≡ m → builds m a ≡ true
-unfolding builds isBuild if_then_else_
-of-builds m a k n = rw (k, n) (same m)
-
 built-at : (xs : List SemanticAction) (n m : ℕ) → allBuilt xs n ≡ true → m < n → any (builds m) xs ≡ true
 unfolding allBuilt
 built-at xs zero m h l = absurd (omega arith)
@@ -381,13 +202,6 @@ built-at xs (suc n) m h l = go (eqb m n) refl (built-at xs n m)
     go true d r = subst (λ (i : ℕ). any (builds i) xs ≡ true) (sym (eq-of m n d)) (k .0)
     go false d r = r (k .1) (let q = differs m n d in omega arith)
 
-all-built : (xs : List SemanticAction) (n : ℕ) → ((m : ℕ) → m < n → any (builds m) xs ≡ true) → allBuilt xs n ≡ true
-unfolding allBuilt
-all-built xs zero h = refl
-all-built xs (suc n) h = both (h n (omega arith)) (all-built xs n (λ m l. h m (omega arith)))
-
--- the words
-
 found-length : (n : ℕ) (ws : List ℕ) (xs : List SemanticAction) → actionsFrom n ws ≡ some xs → length xs ≡ n
 unfolding actionsFrom
 found-length zero ws xs e = let d : [] ≡ xs = some-same e in ap length (sym d)
@@ -396,24 +210,6 @@ found-length (suc n) ws xs e =
     let q = then-some (actionsFrom n (drop 24 ws)) _ xs (p .2) in
     let d : p .0 ∷ q .0 ≡ xs = some-same (q .2) in
     ap length (sym d) ∙ ap suc (found-length n (drop 24 ws) (q .0) (q .1))
-
-list-length : (xs : List SemanticAction) → length (listWords xs) ≡ 24 * length xs
-unfolding listWords
-list-length [] = refl
-list-length (a ∷ xs) = length-append (actionWords a) (listWords xs) ∙ (let h = action-length a in let r = list-length xs in omega arith)
-
-zeros : (n : ℕ) → filled n [] ≡ replicate n 0
-unfolding filled
-zeros zero = refl
-zeros (suc n) = ap (λ (l : List ℕ). 0 ∷ l) (zeros n)
-
--- the actions' words, and zero behind
-padded : (xs : List SemanticAction) (n : ℕ) → 24 * length xs ≤ n
-    → filled n (listWords xs) ≡ listWords xs ++ replicate (n - 24 * length xs) 0
-padded xs n h =
-    let c = list-length xs in
-    ap (filled n) (sym (append-none (listWords xs))) ∙ filled-append (listWords xs) [] n (n - 24 * length xs) (omega arith)
-    ∙ ap (λ (l : List ℕ). listWords xs ++ l) (zeros (n - 24 * length xs))
 
 module _ (ws : List ℕ) (n t sub pointer : ℕ) where
   pub accepted-right : check ws n t sub pointer ≡ true → Right ws n t sub pointer
@@ -442,24 +238,6 @@ module _ (ws : List ℕ) (n t sub pointer : ℕ) where
             (z .1, (z .0, z .2), k .0, k .1);
       }
 
-  pub right-accepted : Right ws n t sub pointer → check ws n t sub pointer ≡ true
-  right-accepted r =
-      let xs : List SemanticAction = r .actions in
-      let c = r .count in
-      let fits = r .fits in
-      let fit : 24 * length xs ≤ length ws = rw (r .count) (r .fits) in
-      let written : filled (length ws) (listWords xs) ≡ ws =
-      padded xs (length ws) fit ∙ ap (λ (m : ℕ). listWords xs ++ replicate (length ws - 24 * m) 0) (r .count) ∙ sym (r .words) in
-      let passes : check (filled (length ws) (listWords xs)) (length xs) t sub pointer ≡ true =
-      words-pass t sub xs (length ws) pointer fit
-      (all-from (layoutFits t sub) xs (λ i a e. action-fits t sub pointer a (r .each i a e)))
-      (all-from (sizesHold pointer) xs (λ i a e. action-sizes t sub pointer a (r .each i a e)))
-      (at-once xs (λ i j a b d e u v m. r .labelsOnce i j a b d e (label-places a u) (label-places b v) m))
-      (all-built xs sub (λ m l. let z = r .allBuilt m l in
-      any-at (builds m) xs (z .1 .0) (z .0) (z .1 .1) (of-builds m (z .0) (z .2) (z .3)))) in
-      subst (λ (m : ℕ). check ws m t sub pointer ≡ true) (r .count)
-      (subst (λ (l : List ℕ). check l (length xs) t sub pointer ≡ true) written passes)
-
   -- the checker accepts exactly when the conditions hold
   pub accepts-exactly : (check ws n t sub pointer ≡ true) ↔ Right ws n t sub pointer
-  accepts-exactly = (accepted-right, right-accepted)
+  accepts-exactly = (accepted-right, right-accepted ws n t sub pointer)

@@ -25,5 +25,6 @@ pub mod Outcomes
 -- the theorems
 pub mod Guarantee
 pub mod Conditions
+pub mod RightAccepted
 pub mod CheckerConditions
 pub mod PremiseLaws

@@ -1,5 +1,6 @@
 // The public face: a section file resolved into lent lists, and the checker of such lists; for Rattle, and as C functions.
 use outcome::answer::Answer;
+use resolution::resolve_words;
 ghost use mathlib.Core.Path.{_≡_};
 ghost use lib.ListN.{length};
 ghost use Rattle.definition.specs.ActionList.{resolve};
@@ -19,7 +20,7 @@ pub struct Checked {
 pub fn resolve(file: &[u8], actions: &mut [u64], temporaries: &mut [u64]) -> Answer
     ensures { λ r. ⌜ answer (numbers r) (now (actions .exit)) (now (temporaries .exit)) ≡ resolve (now (file .entry)) (length (now (actions .entry))) (length (now (temporaries .entry))) ⌝ }
 {
-    resolution::resolve_words(file, actions, temporaries)
+    resolve_words(file, actions, temporaries)
 }
 
 fn numbers(r: Answer) -> [u64; 12]

@@ -10,8 +10,6 @@ use lib.ListN.{length, getD, take, drop, set, length-drop, length-set, drop-of-l
 use lib.Seq.{drop-cons, drop-drop, drop-set-lt, take-nil, take-all, take-length, take-suc, take-suc-set}
 use borrow.Author.Tests.{eq-eqb, ne-eqb}
 use Rattle.definition.specs.Base.{if_then_else_}
-use Rattle.definition.specs.Spellings.{bytesOf}
-use Rattle.spellings.specs.Operations.{operationNames, operationText}
 use Rattle.spellings.specs.Words.{first, rest, word, widest, leftAfter}
 
 word-nil : (n : ℕ) → word n [] ≡ []
@@ -134,9 +132,6 @@ module _ (text out out₀ : List ℕ) (i : ℕ) where
       let w : take (length text) out ≡ text = (rw n at e) ∙ take-length text in
       ((k, rw w), w, rw n at d)
 
-pub name-fits : (op : ℕ) → length (operationText op) ≤ 32
-unfolding operationText
-name-fits op = let h = word-wide op operationNames in let w : widest operationNames ≡ 15 = names-wide in omega arith
-  where
-    names-wide : widest operationNames ≡ 15
-    names-wide = unfold widest first if_then_else_ operationNames bytesOf in refl
+-- a word of some that are 15 wide at most
+pub word-fits : (n : ℕ) (xs : List ℕ) (room : ℕ) → widest xs ≡ 15 → 32 ≤ room → length (word n xs) ≤ room
+word-fits n xs room w h = let k = word-wide n xs in omega arith

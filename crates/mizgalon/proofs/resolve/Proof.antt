@@ -3,7 +3,6 @@ use Rattle.mizgalon.proofs.resolve.Statement.{statement}
 use Rattle.mizgalon.proofs.resolve.Tie as tie
 use Rattle.mizgalon.proofs.resolve.Reads as reads
 use Rattle.mizgalon.proofs.resolve.Lts as lts
-use Rattle.resolution.proofs.resolve_words.Reads as resolve-words-reads
 use Rattle.mizgalon.proofs.Laws.{laws}
 
 -- src/lib.rt:21:5

@@ -6,19 +6,20 @@ use Rattle.meaning.proofs.scope.param_place.Reads as param-place-reads
 use Rattle.pcode.proofs.value.get.Reads as get-reads
 use Rattle.meaning.proofs.ScopeLaws.{scope-laws, param-hit, param-miss, param-end}
 use borrow.Author.Needs.{needs}
+use Prim.Native.Nat.{_≤_}
 use mathlib.Core.Path.{_≡_, refl}
 use native.Mathlib.Omega.{arith}
 use Rattle.meaning.specs.Scopes.{findParam}
 
 abbrev Inv-loop : tie.InvT-loop
-Inv-loop p count name i₀ i = findParam i p name ≡ findParam count p name
+Inv-loop p count name i₀ i = (i ≤ count) × (findParam i p name ≡ findParam count p name)
 
 abbrev μ-loop : tie.MeasureT-loop
 μ-loop p count name i₀ i = i
 
 -- src/scope.rt:149:5
 loop-holds : tie.Need-loop-holds Inv-loop μ-loop
-loop-holds c = refl
+loop-holds c = (omega arith, refl)
 
 -- src/scope.rt:150:39
 sub-param-place : tie.Need-sub-param-place Inv-loop μ-loop
@@ -34,7 +35,7 @@ get-requires c κs = search (scope-laws, needs)
 
 -- src/scope.rt:151:13
 returns : tie.Need-returns Inv-loop μ-loop
-returns c = param-hit _ _ _ _ _ _ (c .before .before .before .loop-test .taken) (c .before .before .param-place .ensures) (c .before .get .ensures) (c .if1 .taken) (c .before .before .before .before .loop .inv)
+returns c = param-hit _ _ _ _ _ _ (c .before .before .before .loop-test .taken) (c .before .before .param-place .ensures) (c .before .get .ensures) (c .if1 .taken) (c .before .before .before .before .loop .inv .1)
 
 -- src/scope.rt:153:9
 sub-i : tie.Need-sub-i Inv-loop μ-loop
@@ -46,11 +47,11 @@ loop-less c = omega arith
 
 -- src/scope.rt:149:5
 loop-again : tie.Need-loop-again Inv-loop μ-loop
-loop-again c = param-miss _ _ _ _ _ _ (c .before .before .before .loop-test .taken) (c .before .before .param-place .ensures) (c .before .get .ensures) (c .if1 .left) (c .before .before .before .before .loop .inv)
+loop-again c = (omega arith, param-miss _ _ _ _ _ _ (c .before .before .before .loop-test .taken) (c .before .before .param-place .ensures) (c .before .get .ensures) (c .if1 .left) (c .before .before .before .before .loop .inv .1))
 
 -- src/scope.rt:145:1
 returns-2 : tie.Need-returns-2 Inv-loop μ-loop
-returns-2 c = param-end _ _ _ _ (c .loop-test .left) (c .before .loop .inv)
+returns-2 c = param-end _ _ _ _ (c .loop-test .left) (c .before .loop .inv .1)
 
 pub find-param-spec : {M : Type 1} → statement M
 find-param-spec =

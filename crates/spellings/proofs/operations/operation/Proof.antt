@@ -5,11 +5,13 @@ use Rattle.spellings.proofs.operations.operation.Reads as reads
 use Rattle.spellings.proofs.operations.operation.Lts as lts
 use Rattle.spellings.proofs.operations.put.Reads as put-reads
 use Rattle.spellings.proofs.operations.word.Reads as word-reads
-use Rattle.spellings.proofs.Laws.{name-fits}
+use Rattle.spellings.proofs.Laws.{word-fits}
 use native.Mathlib.Omega.{arith}
-use mathlib.Core.Path.{_∙_}
+use mathlib.Core.Path.{_∙_, refl}
 use Rattle.spellings.specs.Operations.{operationText, operationNames}
 use Rattle.definition.specs.Spellings.{bytesOf}
+use Rattle.definition.specs.Base.{if_then_else_}
+use Rattle.spellings.specs.Words.{first, widest}
 
 -- src/operations.rt:78:9
 word-requires : tie.Need-word-requires
@@ -17,8 +19,8 @@ word-requires c κs = search needs
 
 -- src/operations.rt:78:5
 put-requires : tie.Need-put-requires
-unfolding operationText operationNames bytesOf
-put-requires c κs = rw (c .before .word .ensures) (omega (arith, name-fits (c .before .before .before .before .args .op)))
+unfolding widest first if_then_else_
+put-requires c κs = rw (c .before .word .ensures) (word-fits _ _ _ refl (omega arith))
 
 -- src/operations.rt:74:1
 returns : tie.Need-returns

@@ -1,0 +1,35 @@
+-- Three of document 01's sentences as laws, each for all that it speaks of.
+use Prim.Native.Nat.{ℕ}
+use mathlib.Core.Path.{_≡_, refl}
+use mathlib.Core.List.{List, [], _∷_, map}
+use mathlib.Core.Option.{some}
+use lib.ListN.{replicate}
+use borrow.Author.Tests.{eq-eqb}
+use Rattle.definition.specs.Base.{base-opens}
+use Rattle.definition.specs.Operations.{Operation}
+use Rattle.definition.specs.Ast.{PcodeOp}
+use Rattle.definition.specs.Sizes.{Step, in0, in1, out, one, equal, sized, ruleOf, sizes-opens}
+use Rattle.definition.specs.Walk.{ExprValue}
+use Rattle.definition.specs.Scope.{find, bindParams}
+use Rattle.definition.specs.Expressions.{Order, swapped, translatePcodeOp}
+
+-- "The six greater operators swap operands before either is resolved."
+pub greater-swapped :
+    map translatePcodeOp (PcodeOp.IntGreater ∷ PcodeOp.IntGreaterEqual ∷ PcodeOp.IntSignedGreater ∷ PcodeOp.IntSignedGreaterEqual ∷ PcodeOp.FloatGreater ∷ PcodeOp.FloatGreaterEqual ∷ [])
+    ≡ map swapped (Operation.IntLess ∷ Operation.IntLessEqual ∷ Operation.IntSignedLess ∷ Operation.IntSignedLessEqual ∷ Operation.FloatLess ∷ Operation.FloatLessEqual ∷ [])
+unfolding translatePcodeOp
+greater-swapped = refl
+
+-- "Inputs equal, output 1: carries and comparisons."
+pub comparisons-ruled :
+    map ruleOf (Operation.IntCarry ∷ Operation.IntSignedCarry ∷ Operation.IntSignedBorrow
+    ∷ Operation.IntSignedLess ∷ Operation.IntSignedLessEqual ∷ Operation.IntLess ∷ Operation.IntLessEqual ∷ Operation.IntEqual ∷ Operation.IntNotEqual
+    ∷ Operation.FloatLess ∷ Operation.FloatLessEqual ∷ Operation.FloatEqual ∷ Operation.FloatNotEqual ∷ [])
+    ≡ replicate 13 (equal (in0 ∷ in1 ∷ []) ∷ sized out one ∷ [])
+unfolding sizes-opens
+comparisons-ruled = refl
+
+-- "The later of two equal parameters counts."
+pub later-parameter : (n : ℕ) (x y : ExprValue) → find n (bindParams (n ∷ n ∷ []) (x ∷ y ∷ []) []) ≡ some y
+unfolding find bindParams base-opens
+later-parameter n x y = rw (eq-eqb n n refl) refl
