@@ -1,6 +1,11 @@
 // Copies: the target is a local, a place in RAM or a range of bits, which keeps the bits around it.
 use crate::stores::store;
 use cells::u16_in;
+use codes::NONE;
+use codes::operation;
+use codes::refusal;
+use codes::table;
+use expression::expr::DEPTH;
 use expression::expr::resolve_expr;
 use meaning::scope::ExprValue;
 use meaning::scope::Meaning;
@@ -35,18 +40,20 @@ ghost use Rattle.terms.specs.Answers.{resolved};
 ghost use Rattle.walking.specs.Walks.{stepped};
 ghost use Rattle.assignments.specs.Copies.{maskBut, mergeBits, extendBits, insertIn, insertBits, keepBits, writeBits, copyBits, copyBytes, copyRange, copyRam, copyInto, targetName, targetSize, afterTarget, newTarget, isWrong, isNew, plainTarget, resolveDst, copyTarget, copyStatement};
 
+const ALL_BITS: u64 = 18446744073709551615;
+
 // All 64 bits but those of a bit write.
 fn mask_but(from: u64, bits: u64) -> u64
     requires { ⌜ from < 64 ⌝ }
     ensures { λ r. ⌜ r ≡ maskBut from bits ⌝ }
 {
-    18446744073709551615 - (cells::mask(bits) << from)
+    ALL_BITS - (cells::mask(bits) << from)
 }
 
 // The bits of the value shifted to their place, and merged with the rest.
 fn merge_bits(
     s: &[u8],
-    t: &[u16; 3344],
+    t: &[u16; table::LENGTH],
     a: &mut [u64],
     m: &mut [u64],
     e: Env,
@@ -58,15 +65,41 @@ fn merge_bits(
 ) -> Read
     ensures { λ r. ⌜ read r (now (a .exit)) (now (m .exit)) ≡ mergeBits (now (s .entry)) (now (t .entry)) (now (a .entry)) (now (m .entry)) e to prev tmp from st ⌝ }
 {
-    match op_to(s, t, a, m, e, 7, 0, 2, tmp, tmp, constant(from), st) {
+    match op_to(
+        s,
+        t,
+        a,
+        m,
+        e,
+        operation::INT_LEFT,
+        0,
+        2,
+        tmp,
+        tmp,
+        constant(from),
+        st,
+    ) {
         Read::No(n) => Read::No(n),
-        Read::Value { v: _, st: st1 } => op_to(s, t, a, m, e, 26, 0, 2, to, prev, tmp, st1),
+        Read::Value { v: _, st: st1 } => op_to(
+            s,
+            t,
+            a,
+            m,
+            e,
+            operation::INT_OR,
+            0,
+            2,
+            to,
+            prev,
+            tmp,
+            st1,
+        ),
     }
 }
 
 fn extend_bits(
     s: &[u8],
-    t: &[u16; 3344],
+    t: &[u16; table::LENGTH],
     a: &mut [u64],
     m: &mut [u64],
     e: Env,
@@ -77,7 +110,20 @@ fn extend_bits(
 ) -> Read
     ensures { λ r. ⌜ read r (now (a .exit)) (now (m .exit)) ≡ extendBits (now (s .entry)) (now (t .entry)) (now (a .entry)) (now (m .entry)) e v tmp bits st ⌝ }
 {
-    match op_to(s, t, a, m, e, 43, 0, 1, tmp, v, absent(), st) {
+    match op_to(
+        s,
+        t,
+        a,
+        m,
+        e,
+        operation::ZERO_EXTEND,
+        0,
+        1,
+        tmp,
+        v,
+        absent(),
+        st,
+    ) {
         Read::No(n) => Read::No(n),
         Read::Value { v: _, st: st1 } => op_to(
             s,
@@ -85,7 +131,7 @@ fn extend_bits(
             a,
             m,
             e,
-            24,
+            operation::INT_AND,
             0,
             2,
             tmp,
@@ -98,7 +144,7 @@ fn extend_bits(
 
 fn insert_in(
     s: &[u8],
-    t: &[u16; 3344],
+    t: &[u16; table::LENGTH],
     a: &mut [u64],
     m: &mut [u64],
     e: Env,
@@ -120,7 +166,7 @@ fn insert_in(
 
 fn insert_bits(
     s: &[u8],
-    t: &[u16; 3344],
+    t: &[u16; table::LENGTH],
     a: &mut [u64],
     m: &mut [u64],
     e: Env,
@@ -134,7 +180,7 @@ fn insert_bits(
     ensures { λ r. ⌜ read r (now (a .exit)) (now (m .exit)) ≡ insertBits (now (s .entry)) (now (t .entry)) (now (a .entry)) (now (m .entry)) e v to prev from bits st ⌝ }
 {
     let size = size_of(s, t, m, to);
-    match add_tmp(m, 65535, size, 0, st) {
+    match add_tmp(m, NONE, size, 0, st) {
         Read::No(n) => Read::No(n),
         Read::Value { v: tmp, st: st1 } => insert_in(
             s,
@@ -156,7 +202,7 @@ fn insert_bits(
 // The bits of the target that stay, in a temporary; then those of the value.
 fn keep_bits(
     s: &[u8],
-    t: &[u16; 3344],
+    t: &[u16; table::LENGTH],
     a: &mut [u64],
     m: &mut [u64],
     e: Env,
@@ -176,7 +222,7 @@ fn keep_bits(
         a,
         m,
         e,
-        24,
+        operation::INT_AND,
         0,
         2,
         prev,
@@ -191,7 +237,7 @@ fn keep_bits(
 
 fn write_bits(
     s: &[u8],
-    t: &[u16; 3344],
+    t: &[u16; table::LENGTH],
     a: &mut [u64],
     m: &mut [u64],
     e: Env,
@@ -204,10 +250,10 @@ fn write_bits(
     ensures { λ r. ⌜ read r (now (a .exit)) (now (m .exit)) ≡ writeBits (now (s .entry)) (now (t .entry)) (now (a .entry)) (now (m .entry)) e v to from bits st ⌝ }
 {
     if 64 <= from {
-        return Read::No(41);
+        return Read::No(refusal::SHIFT_TOO_FAR);
     }
     let size = size_of(s, t, m, to);
-    match add_tmp(m, 65535, size, 0, st) {
+    match add_tmp(m, NONE, size, 0, st) {
         Read::No(n) => Read::No(n),
         Read::Value { v: prev, st: st1 } => keep_bits(s, t, a, m, e, v, to, prev, from, bits, st1),
     }
@@ -215,7 +261,7 @@ fn write_bits(
 
 fn copy_bits(
     s: &[u8],
-    t: &[u16; 3344],
+    t: &[u16; table::LENGTH],
     a: &mut [u64],
     m: &mut [u64],
     e: Env,
@@ -235,7 +281,7 @@ fn copy_bits(
 
 fn copy_bytes(
     s: &[u8],
-    t: &[u16; 3344],
+    t: &[u16; table::LENGTH],
     a: &mut [u64],
     m: &mut [u64],
     e: Env,
@@ -255,7 +301,7 @@ fn copy_bytes(
 
 fn copy_range(
     s: &[u8],
-    t: &[u16; 3344],
+    t: &[u16; table::LENGTH],
     a: &mut [u64],
     m: &mut [u64],
     e: Env,
@@ -275,7 +321,7 @@ fn copy_range(
 
 fn copy_ram(
     s: &[u8],
-    t: &[u16; 3344],
+    t: &[u16; table::LENGTH],
     a: &mut [u64],
     m: &mut [u64],
     e: Env,
@@ -296,7 +342,7 @@ fn copy_ram(
 
 fn copy_into(
     s: &[u8],
-    t: &[u16; 3344],
+    t: &[u16; table::LENGTH],
     a: &mut [u64],
     m: &mut [u64],
     e: Env,
@@ -328,7 +374,7 @@ fn copy_into(
             next,
             w,
         ),
-        _ => stop(w, 37),
+        _ => stop(w, refusal::NOT_ASSIGNABLE),
     }
 }
 
@@ -337,22 +383,22 @@ fn target_name(s: &[u8], pos: usize) -> u64
     ensures { λ r. ⌜ r ≡ targetName (now (s .entry)) pos ⌝ }
 {
     let code = cells::byte(s, pos, 0);
-    if code == 0 {
+    if code == codes::expression::IDENT {
         return u16_in(s, pos, 1);
     }
-    if code == 3 {
-        if cells::byte(s, pos, 1) == 0 {
+    if code == codes::expression::TRUNCATE {
+        if cells::byte(s, pos, 1) == codes::expression::IDENT {
             return u16_in(s, pos, 2);
         }
     }
-    65535
+    NONE
 }
 
 fn target_size(s: &[u8], pos: usize) -> u64
     ensures { λ r. ⌜ r ≡ targetSize (now (s .entry)) pos ⌝ }
 {
-    if cells::byte(s, pos, 0) == 0 {
-        return 65535;
+    if cells::byte(s, pos, 0) == codes::expression::IDENT {
+        return NONE;
     }
     u16_in(s, pos, 4)
 }
@@ -360,7 +406,7 @@ fn target_size(s: &[u8], pos: usize) -> u64
 fn after_target(s: &[u8], pos: usize) -> usize
     ensures { λ r. ⌜ r ≡ afterTarget (now (s .entry)) pos ⌝ }
 {
-    if cells::byte(s, pos, 0) == 0 {
+    if cells::byte(s, pos, 0) == codes::expression::IDENT {
         return after(pos, 3);
     }
     after(pos, 6)
@@ -368,7 +414,7 @@ fn after_target(s: &[u8], pos: usize) -> usize
 
 fn new_target(
     s: &[u8],
-    t: &[u16; 3344],
+    t: &[u16; table::LENGTH],
     m: &mut [u64],
     e: Env,
     pos: usize,
@@ -398,10 +444,18 @@ fn is_wrong(r: Meaning) -> bool
     }
 }
 
-fn is_new(s: &[u8], t: &[u16; 3344], p: &[u64], m: &[u64], e: Env, st: State, name: u64) -> bool
+fn is_new(
+    s: &[u8],
+    t: &[u16; table::LENGTH],
+    p: &[u64],
+    m: &[u64],
+    e: Env,
+    st: State,
+    name: u64,
+) -> bool
     ensures { λ r. ⌜ r ≡ isNew (now (s .entry)) (now (t .entry)) (now (p .entry)) (now (m .entry)) e st name ⌝ }
 {
-    if name == 65535 {
+    if name == NONE {
         return false;
     }
     is_wrong(resolve_ident(s, t, p, m, e, st, name))
@@ -410,7 +464,7 @@ fn is_new(s: &[u8], t: &[u16; 3344], p: &[u64], m: &[u64], e: Env, st: State, na
 // A bare name as target: its number as a plain local, 1 where it means nothing or a wrong thing, else 0.
 fn plain_target(
     s: &[u8],
-    t: &[u16; 3344],
+    t: &[u16; table::LENGTH],
     p: &[u64],
     m: &[u64],
     e: Env,
@@ -420,10 +474,10 @@ fn plain_target(
 ) -> u64
     ensures { λ r. ⌜ r ≡ plainTarget (now (s .entry)) (now (t .entry)) (now (p .entry)) (now (m .entry)) e pos name st ⌝ }
 {
-    if cells::byte(s, pos, 0) != 0 {
+    if cells::byte(s, pos, 0) != codes::expression::IDENT {
         return 0;
     }
-    if name == 65535 {
+    if name == NONE {
         return 0;
     }
     plain_local(s, t, p, m, e, st, name)
@@ -432,7 +486,7 @@ fn plain_target(
 // An unknown or disallowed name as target becomes a temporary.
 fn resolve_dst(
     s: &[u8],
-    t: &[u16; 3344],
+    t: &[u16; table::LENGTH],
     p: &[u64],
     a: &mut [u64],
     m: &mut [u64],
@@ -457,12 +511,12 @@ fn resolve_dst(
     if is_new(s, t, p, m, e, st, name) {
         return new_target(s, t, m, e, pos, name, st);
     }
-    resolve_expr(32, s, t, p, pos, e, a, m, st)
+    resolve_expr(DEPTH, s, t, p, pos, e, a, m, st)
 }
 
 fn copy_target(
     s: &[u8],
-    t: &[u16; 3344],
+    t: &[u16; table::LENGTH],
     p: &[u64],
     a: &mut [u64],
     m: &mut [u64],
@@ -486,7 +540,7 @@ fn copy_target(
 
 pub fn copy_statement(
     s: &[u8],
-    t: &[u16; 3344],
+    t: &[u16; table::LENGTH],
     p: &[u64],
     a: &mut [u64],
     m: &mut [u64],
@@ -496,7 +550,7 @@ pub fn copy_statement(
 ) -> Step
     ensures { λ r. ⌜ stepped r (now (a .exit)) (now (m .exit)) ≡ copyStatement (now (s .entry)) (now (t .entry)) (now (p .entry)) (now (a .entry)) (now (m .entry)) e pos w ⌝ }
 {
-    match resolve_expr(32, s, t, p, after(pos, 1), e, a, m, w.st) {
+    match resolve_expr(DEPTH, s, t, p, after(pos, 1), e, a, m, w.st) {
         Expr::No(n) => stop(w, n),
         Expr::Value { x, next, st } => copy_target(s, t, p, a, m, e, x, next, st, w),
     }

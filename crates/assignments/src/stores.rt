@@ -1,5 +1,10 @@
 // Stores: the value is read before the pointer.
 use cells::u16_in;
+use codes::action_kind;
+use codes::operation;
+use codes::refusal;
+use codes::table;
+use expression::expr::DEPTH;
 use expression::expr::expr_value;
 use expression::expr::resolve_expr;
 use expression::expr::skip_expr;
@@ -27,7 +32,7 @@ ghost use Rattle.assignments.specs.Stores.{store, storeRegister, storeAt
 
 pub fn store(
     s: &[u8],
-    t: &[u16; 3344],
+    t: &[u16; table::LENGTH],
     a: &mut [u64],
     m: &mut [u64],
     e: Env,
@@ -42,7 +47,20 @@ pub fn store(
 {
     let x = take_stated(s, t, m, v, size, st);
     pushed_then(
-        push_op(s, t, a, m, e, 59, 0, 2, no_output(), pointer, x.v, x.st),
+        push_op(
+            s,
+            t,
+            a,
+            m,
+            e,
+            operation::STORE,
+            0,
+            2,
+            no_output(),
+            pointer,
+            x.v,
+            x.st,
+        ),
         next,
         w,
     )
@@ -50,7 +68,7 @@ pub fn store(
 
 fn store_register(
     s: &[u8],
-    t: &[u16; 3344],
+    t: &[u16; table::LENGTH],
     a: &mut [u64],
     m: &mut [u64],
     pointer: Value,
@@ -64,7 +82,17 @@ fn store_register(
 {
     let x = set_stated(s, t, m, v, size, st);
     pushed_then(
-        push(a, 3, 0, size, 2, absent(), pointer, x.v, x.st),
+        push(
+            a,
+            action_kind::STORE_REGISTER,
+            0,
+            size,
+            2,
+            absent(),
+            pointer,
+            x.v,
+            x.st,
+        ),
         next,
         w,
     )
@@ -72,7 +100,7 @@ fn store_register(
 
 fn store_at(
     s: &[u8],
-    t: &[u16; 3344],
+    t: &[u16; table::LENGTH],
     a: &mut [u64],
     m: &mut [u64],
     e: Env,
@@ -98,13 +126,13 @@ fn store_at(
             st,
             w,
         ),
-        _ => stop(w, 28),
+        _ => stop(w, refusal::STORE_TO_NO_ADDRESS),
     }
 }
 
 fn store_in(
     s: &[u8],
-    t: &[u16; 3344],
+    t: &[u16; table::LENGTH],
     a: &mut [u64],
     m: &mut [u64],
     e: Env,
@@ -131,7 +159,7 @@ fn store_in(
 
 fn store_pointer(
     s: &[u8],
-    t: &[u16; 3344],
+    t: &[u16; table::LENGTH],
     p: &[u64],
     a: &mut [u64],
     m: &mut [u64],
@@ -144,7 +172,7 @@ fn store_pointer(
 ) -> Step
     ensures { λ r. ⌜ stepped r (now (a .exit)) (now (m .exit)) ≡ storePointer (now (s .entry)) (now (t .entry)) (now (p .entry)) (now (a .entry)) (now (m .entry)) e pos v end st w ⌝ }
 {
-    match resolve_expr(32, s, t, p, after(pos, 5), e, a, m, st) {
+    match resolve_expr(DEPTH, s, t, p, after(pos, 5), e, a, m, st) {
         Expr::No(n) => stop(w, n),
         Expr::Value {
             x,
@@ -156,7 +184,7 @@ fn store_pointer(
 
 pub fn store_statement(
     s: &[u8],
-    t: &[u16; 3344],
+    t: &[u16; table::LENGTH],
     p: &[u64],
     a: &mut [u64],
     m: &mut [u64],
@@ -168,7 +196,7 @@ pub fn store_statement(
 {
     let pointer = after(pos, 5);
     let value = skip_expr(s, pointer);
-    match expr_value(32, s, t, p, value, e, a, m, w.st) {
+    match expr_value(DEPTH, s, t, p, value, e, a, m, w.st) {
         Operand::No(n) => stop(w, n),
         Operand::Value { v, next, st } => store_pointer(s, t, p, a, m, e, pos, v, next, st, w),
     }

@@ -2,6 +2,9 @@
 use assignments::copies::copy_statement;
 use assignments::stores::store_statement;
 use cells::u16_in;
+use codes::refusal;
+use codes::statement;
+use codes::table;
 use jumps::branches::branch;
 use jumps::branches::cond_branch;
 use jumps::branches::label_statement;
@@ -9,6 +12,7 @@ use meaning::args::Args;
 use pcode::sizes::Sizing;
 use pushing::push::Env;
 use pushing::push::State;
+use semantics::calls::MACRO;
 use semantics::calls::called_of;
 use semantics::calls::macro_args;
 use semantics::calls::macro_at;
@@ -26,10 +30,12 @@ ghost use mathlib.Core.Path.{_≡_};
 ghost use Rattle.walking.specs.Walks.{stepped, walked};
 ghost use Rattle.bodies.specs.Statements.{simple, otherStatement, begun, begin, entered, returned, macroEnv, bodyAt, firstOrdinal, callStatement, macroStatement, enterMacro, resolveStatement, forward, resolveBody};
 
+const MOST_STATEMENTS: u64 = 4096;
+
 fn simple(
     code: u64,
     s: &[u8],
-    t: &[u16; 3344],
+    t: &[u16; table::LENGTH],
     p: &[u64],
     a: &mut [u64],
     m: &mut [u64],
@@ -40,12 +46,12 @@ fn simple(
     ensures { λ r. ⌜ stepped r (now (a .exit)) (now (m .exit)) ≡ simple code (now (s .entry)) (now (t .entry)) (now (p .entry)) (now (a .entry)) (now (m .entry)) e pos w ⌝ }
 {
     match code {
-        0 => unimplemented(s, t, a, m, e, pos, w),
-        1 => export_statement(s, t, p, a, m, e, pos, w),
-        2 => local_statement(s, t, m, e, pos, w),
-        3 => local_assignment(s, t, p, a, m, e, pos, w),
-        4 => build(s, t, a, pos, w),
-        5 => copy_statement(s, t, p, a, m, e, pos, w),
+        statement::UNIMPLEMENTED => unimplemented(s, t, a, m, e, pos, w),
+        statement::EXPORT => export_statement(s, t, p, a, m, e, pos, w),
+        statement::LOCAL => local_statement(s, t, m, e, pos, w),
+        statement::LOCAL_ASSIGNMENT => local_assignment(s, t, p, a, m, e, pos, w),
+        statement::BUILD => build(s, t, a, pos, w),
+        statement::COPY => copy_statement(s, t, p, a, m, e, pos, w),
         _ => store_statement(s, t, p, a, m, e, pos, w),
     }
 }
@@ -54,7 +60,7 @@ fn simple(
 fn other_statement(
     code: u64,
     s: &[u8],
-    t: &[u16; 3344],
+    t: &[u16; table::LENGTH],
     p: &[u64],
     l: &mut [u64],
     a: &mut [u64],
@@ -66,9 +72,9 @@ fn other_statement(
     ensures { λ r. ⌜ walked r (now (l .exit)) (now (a .exit)) (now (m .exit)) ≡ otherStatement code (now (s .entry)) (now (t .entry)) (now (p .entry)) (now (l .entry)) (now (a .entry)) (now (m .entry)) e pos w ⌝ }
 {
     match code {
-        8 => branch(s, t, p, l, a, m, e, pos, w),
-        9 => cond_branch(s, t, p, l, a, m, e, pos, w),
-        10 => label_statement(s, t, l, a, m, e, pos, w),
+        statement::BRANCH => branch(s, t, p, l, a, m, e, pos, w),
+        statement::COND_BRANCH => cond_branch(s, t, p, l, a, m, e, pos, w),
+        statement::LABEL => label_statement(s, t, l, a, m, e, pos, w),
         _ => simple(code, s, t, p, a, m, e, pos, w),
     }
 }
@@ -103,13 +109,13 @@ fn begin(w: Walk, ordinal: u64) -> Step
 {
     if w.export.kind != 0 {
         return Step::Stop {
-            refusal: 20,
+            refusal: refusal::AFTER_EXPORT,
             ordinal,
         };
     }
-    if 4096 <= w.statements {
+    if MOST_STATEMENTS <= w.statements {
         return Step::Stop {
-            refusal: 10,
+            refusal: refusal::TOO_MANY_STATEMENTS,
             ordinal,
         };
     }
@@ -162,16 +168,16 @@ fn body_at(at: usize, n: u64) -> usize
 }
 
 // The ordinal of the first statement of macro number `id`.
-fn first_ordinal(t: &[u16; 3344], id: u64) -> u64
+fn first_ordinal(t: &[u16; table::LENGTH], id: u64) -> u64
     ensures { λ r. ⌜ r ≡ firstOrdinal (now (t .entry)) id ⌝ }
 {
-    cells::get_u16(t, 3200 + (id % 128) as usize) as u64
+    cells::get_u16(t, table::MACRO_ORDINALS + (id % 128) as usize) as u64
 }
 
 fn enter(
     deep: u64,
     s: &[u8],
-    t: &[u16; 3344],
+    t: &[u16; table::LENGTH],
     l: &mut [u64],
     a: &mut [u64],
     m: &mut [u64],
@@ -186,7 +192,7 @@ fn enter(
     ensures { λ r. ⌜ walked r (now (l .exit)) (now (a .exit)) (now (m .exit)) ≡ enterMacro deep (now (s .entry)) (now (t .entry)) (now (l .entry)) (now (a .entry)) (now (m .entry)) e id (now (args .entry)) n next st w ⌝ }
 {
     if deep == 0 {
-        return stop(w, 11);
+        return stop(w, refusal::MACRO_TOO_DEEP);
     }
     let at = macro_at(t, id);
     let scope = std::num::wrapping_add_u64(w.scopes, 1);
@@ -204,7 +210,7 @@ fn enter(
 fn macro_statement(
     deep: u64,
     s: &[u8],
-    t: &[u16; 3344],
+    t: &[u16; table::LENGTH],
     p: &[u64],
     l: &mut [u64],
     a: &mut [u64],
@@ -227,7 +233,7 @@ fn macro_statement(
 fn call_statement(
     deep: u64,
     s: &[u8],
-    t: &[u16; 3344],
+    t: &[u16; table::LENGTH],
     p: &[u64],
     l: &mut [u64],
     a: &mut [u64],
@@ -240,7 +246,7 @@ fn call_statement(
 {
     let n = cells::byte(s, pos, 3);
     let c = called_of(s, t, u16_in(s, pos, 1));
-    if c.kind == 2 {
+    if c.kind == MACRO {
         return macro_statement(deep, s, t, p, l, a, m, e, pos, c.number, n, w);
     }
     other_call(c, s, t, p, a, m, e, pos, n, w)
@@ -249,7 +255,7 @@ fn call_statement(
 fn statement(
     deep: u64,
     s: &[u8],
-    t: &[u16; 3344],
+    t: &[u16; table::LENGTH],
     p: &[u64],
     l: &mut [u64],
     a: &mut [u64],
@@ -271,7 +277,7 @@ fn statement(
         },
         Step::Next { next: _, w: b } => {
             let code = cells::byte(s, pos, 0);
-            if code == 7 {
+            if code == statement::CALL {
                 return call_statement(deep, s, t, p, l, a, m, e, pos, b);
             }
             other_statement(code, s, t, p, l, a, m, e, pos, b)
@@ -291,7 +297,7 @@ fn forward(pos: usize, next: usize, len: usize) -> bool
 pub fn body(
     deep: u64,
     s: &[u8],
-    t: &[u16; 3344],
+    t: &[u16; table::LENGTH],
     p: &[u64],
     l: &mut [u64],
     a: &mut [u64],
@@ -319,7 +325,7 @@ pub fn body(
             },
             Step::Next { next, w: w1 } => {
                 if !forward(at, next, s.len()) {
-                    return stop(w1, 3);
+                    return stop(w1, refusal::MALFORMED);
                 }
                 at = next;
                 w = w1;

@@ -1,12 +1,51 @@
 // The checker of an action list, whoever made it: each action by itself, and of the whole list that each label is placed at
 // most once and that every subtable is built. An action is 24 words: its kind, operation, number and input count, the output
 // and the inputs of two words each, and zeros. A value's words are its number, and its kind, offset and size in one.
+use codes::NONE;
+use codes::action;
+use codes::action_kind;
+use codes::operation;
+use codes::value_kind;
 ghost use mathlib.Core.Path.{_≡_};
 ghost use Prim.Native.Nat.{_*_, _≤_};
 ghost use lib.ListN.{length, replicate};
 ghost use Rattle.definition.specs.Checker.{check};
 ghost use Rattle.checker.specs.Action.{zeros, valueFit, inputsFit, hasOutput, operationFit, headFit, actionFit};
 ghost use Rattle.checker.specs.Sweep.{noted, noteLabel, noteBuild, allMarked, sweep};
+
+// The second words of values.
+const OUTPUT_WORD: usize = action::OUTPUT + 1;
+
+const INPUT_0_WORD: usize = action::INPUT_0 + 1;
+
+const INPUT_1_WORD: usize = action::INPUT_1 + 1;
+
+// The size stands in a second word from bit 24 on, and second words are below the bound.
+const SIZE_PLACE: u64 = 0x1000000;
+
+const WORD_BOUND: u64 = 0x10000000000;
+
+// A second word but for its kind, with no size and at offset 0.
+const UNSIZED: u64 = 0xffff0000;
+
+// The second word of an operation's output that is not there.
+const NO_OUTPUT: u64 = 255;
+
+// The bounds of access sizes, hints, labels, user ops and arguments behind the second, and the most inputs of an action.
+const SIZES: u64 = 1025;
+
+const HINTS: u64 = 3;
+
+const LABELS: u64 = 256;
+
+const USER_OPS: u64 = 256;
+
+const ARGS: u64 = 6;
+
+const MOST_INPUTS: u64 = 8;
+
+// How many subtables a sweep marks.
+const SWEPT: u64 = 256;
 
 fn zeros(words: &[u64]) -> bool
     ensures { λ r. ⌜ r ≡ zeros (now (words .entry)) ⌝ }
@@ -23,12 +62,12 @@ fn zeros(words: &[u64]) -> bool
 fn value_fits(number: u64, word: u64, sized: bool, temporaries: u64, subtables: u64) -> bool
     ensures { λ r. ⌜ r ≡ valueFit temporaries subtables sized number word ⌝ }
 {
-    let right = (word < 0x10000000000) & (!sized | (word / 0x1000000 != 0xffff));
+    let right = (word < WORD_BOUND) & (!sized | (word / SIZE_PLACE != NONE));
     match word % 256 {
-        0..=1 => right & (number == 0), // InstStart, InstNext
-        2..=3 | 7 => right, // Register, Field, Constant
-        4..=5 => right & (number < subtables), // Subtable, SubtableRef
-        6 => right & (number < temporaries), // PcodeTmp
+        value_kind::INST_START..=value_kind::INST_NEXT => right & (number == 0),
+        value_kind::REGISTER..=value_kind::FIELD | value_kind::CONSTANT => right,
+        value_kind::SUBTABLE..=value_kind::SUBTABLE_REF => right & (number < subtables),
+        value_kind::PCODE_TMP => right & (number < temporaries),
         _ => false,
     }
 }
@@ -38,16 +77,22 @@ fn inputs_fit(a: &[u64], sized: bool, temporaries: u64, subtables: u64) -> bool
     requires { ⌜ length (now a) ≡ 24 ⌝ }
     ensures { λ r. ⌜ r ≡ inputsFit temporaries subtables sized (now (a .entry)) ⌝ }
 {
-    if a[3] > 8 {
+    if a[action::INPUT_COUNT] > MOST_INPUTS {
         return false;
     }
-    let n = a[3] as usize;
+    let n = a[action::INPUT_COUNT] as usize;
     for i in 0..n {
-        if !value_fits(a[6 + 2 * i], a[7 + 2 * i], sized, temporaries, subtables) {
+        if !value_fits(
+            a[action::INPUT_0 + 2 * i],
+            a[INPUT_0_WORD + 2 * i],
+            sized,
+            temporaries,
+            subtables,
+        ) {
             return false;
         }
     }
-    let end = 6 + 2 * n;
+    let end = action::INPUT_0 + 2 * n;
     zeros(&a[end..])
 }
 
@@ -56,8 +101,8 @@ fn has_output(kind: u64, number: u64, word: u64) -> bool
     ensures { λ r. ⌜ r ≡ hasOutput kind number word ⌝ }
 {
     match kind {
-        0 => (number != 0) | (word != 255),
-        1..=2 => true,
+        action_kind::OP => (number != 0) | (word != NO_OUTPUT),
+        action_kind::ADDRESS_OF..=action_kind::LOAD_REGISTER => true,
         _ => (number != 0) | (word != 0),
     }
 }
@@ -67,31 +112,43 @@ fn operation_fits(a: &[u64], output: bool, pointer: u64) -> bool
     requires { ⌜ length (now a) ≡ 24 ⌝ }
     ensures { λ r. ⌜ r ≡ operationFit pointer output (now (a .entry)) ⌝ }
 {
-    let number = a[2];
-    let n = a[3];
-    let in0 = a[7] / 0x1000000;
-    let in1 = a[9] / 0x1000000;
-    let out = a[5] / 0x1000000;
+    let number = a[action::NUMBER];
+    let n = a[action::INPUT_COUNT];
+    let in0 = a[INPUT_0_WORD] / SIZE_PLACE;
+    let in1 = a[INPUT_1_WORD] / SIZE_PLACE;
+    let out = a[OUTPUT_WORD] / SIZE_PLACE;
     let unary = (n == 1) & output & (number == 0);
     let binary = (n == 2) & output & (number == 0);
     let pair = (n == 2) & !output;
-    match a[1] {
-        0..=6 | 16..=19 | 24..=26 => binary & (in0 == in1) & (in0 == out), // arithmetic, bits
-        7..=9 => binary & (in0 == out), // shifts: a count has any size
-        10..=15 | 20..=23 | 30..=32 => binary & (in0 == in1) & (out == 1), // comparisons, carries
-        27..=29 => binary & (in0 == 1) & (in1 == 1) & (out == 1), // BoolXor, BoolAnd, BoolOr
-        39 => unary & (in0 == 1) & (out == 1), // BoolNot
-        40..=41 | 45..=50 | 57 => unary & (in0 == out), // IntNot, IntNegate, FloatNegate to FloatRound, Copy
-        42 => unary & (out == 1), // FloatIsNan
-        43..=44 | 51..=56 => unary, // extensions, conversions, counts of bits
-        58 => unary & (in0 == pointer), // Load
-        59 => pair & (number == 0) & (in0 == pointer), // Store
-        60 => pair & (number < 3) & (in0 == 1), // Branch: its number is a hint, its target has any size
-        61 => pair & (number < 256) & (in0 == 1), // PcodeBranch, to a label
-        62 => (n == 0) & !output & (number < 256), // PcodeLabel
-        63 => (number < 256) & (!output | (n <= 2)), // PcodeOp
-        64 => (n == 1) & !output & (number < 6), // Arg
-        65 => (n == 0) & !output & (number == 0), // Invalid
+    match a[action::OPERATION] {
+        // Arithmetic and bits.
+        operation::INT_MUL..=operation::INT_SUB
+        | operation::FLOAT_DIV..=operation::FLOAT_SUB
+        | operation::INT_AND..=operation::INT_OR => binary & (in0 == in1) & (in0 == out),
+        // Shifts: a count has any size.
+        operation::INT_LEFT..=operation::INT_SIGNED_RIGHT => binary & (in0 == out),
+        // Comparisons and carries.
+        operation::INT_SIGNED_LESS..=operation::INT_NOT_EQUAL
+        | operation::FLOAT_LESS..=operation::FLOAT_NOT_EQUAL
+        | operation::INT_CARRY..=operation::INT_SIGNED_BORROW => binary & (in0 == in1) & (out == 1),
+        operation::BOOL_XOR..=operation::BOOL_OR => binary & (in0 == 1) & (in1 == 1) & (out == 1),
+        operation::BOOL_NOT => unary & (in0 == 1) & (out == 1),
+        operation::INT_NOT..=operation::INT_NEGATE
+        | operation::FLOAT_NEGATE..=operation::FLOAT_ROUND
+        | operation::COPY => unary & (in0 == out),
+        operation::FLOAT_IS_NAN => unary & (out == 1),
+        // Extensions, conversions and counts of bits.
+        operation::ZERO_EXTEND..=operation::SIGN_EXTEND
+        | operation::FLOAT_TO_INT..=operation::INT_COUNT_LEADING_ZEROES => unary,
+        operation::LOAD => unary & (in0 == pointer),
+        operation::STORE => pair & (number == 0) & (in0 == pointer),
+        // Its number is a hint, its target has any size.
+        operation::BRANCH => pair & (number < HINTS) & (in0 == 1),
+        operation::PCODE_BRANCH => pair & (number < LABELS) & (in0 == 1),
+        operation::PCODE_LABEL => (n == 0) & !output & (number < LABELS),
+        operation::PCODE_OP => (number < USER_OPS) & (!output | (n <= 2)),
+        operation::ARG => (n == 1) & !output & (number < ARGS),
+        operation::INVALID => (n == 0) & !output & (number == 0),
         _ => false,
     }
 }
@@ -101,16 +158,18 @@ fn head_fits(a: &[u64], output: bool, subtables: u64, pointer: u64) -> bool
     requires { ⌜ length (now a) ≡ 24 ⌝ }
     ensures { λ r. ⌜ r ≡ headFit subtables pointer output (now (a .entry)) ⌝ }
 {
-    let number = a[2];
-    let n = a[3];
-    let plain = a[1] == 0;
-    match a[0] {
-        0 => operation_fits(a, output, pointer), // Op
-        1 => plain & (number == 0) & (n == 1) & output & (a[7] / 256 == 0xffff0000), // AddressOf
-        2 => plain & (number < 1025) & (n == 1) & output, // LoadRegister
-        3 => plain & (number < 1025) & (n == 2) & !output, // StoreRegister
-        4 => plain & (number == 0) & (n == 0) & !output, // DelaySlot
-        5 => plain & (number < subtables) & (n == 0) & !output, // Build
+    let number = a[action::NUMBER];
+    let n = a[action::INPUT_COUNT];
+    let plain = a[action::OPERATION] == 0;
+    match a[action::KIND] {
+        action_kind::OP => operation_fits(a, output, pointer),
+        action_kind::ADDRESS_OF => {
+            plain & (number == 0) & (n == 1) & output & (a[INPUT_0_WORD] / 256 == UNSIZED)
+        }
+        action_kind::LOAD_REGISTER => plain & (number < SIZES) & (n == 1) & output,
+        action_kind::STORE_REGISTER => plain & (number < SIZES) & (n == 2) & !output,
+        action_kind::DELAY_SLOT => plain & (number == 0) & (n == 0) & !output,
+        action_kind::BUILD => plain & (number < subtables) & (n == 0) & !output,
         _ => false,
     }
 }
@@ -119,9 +178,16 @@ fn action_fits(a: &[u64], temporaries: u64, subtables: u64, pointer: u64) -> boo
     requires { ⌜ length (now a) ≡ 24 ⌝ }
     ensures { λ r. ⌜ r ≡ actionFit temporaries subtables pointer (now (a .entry)) ⌝ }
 {
-    let sized = a[0] == 0;
-    let output = has_output(a[0], a[4], a[5]);
-    (!output | value_fits(a[4], a[5], sized, temporaries, subtables))
+    let sized = a[action::KIND] == action_kind::OP;
+    let output = has_output(a[action::KIND], a[action::OUTPUT], a[OUTPUT_WORD]);
+    (!output
+        | value_fits(
+            a[action::OUTPUT],
+            a[OUTPUT_WORD],
+            sized,
+            temporaries,
+            subtables,
+        ))
         & inputs_fit(a, sized, temporaries, subtables)
         & head_fits(a, output, subtables, pointer)
 }
@@ -131,11 +197,11 @@ fn note_label(a: &[u64], seen: &mut [u64]) -> bool
     requires { ⌜ length (now a) ≡ 24 ⌝ }
     ensures { λ r. ⌜ noted r (now (seen .exit)) ≡ noteLabel (now (a .entry)) (now (seen .entry)) ⌝ }
 {
-    if (a[0] != 0) | (a[1] != 62) {
+    if (a[action::KIND] != action_kind::OP) | (a[action::OPERATION] != operation::PCODE_LABEL) {
         return true;
     }
-    let new = cells::get(seen, a[2] as usize) == 0;
-    cells::put(seen, a[2] as usize, 1);
+    let new = cells::get(seen, a[action::NUMBER] as usize) == 0;
+    cells::put(seen, a[action::NUMBER] as usize, 1);
     new
 }
 
@@ -144,8 +210,8 @@ fn note_build(a: &[u64], base: u64, built: &mut [u64])
     requires { ⌜ length (now a) ≡ 24 ⌝ }
     ensures { λ _. ⌜ now (built .exit) ≡ noteBuild base (now (a .entry)) (now (built .entry)) ⌝ }
 {
-    let number = a[2];
-    if (a[0] == 5) & (base <= number) {
+    let number = a[action::NUMBER];
+    if (a[action::KIND] == action_kind::BUILD) & (base <= number) {
         cells::put(built, (number - base) as usize, 1);
     }
 }
@@ -169,8 +235,8 @@ fn sweep(list: &[u64], n: usize, base: u64, temporaries: u64, subtables: u64, po
     let mut seen = [0u64; 256];
     let mut built = [0u64; 256];
     for i in 0..n {
-        let from = 24 * i;
-        let to = from + 24;
+        let from = action::WORDS * i;
+        let to = from + action::WORDS;
         let a = &list[from..to];
         if !action_fits(a, temporaries, subtables, pointer) | !note_label(a, &mut seen) {
             return false;
@@ -190,21 +256,21 @@ pub fn check(
 ) -> bool
     ensures { λ r. ⌜ r ≡ check (now (list .entry)) actions temporaries subtables «pointer_size» ⌝ }
 {
-    let room = list.len() / 24;
+    let room = list.len() / action::WORDS;
     if (room as u64) < actions {
         return false;
     }
     let n = actions as usize;
-    let end = 24 * n;
+    let end = action::WORDS * n;
     if !zeros(&list[end..]) {
         return false;
     }
     let mut base = 0;
     while sweep(list, n, base, temporaries, subtables, pointer_size) {
-        if subtables - base <= 256 {
+        if subtables - base <= SWEPT {
             return true;
         }
-        base += 256;
+        base += SWEPT;
     }
     false
 }

@@ -1,5 +1,7 @@
 // What the checker is told of a section file beside its list: how many subtables the section has, and the size of its
 // pointers. Both are 0 where the file is refused.
+use codes::header;
+use codes::table;
 use resolution::pointer_size;
 ghost use mathlib.Core.Path.{_≡_};
 ghost use Prim.Native.Nat.{_*_, _/_, _≤_};
@@ -14,10 +16,10 @@ pub struct Counts {
     pub pointer: u64,
 }
 
-fn table_counts(s: &[u8], t: &[u16; 3344]) -> Counts
+fn table_counts(s: &[u8], t: &[u16; table::LENGTH]) -> Counts
     ensures { λ r. ⌜ r ≡ tableCounts (now (s .entry)) (now (t .entry)) ⌝ }
 {
-    let subtables = cells::u16_at(s, 20);
+    let subtables = cells::u16_at(s, header::SUBTABLES);
     let pointer = pointer_size(s, t);
     Counts { subtables, pointer }
 }
@@ -25,7 +27,7 @@ fn table_counts(s: &[u8], t: &[u16; 3344]) -> Counts
 fn stream_counts(s: &[u8]) -> Counts
     ensures { λ r. ⌜ r ≡ streamCounts (now (s .entry)) ⌝ }
 {
-    let mut t = [0u16; 3344];
+    let mut t = [0u16; table::LENGTH];
     let bad = section::read_stream(s, &mut t);
     if bad != 0 {
         return Counts {

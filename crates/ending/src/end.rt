@@ -1,8 +1,16 @@
 // The end: sizes fixed, subpieces turned into copies, the implicit Builds in front, unused words zero.
+use codes::NONE;
+use codes::action;
+use codes::action_kind;
+use codes::operation;
+use codes::refusal;
+use codes::table;
 use pcode::sizes::Sizing;
 use pcode::sizes::falls_back;
 use pcode::sizes::record_errors;
 use pcode::sizes::size_of;
+use pcode::value::NO_OUTPUT;
+use pcode::value::SIZE_PLACE;
 use pcode::value::Value;
 use pcode::value::get;
 use pcode::value::place;
@@ -15,17 +23,29 @@ ghost use Prim.Native.Nat.{_<_};
 ghost use Rattle.pcode.specs.Base.{listed};
 ghost use Rattle.ending.specs.End.{fixSize, fixOperand, fixInputs, fixOutput, fixOperands, writeCopy, subpieceCopy, finishOp, finishActions, markBuild, markBuilt, zeroAction, writeBuild, implicitBuilds, implicitBuild, moveAction, moveDown, assemble};
 
+// The second word of an output.
+const OUTPUT_WORD: usize = action::OUTPUT + 1;
+
+const LAST_OFFSET: u64 = 65535;
+
 pub struct Fixed {
     pub v: Value,
     pub z: Sizing,
 }
 
 // The known size, else the fallback, else an error.
-pub fn fix_size(s: &[u8], t: &[u16; 3344], m: &[u64], v: Value, ptr: u64, z: Sizing) -> Fixed
+pub fn fix_size(
+    s: &[u8],
+    t: &[u16; table::LENGTH],
+    m: &[u64],
+    v: Value,
+    ptr: u64,
+    z: Sizing,
+) -> Fixed
     ensures { λ r. ⌜ r ≡ fixSize (now (s .entry)) (now (t .entry)) (now (m .entry)) v ptr z ⌝ }
 {
     let known = size_of(s, t, m, v);
-    if known != 65535 {
+    if known != NONE {
         return Fixed {
             v: with_size(v, known),
             z,
@@ -45,7 +65,7 @@ pub fn fix_size(s: &[u8], t: &[u16; 3344], m: &[u64], v: Value, ptr: u64, z: Siz
 
 fn fix_operand(
     s: &[u8],
-    t: &[u16; 3344],
+    t: &[u16; table::LENGTH],
     a: &mut [u64],
     m: &[u64],
     at: usize,
@@ -57,7 +77,7 @@ fn fix_operand(
     ensures { λ r. ⌜ listed r (now (a .exit)) ≡ fixOperand (now (s .entry)) (now (t .entry)) (now (a .entry)) (now (m .entry)) at i ptr z ⌝ }
 {
     // Most operands have a size of their own by now, and stay as they are.
-    if get(a, at, i + 1) / 16777216 < 65535 {
+    if get(a, at, i + 1) / SIZE_PLACE < NONE {
         return z;
     }
     let f = fix_size(s, t, m, value_at(a, at, i), ptr, z);
@@ -67,7 +87,7 @@ fn fix_operand(
 
 fn fix_inputs(
     s: &[u8],
-    t: &[u16; 3344],
+    t: &[u16; table::LENGTH],
     a: &mut [u64],
     m: &[u64],
     at: usize,
@@ -79,14 +99,14 @@ fn fix_inputs(
 {
     let mut z = z;
     for i in 0..n {
-        z = fix_operand(s, t, a, m, at, 6 + i % 8 * 2, ptr, z);
+        z = fix_operand(s, t, a, m, at, action::INPUT_0 + i % 8 * 2, ptr, z);
     }
     z
 }
 
 fn fix_output(
     s: &[u8],
-    t: &[u16; 3344],
+    t: &[u16; table::LENGTH],
     a: &mut [u64],
     m: &[u64],
     at: usize,
@@ -95,15 +115,15 @@ fn fix_output(
 ) -> Sizing
     ensures { λ r. ⌜ listed r (now (a .exit)) ≡ fixOutput (now (s .entry)) (now (t .entry)) (now (a .entry)) (now (m .entry)) at ptr z ⌝ }
 {
-    if get(a, at, 5) == 255 {
+    if get(a, at, OUTPUT_WORD) == NO_OUTPUT {
         return z;
     }
-    fix_operand(s, t, a, m, at, 4, ptr, z)
+    fix_operand(s, t, a, m, at, action::OUTPUT, ptr, z)
 }
 
 fn fix_operands(
     s: &[u8],
-    t: &[u16; 3344],
+    t: &[u16; table::LENGTH],
     a: &mut [u64],
     m: &[u64],
     at: usize,
@@ -112,7 +132,7 @@ fn fix_operands(
 ) -> Sizing
     ensures { λ r. ⌜ listed r (now (a .exit)) ≡ fixOperands (now (s .entry)) (now (t .entry)) (now (a .entry)) (now (m .entry)) at ptr z ⌝ }
 {
-    let n = get(a, at, 3) % 16;
+    let n = get(a, at, action::INPUT_COUNT) % 16;
     let y = fix_inputs(s, t, a, m, at, n as usize, ptr, z);
     fix_output(s, t, a, m, at, ptr, y)
 }
@@ -121,12 +141,12 @@ fn fix_operands(
 fn write_copy(a: &mut [u64], at: usize, v: Value, offset: u64, size: u64)
     ensures { λ _. ⌜ now (a .exit) ≡ writeCopy (now (a .entry)) at v offset size ⌝ }
 {
-    put(a, at, 1, 57);
-    put(a, at, 2, 0);
+    put(a, at, action::OPERATION, operation::COPY);
+    put(a, at, action::NUMBER, 0);
     put_value(
         a,
         at,
-        6,
+        action::INPUT_0,
         Value {
             kind: v.kind,
             number: v.number,
@@ -136,18 +156,18 @@ fn write_copy(a: &mut [u64], at: usize, v: Value, offset: u64, size: u64)
     );
 }
 
-// A subpiece becomes a Copy of part of its input: 50 or 42, or 0.
+// A subpiece becomes a Copy of part of its input: a refusal, or 0.
 fn subpiece_copy(a: &mut [u64], at: usize) -> u64
     ensures { λ r. ⌜ listed r (now (a .exit)) ≡ subpieceCopy (now (a .entry)) at ⌝ }
 {
-    let size = value_at(a, at, 4).size;
-    if size == 65535 {
-        return 50;
+    let size = value_at(a, at, action::OUTPUT).size;
+    if size == NONE {
+        return refusal::SUBPIECE_SIZE;
     }
-    let v = value_at(a, at, 6);
-    let offset = v.offset + get(a, at, 2) % 65536;
-    if 65535 < offset {
-        return 42;
+    let v = value_at(a, at, action::INPUT_0);
+    let offset = v.offset + get(a, at, action::NUMBER) % 65536;
+    if LAST_OFFSET < offset {
+        return refusal::OFFSET_TOO_FAR;
     }
     write_copy(a, at, v, offset, size);
     0
@@ -160,7 +180,7 @@ pub struct Finished {
 
 fn finish_op(
     s: &[u8],
-    t: &[u16; 3344],
+    t: &[u16; table::LENGTH],
     a: &mut [u64],
     m: &[u64],
     at: usize,
@@ -169,11 +189,11 @@ fn finish_op(
 ) -> Finished
     ensures { λ r. ⌜ listed r (now (a .exit)) ≡ finishOp (now (s .entry)) (now (t .entry)) (now (a .entry)) (now (m .entry)) at ptr z ⌝ }
 {
-    if get(a, at, 0) != 0 {
+    if get(a, at, action::KIND) != action_kind::OP {
         return Finished { refusal: 0, z };
     }
     let y = fix_operands(s, t, a, m, at, ptr, z);
-    if get(a, at, 1) != 66 {
+    if get(a, at, action::OPERATION) != operation::SUBPIECE {
         return Finished { refusal: 0, z: y };
     }
     Finished {
@@ -184,7 +204,7 @@ fn finish_op(
 
 pub fn finish_actions(
     s: &[u8],
-    t: &[u16; 3344],
+    t: &[u16; table::LENGTH],
     a: &mut [u64],
     m: &[u64],
     base: usize,
@@ -211,14 +231,14 @@ fn mark_built(a: &[u64], base: usize, n: usize, built: &mut [u64])
 {
     for i in 0..n {
         let at = place(base, i);
-        mark_build(get(a, at, 0), get(a, at, 2), built);
+        mark_build(get(a, at, action::KIND), get(a, at, action::NUMBER), built);
     }
 }
 
 fn mark_build(kind: u64, number: u64, built: &mut [u64])
     ensures { λ _. ⌜ now (built .exit) ≡ markBuild kind number (now (built .entry)) ⌝ }
 {
-    if kind != 5 {
+    if kind != action_kind::BUILD {
         return;
     }
     cells::put(built, number as usize, 1);
@@ -227,7 +247,7 @@ fn mark_build(kind: u64, number: u64, built: &mut [u64])
 fn zero_action(a: &mut [u64], at: usize)
     ensures { λ _. ⌜ now (a .exit) ≡ zeroAction (now (a .entry)) at ⌝ }
 {
-    for i in 0..24 {
+    for i in 0..action::WORDS {
         put(a, at, i, 0);
     }
 }
@@ -236,8 +256,8 @@ fn write_build(a: &mut [u64], at: usize, number: u64)
     ensures { λ _. ⌜ now (a .exit) ≡ writeBuild (now (a .entry)) at number ⌝ }
 {
     zero_action(a, at);
-    put(a, at, 0, 5);
-    put(a, at, 2, number);
+    put(a, at, action::KIND, action_kind::BUILD);
+    put(a, at, action::NUMBER, number);
 }
 
 // A Build of each of the first n subtables that is not built yet, from the list's start on: how many.
@@ -265,7 +285,7 @@ fn implicit_build(a: &mut [u64], built: &[u64], i: usize, k: usize) -> usize
 fn move_action(a: &mut [u64], from: usize, to: usize)
     ensures { λ _. ⌜ now (a .exit) ≡ moveAction (now (a .entry)) from to ⌝ }
 {
-    for i in 0..24 {
+    for i in 0..action::WORDS {
         let w = get(a, from, i);
         put(a, to, i, w);
     }

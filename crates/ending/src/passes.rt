@@ -1,4 +1,5 @@
 // The two passes over the n actions from a position on: backward, then forward with fallback.
+use codes::table;
 use pcode::sizes::Sizing;
 use pcode::sizes::record_errors;
 use pushing::passes::pass;
@@ -8,7 +9,7 @@ ghost use Rattle.ending.specs.Passes.{backwardPass, forwardPass};
 
 pub fn backward_pass(
     s: &[u8],
-    t: &[u16; 3344],
+    t: &[u16; table::LENGTH],
     a: &mut [u64],
     m: &mut [u64],
     base: usize,
@@ -24,7 +25,7 @@ pub fn backward_pass(
 
 pub fn forward_pass(
     s: &[u8],
-    t: &[u16; 3344],
+    t: &[u16; table::LENGTH],
     a: &mut [u64],
     m: &mut [u64],
     base: usize,

@@ -1,5 +1,11 @@
 // Expressions, resolved by a walk over their prefix code: each part one level deeper.
 use cells::u16_in;
+use codes::NONE;
+use codes::expression;
+use codes::header;
+use codes::operation;
+use codes::refusal;
+use codes::table;
 use meaning::args::Args;
 use meaning::args::put_arg;
 use meaning::scope::ExprValue;
@@ -19,6 +25,9 @@ use terms::address::resolve_address;
 use terms::answers::Expr;
 use terms::answers::Operand;
 use terms::answers::after;
+use terms::calls::INBUILT;
+use terms::calls::REFUSED;
+use terms::calls::USER_OP;
 use terms::calls::applied;
 use terms::calls::call_user_op;
 use terms::calls::callee_of;
@@ -27,6 +36,12 @@ use terms::slices::slice_bits;
 ghost use mathlib.Core.Path.{_≡_};
 ghost use Rattle.terms.specs.Answers.{resolved, operand, passed};
 ghost use Rattle.expression.specs.Expressions.{valueThen, meansAt, localAddress, addressOf, atom, plainAt, plainOperand, operationOf, later, skipExpr, operandsOf, apply1, apply2, partAt, withPart, exprValue, part, resolveOp, callInbuilt, resolveArgs, userOp, resolveCall, resolveExpr};
+
+// How deep expressions are nested at most.
+pub const DEPTH: u64 = 32;
+
+// What stands for an integer among the numbers of plain locals, which are 8 and more.
+const INTEGER: u64 = 7;
 
 // Where the operands of an operator stand, in the order in which they are resolved.
 pub struct Order {
@@ -62,13 +77,13 @@ fn local_address(x: ExprValue, size: u64, next: usize, st: State) -> Expr
             next,
             st,
         },
-        _ => Expr::No(30),
+        _ => Expr::No(refusal::ADDRESS_OF_NON_LOCAL),
     }
 }
 
 fn address_of(
     s: &[u8],
-    t: &[u16; 3344],
+    t: &[u16; table::LENGTH],
     p: &[u64],
     m: &[u64],
     pos: usize,
@@ -84,7 +99,15 @@ fn address_of(
 }
 
 // The name at a position. A plain local needs no `Meaning`.
-fn name_at(s: &[u8], t: &[u16; 3344], p: &[u64], m: &[u64], pos: usize, e: Env, st: State) -> Expr
+fn name_at(
+    s: &[u8],
+    t: &[u16; table::LENGTH],
+    p: &[u64],
+    m: &[u64],
+    pos: usize,
+    e: Env,
+    st: State,
+) -> Expr
     ensures { λ r. ⌜ r ≡ atom 0 (now (s .entry)) (now (t .entry)) (now (p .entry)) (now (m .entry)) pos e st ⌝ }
 {
     let name = u16_in(s, pos, 1);
@@ -103,7 +126,7 @@ fn name_at(s: &[u8], t: &[u16; 3344], p: &[u64], m: &[u64], pos: usize, e: Env, 
 fn atom(
     code: u64,
     s: &[u8],
-    t: &[u16; 3344],
+    t: &[u16; table::LENGTH],
     p: &[u64],
     m: &[u64],
     pos: usize,
@@ -113,11 +136,11 @@ fn atom(
     ensures { λ r. ⌜ r ≡ atom code (now (s .entry)) (now (t .entry)) (now (p .entry)) (now (m .entry)) pos e st ⌝ }
 {
     match code {
-        0 => name_at(s, t, p, m, pos, e, st),
-        1 => Expr::Value {
+        expression::IDENT => name_at(s, t, p, m, pos, e, st),
+        expression::INTEGER => Expr::Value {
             x: ExprValue::Const {
                 value: cells::u64_at(s, after(pos, 1)),
-                size: 65535,
+                size: NONE,
             },
             next: after(pos, 9),
             st,
@@ -131,12 +154,12 @@ fn operation_of(code: u64) -> u64
     ensures { λ r. ⌜ r ≡ operationOf code ⌝ }
 {
     match code {
-        33 => 12,
-        34 => 13,
-        35 => 10,
-        36 => 11,
-        37 => 20,
-        38 => 21,
+        expression::INT_GREATER => operation::INT_LESS,
+        expression::INT_GREATER_EQUAL => operation::INT_LESS_EQUAL,
+        expression::INT_SIGNED_GREATER => operation::INT_SIGNED_LESS,
+        expression::INT_SIGNED_GREATER_EQUAL => operation::INT_SIGNED_LESS_EQUAL,
+        expression::FLOAT_GREATER => operation::FLOAT_LESS,
+        expression::FLOAT_GREATER_EQUAL => operation::FLOAT_LESS_EQUAL,
         _ => code,
     }
 }
@@ -152,9 +175,9 @@ pub fn skip_expr(s: &[u8], pos: usize) -> usize
     ensures { λ r. ⌜ r ≡ skipExpr (now (s .entry)) pos ⌝ }
 {
     let c = syntax::expressions::expr(
-        32,
+        DEPTH,
         s,
-        cells::u16_at(s, 2),
+        cells::u16_at(s, header::NAMES),
         Cursor {
             at: pos,
             bad: 0,
@@ -172,7 +195,7 @@ fn operands_of(s: &[u8], pos: usize) -> Order
     let middle = skip_expr(s, first);
     let code = cells::byte(s, middle, 0);
     let second = after(middle, 1);
-    if code < 33 {
+    if code < expression::INT_GREATER {
         return Order {
             op: code,
             first,
@@ -209,14 +232,14 @@ fn apply2(op: u64, v: Value, end: usize, r: Operand) -> Expr
 fn part_at(code: u64) -> usize
     ensures { λ r. ⌜ r ≡ partAt code ⌝ }
 {
-    if code == 6 { 5 } else { 1 }
+    if code == expression::DEREF { 5 } else { 1 }
 }
 
 // A truncation, a slice or a dereference of a part that is resolved.
 fn with_part(
     code: u64,
     s: &[u8],
-    t: &[u16; 3344],
+    t: &[u16; table::LENGTH],
     a: &mut [u64],
     m: &mut [u64],
     pos: usize,
@@ -228,11 +251,11 @@ fn with_part(
     ensures { λ r. ⌜ resolved r (now (a .exit)) (now (m .exit)) ≡ withPart code (now (s .entry)) (now (t .entry)) (now (a .entry)) (now (m .entry)) pos e x next st ⌝ }
 {
     match code {
-        3 => {
+        expression::TRUNCATE => {
             let bits = 8 * u16_in(s, next, 0);
             slice_bits(s, t, a, m, e, x, 0, bits, after(next, 2), st)
         }
-        4 => {
+        expression::SLICE_BITS => {
             let from = u16_in(s, next, 0);
             let bits = u16_in(s, next, 2);
             slice_bits(s, t, a, m, e, x, from, bits, after(next, 4), st)
@@ -249,7 +272,7 @@ fn with_part(
 fn plain_at(
     deep: u64,
     s: &[u8],
-    t: &[u16; 3344],
+    t: &[u16; table::LENGTH],
     p: &[u64],
     m: &[u64],
     pos: usize,
@@ -263,8 +286,8 @@ fn plain_at(
     }
     let code = cells::byte(s, pos, 0);
     match code {
-        0 => plain_local(s, t, p, m, e, st, u16_in(s, pos, 1)),
-        1 => 7,
+        expression::IDENT => plain_local(s, t, p, m, e, st, u16_in(s, pos, 1)),
+        expression::INTEGER => INTEGER,
         _ => 0,
     }
 }
@@ -291,7 +314,7 @@ fn plain_operand(q: u64, s: &[u8], pos: usize, st: State) -> Operand
 pub fn expr_value(
     deep: u64,
     s: &[u8],
-    t: &[u16; 3344],
+    t: &[u16; table::LENGTH],
     p: &[u64],
     pos: usize,
     e: Env,
@@ -302,7 +325,7 @@ pub fn expr_value(
     ensures { λ r. ⌜ operand r (now (a .exit)) (now (m .exit)) ≡ exprValue (resolveExpr deep (now (s .entry)) (now (t .entry)) (now (p .entry)) e) (now (s .entry)) (now (t .entry)) e pos (now (a .entry)) (now (m .entry)) st ⌝ }
 {
     let q = plain_at(deep, s, t, p, m, pos, e, st);
-    if 7 <= q {
+    if INTEGER <= q {
         return plain_operand(q, s, pos, st);
     }
     match resolve_expr(deep, s, t, p, pos, e, a, m, st) {
@@ -316,7 +339,7 @@ fn part(
     deep: u64,
     code: u64,
     s: &[u8],
-    t: &[u16; 3344],
+    t: &[u16; table::LENGTH],
     p: &[u64],
     pos: usize,
     e: Env,
@@ -335,7 +358,7 @@ fn part(
 fn resolve_op(
     deep: u64,
     s: &[u8],
-    t: &[u16; 3344],
+    t: &[u16; table::LENGTH],
     p: &[u64],
     pos: usize,
     e: Env,
@@ -361,7 +384,7 @@ fn resolve_op(
 fn call_inbuilt(
     deep: u64,
     s: &[u8],
-    t: &[u16; 3344],
+    t: &[u16; table::LENGTH],
     p: &[u64],
     pos: usize,
     op: u64,
@@ -392,7 +415,7 @@ fn call_inbuilt(
 pub fn resolve_args(
     deep: u64,
     s: &[u8],
-    t: &[u16; 3344],
+    t: &[u16; table::LENGTH],
     p: &[u64],
     pos: usize,
     n: u64,
@@ -422,7 +445,7 @@ pub fn resolve_args(
 fn user_op(
     deep: u64,
     s: &[u8],
-    t: &[u16; 3344],
+    t: &[u16; table::LENGTH],
     p: &[u64],
     pos: usize,
     id: u64,
@@ -444,7 +467,7 @@ fn user_op(
 fn resolve_call(
     deep: u64,
     s: &[u8],
-    t: &[u16; 3344],
+    t: &[u16; table::LENGTH],
     p: &[u64],
     pos: usize,
     e: Env,
@@ -459,9 +482,9 @@ fn resolve_call(
     let c = callee_of(s, t, name, n);
     let kind = c.kind;
     match kind {
-        0 => call_inbuilt(deep, s, t, p, pos, c.number, n, e, a, m, st),
-        1 => user_op(deep, s, t, p, pos, c.number, n, e, a, m, st),
-        2 => Expr::No(c.number),
+        INBUILT => call_inbuilt(deep, s, t, p, pos, c.number, n, e, a, m, st),
+        USER_OP => user_op(deep, s, t, p, pos, c.number, n, e, a, m, st),
+        REFUSED => Expr::No(c.number),
         _ => subpiece(s, t, p, a, m, pos, name, n, e, st),
     }
 }
@@ -469,7 +492,7 @@ fn resolve_call(
 pub fn resolve_expr(
     deep: u64,
     s: &[u8],
-    t: &[u16; 3344],
+    t: &[u16; table::LENGTH],
     p: &[u64],
     pos: usize,
     e: Env,
@@ -480,20 +503,20 @@ pub fn resolve_expr(
     ensures { λ r. ⌜ resolved r (now (a .exit)) (now (m .exit)) ≡ resolveExpr deep (now (s .entry)) (now (t .entry)) (now (p .entry)) e pos (now (a .entry)) (now (m .entry)) st ⌝ }
 {
     if deep == 0 {
-        return Expr::No(4);
+        return Expr::No(refusal::OUTSIDE_LIMIT);
     }
     let code = cells::byte(s, pos, 0);
-    if code < 3 {
+    if code < expression::TRUNCATE {
         return atom(code, s, t, p, m, pos, e, st);
     }
-    if code == 5 {
+    if code == expression::OP {
         return resolve_op(deep - 1, s, t, p, pos, e, a, m, st);
     }
-    if code < 7 {
+    if code < expression::CONSTANT_POOL_REF {
         return part(deep - 1, code, s, t, p, pos, e, a, m, st);
     }
-    if code == 7 {
-        return Expr::No(32);
+    if code == expression::CONSTANT_POOL_REF {
+        return Expr::No(refusal::CONSTANT_POOL);
     }
     resolve_call(deep - 1, s, t, p, pos, e, a, m, st)
 }

@@ -1,4 +1,5 @@
 // The 22 spellings of `translate_inbuilt_func`, compared byte for byte with a name of the stream.
+use codes::operation;
 ghost use mathlib.Core.Path.{_≡_};
 ghost use Rattle.definition.specs.Base.{sameBytes};
 ghost use Rattle.inbuilts.specs.Inbuilts.{attempt, logical, carries, extensions, roundings, conversions, inbuiltOf, inbuiltAt};
@@ -27,48 +28,48 @@ fn attempt(w: &[u8], spelling: &[u8], op: u64, arguments: u64, other: Inbuilt) -
 fn logical(w: &[u8], r: Inbuilt) -> Inbuilt
     ensures { λ v. ⌜ v ≡ logical (now (w .entry)) r ⌝ }
 {
-    let r = attempt(w, b"nan", 42, 1, r);
-    let r = attempt(w, b"-", 41, 1, r);
-    let r = attempt(w, b"~", 40, 1, r);
-    attempt(w, b"!", 39, 1, r)
+    let r = attempt(w, b"nan", operation::FLOAT_IS_NAN, 1, r);
+    let r = attempt(w, b"-", operation::INT_NEGATE, 1, r);
+    let r = attempt(w, b"~", operation::INT_NOT, 1, r);
+    attempt(w, b"!", operation::BOOL_NOT, 1, r)
 }
 
 fn carries(w: &[u8], r: Inbuilt) -> Inbuilt
     ensures { λ v. ⌜ v ≡ carries (now (w .entry)) r ⌝ }
 {
-    let r = attempt(w, b"sborrow", 32, 2, r);
-    let r = attempt(w, b"scarry", 31, 2, r);
-    attempt(w, b"carry", 30, 2, r)
+    let r = attempt(w, b"sborrow", operation::INT_SIGNED_BORROW, 2, r);
+    let r = attempt(w, b"scarry", operation::INT_SIGNED_CARRY, 2, r);
+    attempt(w, b"carry", operation::INT_CARRY, 2, r)
 }
 
 fn extensions(w: &[u8], r: Inbuilt) -> Inbuilt
     ensures { λ v. ⌜ v ≡ extensions (now (w .entry)) r ⌝ }
 {
-    let r = attempt(w, b"abs", 46, 1, r);
-    let r = attempt(w, b"f-", 45, 1, r);
-    let r = attempt(w, b"sext", 44, 1, r);
-    let r = attempt(w, b"zxt", 43, 1, r);
-    attempt(w, b"zext", 43, 1, r)
+    let r = attempt(w, b"abs", operation::FLOAT_ABS, 1, r);
+    let r = attempt(w, b"f-", operation::FLOAT_NEGATE, 1, r);
+    let r = attempt(w, b"sext", operation::SIGN_EXTEND, 1, r);
+    let r = attempt(w, b"zxt", operation::ZERO_EXTEND, 1, r);
+    attempt(w, b"zext", operation::ZERO_EXTEND, 1, r)
 }
 
 fn roundings(w: &[u8], r: Inbuilt) -> Inbuilt
     ensures { λ v. ⌜ v ≡ roundings (now (w .entry)) r ⌝ }
 {
-    let r = attempt(w, b"trunc", 51, 1, r);
-    let r = attempt(w, b"round", 50, 1, r);
-    let r = attempt(w, b"floor", 49, 1, r);
-    let r = attempt(w, b"ceil", 48, 1, r);
-    attempt(w, b"sqrt", 47, 1, r)
+    let r = attempt(w, b"trunc", operation::FLOAT_TO_INT, 1, r);
+    let r = attempt(w, b"round", operation::FLOAT_ROUND, 1, r);
+    let r = attempt(w, b"floor", operation::FLOAT_FLOOR, 1, r);
+    let r = attempt(w, b"ceil", operation::FLOAT_CEIL, 1, r);
+    attempt(w, b"sqrt", operation::FLOAT_SQRT, 1, r)
 }
 
 fn conversions(w: &[u8], r: Inbuilt) -> Inbuilt
     ensures { λ v. ⌜ v ≡ conversions (now (w .entry)) r ⌝ }
 {
-    let r = attempt(w, b"lzcount", 56, 1, r);
-    let r = attempt(w, b"popcount", 55, 1, r);
-    let r = attempt(w, b"float2float", 54, 1, r);
-    let r = attempt(w, b"uint2float", 53, 1, r);
-    attempt(w, b"int2float", 52, 1, r)
+    let r = attempt(w, b"lzcount", operation::INT_COUNT_LEADING_ZEROES, 1, r);
+    let r = attempt(w, b"popcount", operation::INT_COUNT_ONES, 1, r);
+    let r = attempt(w, b"float2float", operation::FLOAT_TO_FLOAT, 1, r);
+    let r = attempt(w, b"uint2float", operation::UINT_TO_FLOAT, 1, r);
+    attempt(w, b"int2float", operation::INT_TO_FLOAT, 1, r)
 }
 
 // The built-in function of a name.

@@ -4,6 +4,12 @@ use crate::labels::get_or_insert_label;
 use crate::labels::labelled;
 use crate::labels::resolve_label;
 use cells::u16_in;
+use codes::operation;
+use codes::refusal;
+use codes::statement;
+use codes::table;
+use codes::value_kind;
+use expression::expr::DEPTH;
 use expression::expr::expr_value;
 use meaning::scope::ExprValue;
 use meaning::scope::Meaning;
@@ -29,7 +35,7 @@ ghost use Rattle.jumps.specs.Branches.{pushLabel, labelStatement, branch
 
 fn push_label(
     s: &[u8],
-    t: &[u16; 3344],
+    t: &[u16; table::LENGTH],
     a: &mut [u64],
     m: &mut [u64],
     e: Env,
@@ -47,7 +53,7 @@ fn push_label(
             a,
             m,
             e,
-            62,
+            operation::PCODE_LABEL,
             id,
             0,
             no_output(),
@@ -62,7 +68,7 @@ fn push_label(
 
 pub fn label_statement(
     s: &[u8],
-    t: &[u16; 3344],
+    t: &[u16; table::LENGTH],
     l: &mut [u64],
     a: &mut [u64],
     m: &mut [u64],
@@ -80,7 +86,7 @@ pub fn label_statement(
 
 fn branch_to(
     s: &[u8],
-    t: &[u16; 3344],
+    t: &[u16; table::LENGTH],
     a: &mut [u64],
     m: &mut [u64],
     e: Env,
@@ -94,7 +100,20 @@ fn branch_to(
 {
     let number = cells::byte(s, hint, 0);
     pushed_then(
-        push_op(s, t, a, m, e, 60, number, 2, no_output(), cond, address, st),
+        push_op(
+            s,
+            t,
+            a,
+            m,
+            e,
+            operation::BRANCH,
+            number,
+            2,
+            no_output(),
+            cond,
+            address,
+            st,
+        ),
         after(hint, 1),
         w,
     )
@@ -102,7 +121,7 @@ fn branch_to(
 
 fn branch_label(
     s: &[u8],
-    t: &[u16; 3344],
+    t: &[u16; table::LENGTH],
     a: &mut [u64],
     m: &mut [u64],
     e: Env,
@@ -116,7 +135,20 @@ fn branch_label(
 {
     let here = labelled(w, st, id, 0);
     pushed_then(
-        push_op(s, t, a, m, e, 61, id, 2, no_output(), cond, constant(0), st),
+        push_op(
+            s,
+            t,
+            a,
+            m,
+            e,
+            operation::PCODE_BRANCH,
+            id,
+            2,
+            no_output(),
+            cond,
+            constant(0),
+            st,
+        ),
         next,
         here,
     )
@@ -124,7 +156,7 @@ fn branch_label(
 
 fn label_branch(
     s: &[u8],
-    t: &[u16; 3344],
+    t: &[u16; table::LENGTH],
     l: &mut [u64],
     a: &mut [u64],
     m: &mut [u64],
@@ -145,7 +177,7 @@ fn label_branch(
 // What a jump goes to: a name, or an integer with a size.
 fn jump_value(
     s: &[u8],
-    t: &[u16; 3344],
+    t: &[u16; table::LENGTH],
     p: &[u64],
     m: &[u64],
     pos: usize,
@@ -154,7 +186,7 @@ fn jump_value(
 ) -> Meaning
     ensures { λ r. ⌜ r ≡ jumpValue (now (s .entry)) (now (t .entry)) (now (p .entry)) (now (m .entry)) pos e st ⌝ }
 {
-    if cells::byte(s, pos, 0) == 0 {
+    if cells::byte(s, pos, 0) == statement::JUMP_IDENT {
         return resolve_ident(s, t, p, m, e, st, u16_in(s, pos, 1));
     }
     Meaning::Means(ExprValue::Const {
@@ -166,7 +198,7 @@ fn jump_value(
 fn after_jump(s: &[u8], pos: usize) -> usize
     ensures { λ r. ⌜ r ≡ afterJump (now (s .entry)) pos ⌝ }
 {
-    if cells::byte(s, pos, 0) == 0 {
+    if cells::byte(s, pos, 0) == statement::JUMP_IDENT {
         return after(pos, 3);
     }
     after(pos, 11)
@@ -176,9 +208,9 @@ fn after_jump(s: &[u8], pos: usize) -> usize
 fn direct_address(v: Value, pointer: u64) -> Value
     ensures { λ r. ⌜ r ≡ directAddress pointer v ⌝ }
 {
-    if v.kind == 4 {
+    if v.kind == value_kind::SUBTABLE {
         return Value {
-            kind: 5,
+            kind: value_kind::SUBTABLE_REF,
             number: v.number,
             offset: v.offset,
             size: pointer,
@@ -189,7 +221,7 @@ fn direct_address(v: Value, pointer: u64) -> Value
 
 fn direct(
     s: &[u8],
-    t: &[u16; 3344],
+    t: &[u16; table::LENGTH],
     a: &mut [u64],
     m: &mut [u64],
     e: Env,
@@ -214,13 +246,13 @@ fn direct(
             st,
             w,
         ),
-        _ => stop(w, 29),
+        _ => stop(w, refusal::JUMP_TO_NON_LOCAL),
     }
 }
 
 fn indirect(
     s: &[u8],
-    t: &[u16; 3344],
+    t: &[u16; table::LENGTH],
     a: &mut [u64],
     m: &mut [u64],
     e: Env,
@@ -241,7 +273,7 @@ fn indirect(
 fn jump_to(
     code: u64,
     s: &[u8],
-    t: &[u16; 3344],
+    t: &[u16; table::LENGTH],
     a: &mut [u64],
     m: &mut [u64],
     e: Env,
@@ -253,7 +285,7 @@ fn jump_to(
 ) -> Step
     ensures { λ r. ⌜ stepped r (now (a .exit)) (now (m .exit)) ≡ jumpTo code (now (s .entry)) (now (t .entry)) (now (a .entry)) (now (m .entry)) e x cond hint st w ⌝ }
 {
-    if code == 0 {
+    if code == statement::DST_DIRECT {
         return direct(s, t, a, m, e, x, cond, hint, st, w);
     }
     indirect(s, t, a, m, e, x, cond, hint, st, w)
@@ -261,7 +293,7 @@ fn jump_to(
 
 fn jump(
     s: &[u8],
-    t: &[u16; 3344],
+    t: &[u16; table::LENGTH],
     p: &[u64],
     a: &mut [u64],
     m: &mut [u64],
@@ -283,7 +315,7 @@ fn jump(
 
 fn resolve_branch(
     s: &[u8],
-    t: &[u16; 3344],
+    t: &[u16; table::LENGTH],
     p: &[u64],
     l: &mut [u64],
     a: &mut [u64],
@@ -296,7 +328,7 @@ fn resolve_branch(
 ) -> Step
     ensures { λ r. ⌜ walked r (now (l .exit)) (now (a .exit)) (now (m .exit)) ≡ resolveBranch (now (s .entry)) (now (t .entry)) (now (p .entry)) (now (l .entry)) (now (a .entry)) (now (m .entry)) e pos cond st w ⌝ }
 {
-    if cells::byte(s, pos, 0) == 2 {
+    if cells::byte(s, pos, 0) == statement::DST_LABEL {
         return label_branch(s, t, l, a, m, e, pos, cond, st, w);
     }
     jump(s, t, p, a, m, e, pos, cond, st, w)
@@ -304,7 +336,7 @@ fn resolve_branch(
 
 pub fn branch(
     s: &[u8],
-    t: &[u16; 3344],
+    t: &[u16; table::LENGTH],
     p: &[u64],
     l: &mut [u64],
     a: &mut [u64],
@@ -320,7 +352,7 @@ pub fn branch(
 
 pub fn cond_branch(
     s: &[u8],
-    t: &[u16; 3344],
+    t: &[u16; table::LENGTH],
     p: &[u64],
     l: &mut [u64],
     a: &mut [u64],
@@ -331,7 +363,7 @@ pub fn cond_branch(
 ) -> Step
     ensures { λ r. ⌜ walked r (now (l .exit)) (now (a .exit)) (now (m .exit)) ≡ condBranch (now (s .entry)) (now (t .entry)) (now (p .entry)) (now (l .entry)) (now (a .entry)) (now (m .entry)) e pos w ⌝ }
 {
-    match expr_value(32, s, t, p, after(pos, 1), e, a, m, w.st) {
+    match expr_value(DEPTH, s, t, p, after(pos, 1), e, a, m, w.st) {
         Operand::No(n) => stop(w, n),
         Operand::Value { v, next, st } => resolve_branch(s, t, p, l, a, m, e, next, v, st, w),
     }

@@ -1,10 +1,16 @@
 // Labels. Each has a word in a list of its own: its name, its scope, whether it is placed.
+use codes::refusal;
 use pushing::push::State;
 use walking::walk::Walk;
 ghost use mathlib.Core.Path.{_≡_};
 ghost use Prim.Native.Nat.{_<_};
 ghost use Rattle.pcode.specs.Base.{listed};
 ghost use Rattle.jumps.specs.Labels.{findLabel, labelKey, getOrInsertLabel, placeLabel, resolveLabel, labelsAfter, labelled};
+
+const MOST_LABELS: u64 = 256;
+
+// A label that is placed has bit 32 in its word, above its name and scope.
+const PLACED: u64 = 4294967296;
 
 pub enum Label {
     Is(u64),
@@ -17,7 +23,7 @@ fn find_label(l: &[u64], n: u64, key: u64) -> u64
 {
     let mut i = 0;
     while i < n {
-        if cells::get(l, i as usize) % 4294967296 == key {
+        if cells::get(l, i as usize) % PLACED == key {
             return i;
         }
         i += 1;
@@ -40,8 +46,8 @@ pub fn get_or_insert_label(l: &mut [u64], name: u64, scope: u64, n: u64) -> Labe
     if i < n {
         return Label::Is(i);
     }
-    if 256 <= n {
-        return Label::No(14);
+    if MOST_LABELS <= n {
+        return Label::No(refusal::TOO_MANY_LABELS);
     }
     cells::put(l, n as usize, k);
     Label::Is(n)
@@ -50,10 +56,10 @@ pub fn get_or_insert_label(l: &mut [u64], name: u64, scope: u64, n: u64) -> Labe
 fn place_label(l: &mut [u64], id: u64, name: u64, scope: u64) -> Label
     ensures { λ r. ⌜ listed r (now (l .exit)) ≡ placeLabel (now (l .entry)) id name scope ⌝ }
 {
-    if 4294967296 <= cells::get(l, id as usize) {
-        return Label::No(27);
+    if PLACED <= cells::get(l, id as usize) {
+        return Label::No(refusal::LABEL_TWICE);
     }
-    cells::put(l, id as usize, 4294967296 + key(name, scope));
+    cells::put(l, id as usize, PLACED + key(name, scope));
     Label::Is(id)
 }
 

@@ -5,27 +5,46 @@ use crate::print::text;
 use crate::values::size;
 use crate::values::subtable;
 use crate::values::value;
+use codes::action;
+use codes::action_kind;
+use codes::operation;
+use codes::table;
+use codes::value_kind;
 
-fn input(s: &[u8], t: &[u16; 3344], temporaries: &[u64], a: &[u64], i: usize) {
-    let at = 6 + i % 8 * 2;
+// The second words of the output and the first input.
+const OUTPUT_WORD: usize = action::OUTPUT + 1;
+
+const INPUT_0_WORD: usize = action::INPUT_0 + 1;
+
+// The second word of an output that is not there.
+const NO_OUTPUT: u64 = 255;
+
+fn input(s: &[u8], t: &[u16; table::LENGTH], temporaries: &[u64], a: &[u64], i: usize) {
+    let at = action::INPUT_0 + i % 8 * 2;
     value(s, t, temporaries, cells::get(a, at), cells::get(a, at + 1));
 }
 
 // The output and an equals sign.
-fn output(s: &[u8], t: &[u16; 3344], temporaries: &[u64], a: &[u64]) {
-    value(s, t, temporaries, cells::get(a, 4), cells::get(a, 5));
+fn output(s: &[u8], t: &[u16; table::LENGTH], temporaries: &[u64], a: &[u64]) {
+    value(
+        s,
+        t,
+        temporaries,
+        cells::get(a, action::OUTPUT),
+        cells::get(a, OUTPUT_WORD),
+    );
     text(b" = ");
 }
 
 // An Op without output has 0 and 255.
 fn output_there(a: &[u64]) -> bool {
-    if cells::get(a, 4) != 0 {
+    if cells::get(a, action::OUTPUT) != 0 {
         return true;
     }
-    cells::get(a, 5) != 255
+    cells::get(a, OUTPUT_WORD) != NO_OUTPUT
 }
 
-fn maybe_output(s: &[u8], t: &[u16; 3344], temporaries: &[u64], a: &[u64]) {
+fn maybe_output(s: &[u8], t: &[u16; table::LENGTH], temporaries: &[u64], a: &[u64]) {
     if output_there(a) {
         output(s, t, temporaries, a);
     }
@@ -46,35 +65,35 @@ fn separator(i: u64, first: &[u8]) {
     text(b", ");
 }
 
-fn inputs(s: &[u8], t: &[u16; 3344], temporaries: &[u64], a: &[u64], first: &[u8]) {
-    let n = cells::get(a, 3) % 9;
+fn inputs(s: &[u8], t: &[u16; table::LENGTH], temporaries: &[u64], a: &[u64], first: &[u8]) {
+    let n = cells::get(a, action::INPUT_COUNT) % 9;
     for i in 0..n {
         separator(i, first);
         input(s, t, temporaries, a, i as usize);
     }
 }
 
-fn plain(s: &[u8], t: &[u16; 3344], temporaries: &[u64], a: &[u64]) {
+fn plain(s: &[u8], t: &[u16; table::LENGTH], temporaries: &[u64], a: &[u64]) {
     maybe_output(s, t, temporaries, a);
-    operation_name(cells::get(a, 1));
+    operation_name(cells::get(a, action::OPERATION));
     inputs(s, t, temporaries, a, b" ");
 }
 
 // A pointer in round brackets, behind the space that it points into.
-fn pointer(s: &[u8], t: &[u16; 3344], temporaries: &[u64], a: &[u64], space: &[u8]) {
+fn pointer(s: &[u8], t: &[u16; table::LENGTH], temporaries: &[u64], a: &[u64], space: &[u8]) {
     text(space);
     input(s, t, temporaries, a, 0);
     text(b")");
 }
 
-fn load(s: &[u8], t: &[u16; 3344], temporaries: &[u64], a: &[u64]) {
+fn load(s: &[u8], t: &[u16; table::LENGTH], temporaries: &[u64], a: &[u64]) {
     output(s, t, temporaries, a);
-    operation_name(58);
+    operation_name(operation::LOAD);
     pointer(s, t, temporaries, a, b" ram(");
 }
 
-fn store(s: &[u8], t: &[u16; 3344], temporaries: &[u64], a: &[u64]) {
-    operation_name(59);
+fn store(s: &[u8], t: &[u16; table::LENGTH], temporaries: &[u64], a: &[u64]) {
+    operation_name(operation::STORE);
     pointer(s, t, temporaries, a, b" ram(");
     text(b", ");
     input(s, t, temporaries, a, 1);
@@ -82,10 +101,10 @@ fn store(s: &[u8], t: &[u16; 3344], temporaries: &[u64], a: &[u64]) {
 
 // The condition of a branch stands in input 0, and is the constant 1 where there is none.
 fn is_conditional(a: &[u64]) -> bool {
-    if cells::get(a, 6) != 1 {
+    if cells::get(a, action::INPUT_0) != 1 {
         return true;
     }
-    cells::get(a, 7) % 256 != 7
+    cells::get(a, INPUT_0_WORD) % 256 != value_kind::CONSTANT
 }
 
 // BRANCH, or CBRANCH with a condition.
@@ -93,11 +112,11 @@ fn branch_name(a: &[u64]) {
     if is_conditional(a) {
         text(b"C");
     }
-    operation_name(cells::get(a, 1));
+    operation_name(cells::get(a, action::OPERATION));
     text(b" ");
 }
 
-fn condition(s: &[u8], t: &[u16; 3344], temporaries: &[u64], a: &[u64]) {
+fn condition(s: &[u8], t: &[u16; table::LENGTH], temporaries: &[u64], a: &[u64]) {
     if is_conditional(a) {
         text(b", ");
         input(s, t, temporaries, a, 0);
@@ -112,9 +131,9 @@ fn hint(n: u64) {
     }
 }
 
-fn branch(s: &[u8], t: &[u16; 3344], temporaries: &[u64], a: &[u64]) {
+fn branch(s: &[u8], t: &[u16; table::LENGTH], temporaries: &[u64], a: &[u64]) {
     branch_name(a);
-    hint(cells::get(a, 2));
+    hint(cells::get(a, action::NUMBER));
     input(s, t, temporaries, a, 1);
     condition(s, t, temporaries, a);
 }
@@ -125,90 +144,90 @@ fn label(n: u64) {
     text(b">");
 }
 
-fn label_branch(s: &[u8], t: &[u16; 3344], temporaries: &[u64], a: &[u64]) {
+fn label_branch(s: &[u8], t: &[u16; table::LENGTH], temporaries: &[u64], a: &[u64]) {
     branch_name(a);
-    label(cells::get(a, 2));
+    label(cells::get(a, action::NUMBER));
     condition(s, t, temporaries, a);
 }
 
 // A user op by its name.
-fn user_op(s: &[u8], t: &[u16; 3344], temporaries: &[u64], a: &[u64]) {
+fn user_op(s: &[u8], t: &[u16; table::LENGTH], temporaries: &[u64], a: &[u64]) {
     maybe_output(s, t, temporaries, a);
-    operation_name(63);
+    operation_name(operation::PCODE_OP);
     text(b" ");
-    name(spellings::names::user_op(s, t, cells::get(a, 2)));
+    name(spellings::names::user_op(s, t, cells::get(a, action::NUMBER)));
     inputs(s, t, temporaries, a, b", ");
 }
 
 // An operand of the user op that follows.
-fn arg(s: &[u8], t: &[u16; 3344], temporaries: &[u64], a: &[u64]) {
-    operation_name(64);
+fn arg(s: &[u8], t: &[u16; table::LENGTH], temporaries: &[u64], a: &[u64]) {
+    operation_name(operation::ARG);
     text(b" ");
-    number(cells::get(a, 2));
+    number(cells::get(a, action::NUMBER));
     inputs(s, t, temporaries, a, b", ");
 }
 
-fn operation(s: &[u8], t: &[u16; 3344], temporaries: &[u64], a: &[u64]) {
-    match cells::get(a, 1) {
-        58 => load(s, t, temporaries, a),
-        59 => store(s, t, temporaries, a),
-        60 => branch(s, t, temporaries, a),
-        61 => label_branch(s, t, temporaries, a),
-        63 => user_op(s, t, temporaries, a),
-        64 => arg(s, t, temporaries, a),
+fn operation(s: &[u8], t: &[u16; table::LENGTH], temporaries: &[u64], a: &[u64]) {
+    match cells::get(a, action::OPERATION) {
+        operation::LOAD => load(s, t, temporaries, a),
+        operation::STORE => store(s, t, temporaries, a),
+        operation::BRANCH => branch(s, t, temporaries, a),
+        operation::PCODE_BRANCH => label_branch(s, t, temporaries, a),
+        operation::PCODE_OP => user_op(s, t, temporaries, a),
+        operation::ARG => arg(s, t, temporaries, a),
         _ => plain(s, t, temporaries, a),
     }
 }
 
-fn address_of(s: &[u8], t: &[u16; 3344], temporaries: &[u64], a: &[u64]) {
+fn address_of(s: &[u8], t: &[u16; table::LENGTH], temporaries: &[u64], a: &[u64]) {
     output(s, t, temporaries, a);
     text(b"ADDRESS_OF ");
     input(s, t, temporaries, a, 0);
 }
 
 // A register access has a size beside its pointer's.
-fn load_register(s: &[u8], t: &[u16; 3344], temporaries: &[u64], a: &[u64]) {
+fn load_register(s: &[u8], t: &[u16; table::LENGTH], temporaries: &[u64], a: &[u64]) {
     output(s, t, temporaries, a);
-    operation_name(58);
+    operation_name(operation::LOAD);
     pointer(s, t, temporaries, a, b" register(");
-    size(cells::get(a, 2));
+    size(cells::get(a, action::NUMBER));
 }
 
-fn store_register(s: &[u8], t: &[u16; 3344], temporaries: &[u64], a: &[u64]) {
-    operation_name(59);
+fn store_register(s: &[u8], t: &[u16; table::LENGTH], temporaries: &[u64], a: &[u64]) {
+    operation_name(operation::STORE);
     pointer(s, t, temporaries, a, b" register(");
-    size(cells::get(a, 2));
+    size(cells::get(a, action::NUMBER));
     text(b", ");
     input(s, t, temporaries, a, 1);
 }
 
-fn build(s: &[u8], t: &[u16; 3344], a: &[u64]) {
+fn build(s: &[u8], t: &[u16; table::LENGTH], a: &[u64]) {
     text(b"BUILD ");
-    subtable(s, t, cells::get(a, 2));
+    subtable(s, t, cells::get(a, action::NUMBER));
 }
 
-fn kind(s: &[u8], t: &[u16; 3344], temporaries: &[u64], a: &[u64]) {
-    match cells::get(a, 0) {
-        0 => operation(s, t, temporaries, a),
-        1 => address_of(s, t, temporaries, a),
-        2 => load_register(s, t, temporaries, a),
-        3 => store_register(s, t, temporaries, a),
-        4 => text(b"DELAYSLOT"),
+fn kind(s: &[u8], t: &[u16; table::LENGTH], temporaries: &[u64], a: &[u64]) {
+    match cells::get(a, action::KIND) {
+        action_kind::OP => operation(s, t, temporaries, a),
+        action_kind::ADDRESS_OF => address_of(s, t, temporaries, a),
+        action_kind::LOAD_REGISTER => load_register(s, t, temporaries, a),
+        action_kind::STORE_REGISTER => store_register(s, t, temporaries, a),
+        action_kind::DELAY_SLOT => text(b"DELAYSLOT"),
         _ => build(s, t, a),
     }
 }
 
 fn is_label(a: &[u64]) -> bool {
-    if cells::get(a, 0) != 0 {
+    if cells::get(a, action::KIND) != action_kind::OP {
         return false;
     }
-    cells::get(a, 1) == 62
+    cells::get(a, action::OPERATION) == operation::PCODE_LABEL
 }
 
 // An action of 24 words.
-fn action(s: &[u8], t: &[u16; 3344], temporaries: &[u64], a: &[u64]) {
+fn action(s: &[u8], t: &[u16; table::LENGTH], temporaries: &[u64], a: &[u64]) {
     if is_label(a) {
-        label(cells::get(a, 2));
+        label(cells::get(a, action::NUMBER));
         text(b"\n");
         return;
     }
@@ -217,15 +236,21 @@ fn action(s: &[u8], t: &[u16; 3344], temporaries: &[u64], a: &[u64]) {
     text(b"\n");
 }
 
-fn action_in(s: &[u8], t: &[u16; 3344], temporaries: &[u64], list: &[u64], i: usize) {
-    if i < list.len() / 24 {
-        let from = 24 * i;
-        let to = 24 * i + 24;
+fn action_in(s: &[u8], t: &[u16; table::LENGTH], temporaries: &[u64], list: &[u64], i: usize) {
+    if i < list.len() / action::WORDS {
+        let from = action::WORDS * i;
+        let to = action::WORDS * i + action::WORDS;
         action(s, t, temporaries, &list[from..to]);
     }
 }
 
-pub(crate) fn actions(s: &[u8], t: &[u16; 3344], temporaries: &[u64], list: &[u64], n: u64) {
+pub(crate) fn actions(
+    s: &[u8],
+    t: &[u16; table::LENGTH],
+    temporaries: &[u64],
+    list: &[u64],
+    n: u64,
+) {
     for i in 0..n {
         action_in(s, t, temporaries, list, i as usize);
     }

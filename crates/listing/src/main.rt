@@ -1,6 +1,8 @@
 // Prints the p-code of a section file for a person: a line for each action, then the export, then the counts and whether the
 // checker accepts the list; or a refusal in plain words. What cannot be listed is said in a sentence on standard error.
 use actions::actions;
+use codes::export_kind;
+use codes::table;
 use libc::STDERR_FILENO;
 use mizgalon::Checked;
 use outcome::answer::Answer;
@@ -17,6 +19,13 @@ mod refusals;
 mod statements;
 mod values;
 
+// Room for 32,768 actions, for all temporaries, and for a file and one byte more.
+const WORDS: usize = 786432;
+
+const TEMPORARIES: usize = 512;
+
+const FILE: usize = 65537;
+
 fn say(text: &[u8]) {
     io::write_all(STDERR_FILENO, text);
 }
@@ -24,10 +33,10 @@ fn say(text: &[u8]) {
 // How the export is reached: it is a value, or stands behind a pointer.
 fn export_space(r: Answer) {
     text(b"  export ");
-    if r.kind == 1 {
+    if r.kind == export_kind::COMPUTED {
         return;
     }
-    if r.kind == 2 {
+    if r.kind == export_kind::RAM_REF {
         text(b"*[ram]");
     } else {
         text(b"*[register]");
@@ -36,7 +45,7 @@ fn export_space(r: Answer) {
     text(b" ");
 }
 
-fn export(s: &[u8], t: &[u16; 3344], temporaries: &[u64], r: Answer) {
+fn export(s: &[u8], t: &[u16; table::LENGTH], temporaries: &[u64], r: Answer) {
     if r.kind == 0 {
         return;
     }
@@ -67,7 +76,7 @@ fn closing(r: Answer, passes: bool) {
     verdict(passes);
 }
 
-fn accepted(s: &[u8], t: &[u16; 3344], list: &[u64], temporaries: &[u64], r: Checked) {
+fn accepted(s: &[u8], t: &[u16; table::LENGTH], list: &[u64], temporaries: &[u64], r: Checked) {
     let a = r.answer;
     actions(s, t, temporaries, list, a.actions);
     export(s, t, temporaries, a);
@@ -75,7 +84,7 @@ fn accepted(s: &[u8], t: &[u16; 3344], list: &[u64], temporaries: &[u64], r: Che
 }
 
 // The section of a stream and its table.
-fn list_section(s: &[u8], t: &[u16; 3344], list: &[u64], temporaries: &[u64], r: Checked) {
+fn list_section(s: &[u8], t: &[u16; table::LENGTH], list: &[u64], temporaries: &[u64], r: Checked) {
     let a = r.answer;
     if a.refusal != 0 {
         refusal_at(s, t, a);
@@ -88,12 +97,12 @@ fn list_section(s: &[u8], t: &[u16; 3344], list: &[u64], temporaries: &[u64], r:
 }
 
 // The same, where the table is an array.
-fn list_table(s: &[u8], t: &[u16; 3344], list: &[u64], temporaries: &[u64], r: Checked) {
+fn list_table(s: &[u8], t: &[u16; table::LENGTH], list: &[u64], temporaries: &[u64], r: Checked) {
     list_section(s, t, list, temporaries, r);
 }
 
 fn list_stream(s: &[u8], list: &[u64], temporaries: &[u64], r: Checked) {
-    let mut t = [0u16; 3344];
+    let mut t = [0u16; table::LENGTH];
     let bad = section::read_stream(s, &mut t);
     if bad != 0 {
         refusal(r.answer);
@@ -131,21 +140,25 @@ fn list_file(file: &[u8], list: &[u64], temporaries: &[u64], r: Checked) {
     list_blocks(file, list, temporaries, r);
 }
 
-fn list_lists(file: &[u8], list: &[u64; 786432], temporaries: &[u64; 512], r: Checked) {
+fn list_lists(file: &[u8], list: &[u64; WORDS], temporaries: &[u64; TEMPORARIES], r: Checked) {
     list_file(file, list, temporaries, r);
 }
 
-fn resolve_lists(file: &[u8], list: &mut [u64; 786432], temporaries: &mut [u64; 512]) -> Checked {
+fn resolve_lists(
+    file: &[u8],
+    list: &mut [u64; WORDS],
+    temporaries: &mut [u64; TEMPORARIES],
+) -> Checked {
     mizgalon::resolve_checked(file, list, temporaries)
 }
 
 // A section can have more actions than 32,768 (docs/DECISIONS.md says how many), but the usual stack of 8 MiB holds no longer
 // list.
 fn listing(file: &[u8]) {
-    let mut list = [0u64; 786432];
-    let mut temporaries = [0u64; 512];
+    let mut list = [0u64; WORDS];
+    let mut temporaries = [0u64; TEMPORARIES];
     let r = resolve_lists(file, &mut list, &mut temporaries);
-    if r.answer.refusal == 12 {
+    if r.answer.refusal == codes::refusal::LIST_FULL {
         say(b"listing: the section has more than 32,768 actions, for which it has no room\n");
         return;
     }
@@ -159,17 +172,17 @@ fn listing_first(file: &[u8], n: usize) {
     }
 }
 
-fn listing_read(file: &[u8; 65537], n: usize) {
+fn listing_read(file: &[u8; FILE], n: usize) {
     listing_first(file, n);
 }
 
-fn read_failed(fd: i32, file: &mut [u8; 65537]) -> bool {
+fn read_failed(fd: i32, file: &mut [u8; FILE]) -> bool {
     libc::read(fd, file) < 0
 }
 
 // A file of more than 65,536 bytes is not read to its end: one byte more is enough to refuse it.
 fn listing_open(fd: i32, path: &[u8]) {
-    let mut file = [0u8; 65537];
+    let mut file = [0u8; FILE];
     let n = io::read_full(fd, &mut file);
     if n == 0 {
         if read_failed(fd, &mut file) {

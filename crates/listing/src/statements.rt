@@ -2,20 +2,23 @@
 use crate::print::name;
 use crate::print::number;
 use crate::print::text;
+use codes::header;
+use codes::statement;
+use codes::table;
 use syntax::cursor::Cursor;
 
 fn kind(code: u64) {
     match code {
-        0 => text(b"unimplemented"),
-        1 => text(b"an export"),
-        2 => text(b"a local"),
-        3 => text(b"a local assignment"),
-        4 => text(b"a build"),
-        5 => text(b"a copy"),
-        6 => text(b"a store"),
-        7 => text(b"a call"),
-        8 => text(b"a branch"),
-        9 => text(b"a conditional branch"),
+        statement::UNIMPLEMENTED => text(b"unimplemented"),
+        statement::EXPORT => text(b"an export"),
+        statement::LOCAL => text(b"a local"),
+        statement::LOCAL_ASSIGNMENT => text(b"a local assignment"),
+        statement::BUILD => text(b"a build"),
+        statement::COPY => text(b"a copy"),
+        statement::STORE => text(b"a store"),
+        statement::CALL => text(b"a call"),
+        statement::BRANCH => text(b"a branch"),
+        statement::COND_BRANCH => text(b"a conditional branch"),
         _ => text(b"a label"),
     }
 }
@@ -23,7 +26,7 @@ fn kind(code: u64) {
 // Where statement n of those that begin at a place stands.
 fn place(s: &[u8], at: usize, n: u64) -> usize {
     let c = Cursor { at, bad: 0, val: 0 };
-    syntax::statements::body(s, cells::u16_at(s, 2), n, c).at
+    syntax::statements::body(s, cells::u16_at(s, header::NAMES), n, c).at
 }
 
 // The kind of statement n of those that begin at a place.
@@ -40,8 +43,8 @@ fn since(ordinal: u64, first: u64) -> u64 {
 }
 
 // The last macro whose body begins at the ordinal or before.
-fn macro_of(s: &[u8], t: &[u16; 3344], ordinal: u64) -> usize {
-    let n = cells::u16_at(s, 14) as usize;
+fn macro_of(s: &[u8], t: &[u16; table::LENGTH], ordinal: u64) -> usize {
+    let n = cells::u16_at(s, header::MACROS) as usize;
     let mut last: usize = 0;
     for i in 0..n {
         last = later(t, i, ordinal, last);
@@ -49,8 +52,8 @@ fn macro_of(s: &[u8], t: &[u16; 3344], ordinal: u64) -> usize {
     last
 }
 
-fn later(t: &[u16; 3344], i: usize, ordinal: u64, last: usize) -> usize {
-    if cells::get_u16(t, 3200 + i % 128) as u64 <= ordinal {
+fn later(t: &[u16; table::LENGTH], i: usize, ordinal: u64, last: usize) -> usize {
+    if cells::get_u16(t, table::MACRO_ORDINALS + i % 128) as u64 <= ordinal {
         return i;
     }
     last
@@ -62,14 +65,14 @@ fn body_at(s: &[u8], at: u16) -> usize {
 }
 
 // The name that stands at a place.
-fn macro_name(s: &[u8], t: &[u16; 3344], at: usize) {
+fn macro_name(s: &[u8], t: &[u16; table::LENGTH], at: usize) {
     name(spellings::names::name(s, t, cells::u16_at(s, at)));
 }
 
-fn in_macro(s: &[u8], t: &[u16; 3344], ordinal: u64) {
+fn in_macro(s: &[u8], t: &[u16; table::LENGTH], ordinal: u64) {
     let i = macro_of(s, t, ordinal) % 128;
-    let first = cells::get_u16(t, 3200 + i) as u64;
-    let at = cells::get_u16(t, 3072 + i);
+    let first = cells::get_u16(t, table::MACRO_ORDINALS + i) as u64;
+    let at = cells::get_u16(t, table::MACROS + i);
     kind_at(s, body_at(s, at), since(ordinal, first));
     text(b" in macro ");
     if 2 <= at {
@@ -77,17 +80,17 @@ fn in_macro(s: &[u8], t: &[u16; 3344], ordinal: u64) {
     }
 }
 
-fn described(s: &[u8], t: &[u16; 3344], ordinal: u64) {
-    let first = cells::get_u16(t, 3338) as u64;
+fn described(s: &[u8], t: &[u16; table::LENGTH], ordinal: u64) {
+    let first = cells::get_u16(t, table::FIRST_ORDINAL) as u64;
     if ordinal < first {
         in_macro(s, t, ordinal);
         return;
     }
-    let at = cells::get_u16(t, 3337) as usize;
+    let at = cells::get_u16(t, table::STATEMENTS) as usize;
     kind_at(s, at, since(ordinal, first));
 }
 
-pub(crate) fn statement(s: &[u8], t: &[u16; 3344], ordinal: u64) {
+pub(crate) fn statement(s: &[u8], t: &[u16; table::LENGTH], ordinal: u64) {
     text(b"at statement ");
     number(ordinal);
     text(b", ");

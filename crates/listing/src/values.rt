@@ -3,6 +3,13 @@ use crate::print::hexadecimal;
 use crate::print::name;
 use crate::print::number;
 use crate::print::text;
+use codes::NONE;
+use codes::header;
+use codes::table;
+use codes::value_kind;
+
+// The size stands in a value's second word from bit 24 on.
+const SIZE_PLACE: u64 = 16777216;
 
 // Whether a temporary but the one at i has the name n, as where a macro that declares it is called twice.
 fn is_shared(temporaries: &[u64], i: u64, n: u64) -> bool {
@@ -17,9 +24,9 @@ fn is_shared(temporaries: &[u64], i: u64, n: u64) -> bool {
 }
 
 // Its name, and its number where another has that name too; t and its number where it has none.
-fn temporary(s: &[u8], t: &[u16; 3344], temporaries: &[u64], i: u64) {
+fn temporary(s: &[u8], t: &[u16; table::LENGTH], temporaries: &[u64], i: u64) {
     let n = cells::get(temporaries, i as usize) % 65536;
-    if n == 65535 {
+    if n == NONE {
         text(b"t");
         number(i);
         return;
@@ -32,29 +39,29 @@ fn temporary(s: &[u8], t: &[u16; 3344], temporaries: &[u64], i: u64) {
 }
 
 // The name that stands at a place of the header.
-fn header_name(s: &[u8], t: &[u16; 3344], at: usize) {
+fn header_name(s: &[u8], t: &[u16; table::LENGTH], at: usize) {
     name(spellings::names::name(s, t, cells::u16_at(s, at)));
 }
 
-pub(crate) fn subtable(s: &[u8], t: &[u16; 3344], i: u64) {
+pub(crate) fn subtable(s: &[u8], t: &[u16; table::LENGTH], i: u64) {
     name(spellings::names::subtable(s, t, i));
 }
 
 // What a direct jump to a subtable goes to.
-fn reference(s: &[u8], t: &[u16; 3344], i: u64) {
+fn reference(s: &[u8], t: &[u16; table::LENGTH], i: u64) {
     text(b"&");
     subtable(s, t, i);
 }
 
-fn base(s: &[u8], t: &[u16; 3344], temporaries: &[u64], kind: u64, i: u64) {
+fn base(s: &[u8], t: &[u16; table::LENGTH], temporaries: &[u64], kind: u64, i: u64) {
     match kind {
-        0 => header_name(s, t, 26),
-        1 => header_name(s, t, 28),
-        2 => name(spellings::names::register(s, t, i)),
-        3 => name(spellings::names::field(s, t, i)),
-        4 => subtable(s, t, i),
-        5 => reference(s, t, i),
-        6 => temporary(s, t, temporaries, i),
+        value_kind::INST_START => header_name(s, t, header::INST_START),
+        value_kind::INST_NEXT => header_name(s, t, header::INST_NEXT),
+        value_kind::REGISTER => name(spellings::names::register(s, t, i)),
+        value_kind::FIELD => name(spellings::names::field(s, t, i)),
+        value_kind::SUBTABLE => subtable(s, t, i),
+        value_kind::SUBTABLE_REF => reference(s, t, i),
+        value_kind::PCODE_TMP => temporary(s, t, temporaries, i),
         _ => hexadecimal(i),
     }
 }
@@ -67,15 +74,15 @@ fn offset(n: u64) {
 }
 
 pub(crate) fn size(n: u64) {
-    if n != 65535 {
+    if n != NONE {
         text(b":");
         number(n);
     }
 }
 
 // The value of two words.
-pub(crate) fn value(s: &[u8], t: &[u16; 3344], temporaries: &[u64], i: u64, word: u64) {
+pub(crate) fn value(s: &[u8], t: &[u16; table::LENGTH], temporaries: &[u64], i: u64, word: u64) {
     base(s, t, temporaries, word % 256, i);
     offset(word / 256 % 65536);
-    size(word / 16777216);
+    size(word / SIZE_PLACE);
 }

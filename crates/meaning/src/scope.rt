@@ -1,4 +1,9 @@
 // What a name means: a macro parameter, inst_next, inst_start, a local, a global register or bit range.
+use codes::header;
+use codes::refusal;
+use codes::symbol_kind;
+use codes::table;
+use codes::value_kind;
 use pcode::sizes::entry;
 use pcode::value::Value;
 use pcode::value::absent;
@@ -9,6 +14,7 @@ use pcode::value::put_value;
 use pcode::value::value_at;
 use pushing::push::Env;
 use pushing::push::Read;
+use pushing::push::SCOPE_PLACE;
 use pushing::push::State;
 use pushing::push::add_tmp;
 ghost use mathlib.Core.Path.{_≡_};
@@ -16,6 +22,46 @@ ghost use Prim.Native.Nat.{_+_, _<_};
 ghost use Rattle.pcode.specs.Base.{listed};
 ghost use Rattle.meaning.specs.Slots.{oneValue, slotOf, ofSlot, putSlot, slotAt, paramPlace};
 ghost use Rattle.meaning.specs.Scopes.{findParam, isLocal, path, link, linked, onward, findLocal, attach, ownLocal, tmpLocal, lookupLocal, global, bitRange, otherGlobal, resolveIdent, plainFound, plainGlobal, plainInner, plainLocal, namedTmp};
+
+// The words of a slot: a parameter's name, the tag, two numbers, and two values of two words each.
+pub const SLOT_NAME: usize = 0;
+
+const SLOT_TAG: usize = 1;
+
+const SLOT_X: usize = 2;
+
+const SLOT_Y: usize = 3;
+
+pub const SLOT_A: usize = 4;
+
+const SLOT_B: usize = 6;
+
+// The tags, in the order of `ExprValue`; the last is that of a bit range.
+const LOCAL: u64 = 0;
+
+const UNBOUND: u64 = 1;
+
+const CONST: u64 = 2;
+
+const APPLY: u64 = 3;
+
+const RAM_REF: u64 = 4;
+
+const REGISTER_REF: u64 = 5;
+
+const ADDRESS_OF: u64 = 6;
+
+const BIT_RANGE: u64 = 7;
+
+// The numbers of inst_next and inst_start, as of plain locals.
+const INST_NEXT: u64 = value_kind::INST_NEXT + 8;
+
+const INST_START: u64 = value_kind::INST_START + 8;
+
+// The left link stands in a temporary's word from bit 32 on, the right one from bit 41 on.
+const LEFT_PLACE: u64 = 4294967296;
+
+const RIGHT_PLACE: u64 = 2199023255552;
 
 // What an expression means before it is read.
 pub enum ExprValue {
@@ -82,9 +128,9 @@ pub fn slot_of(x: ExprValue) -> Slot
     ensures { λ r. ⌜ r ≡ slotOf x ⌝ }
 {
     match x {
-        ExprValue::Local(v) => one_value(0, 0, 0, v),
-        ExprValue::Unbound(v) => one_value(1, 0, 0, v),
-        ExprValue::Const { value, size } => one_value(2, value, size, absent()),
+        ExprValue::Local(v) => one_value(LOCAL, 0, 0, v),
+        ExprValue::Unbound(v) => one_value(UNBOUND, 0, 0, v),
+        ExprValue::Const { value, size } => one_value(CONST, value, size, absent()),
         ExprValue::Apply {
             op,
             number,
@@ -92,16 +138,16 @@ pub fn slot_of(x: ExprValue) -> Slot
             a,
             b,
         } => Slot {
-            tag: 3,
+            tag: APPLY,
             x: op % 256 + count % 256 * 256,
             y: number,
             a,
             b,
         },
-        ExprValue::RamRef { pointer, size } => one_value(4, size, 0, pointer),
-        ExprValue::RegisterRef { pointer, size } => one_value(5, size, 0, pointer),
-        ExprValue::AddressOf { base, size } => one_value(6, size, 0, base),
-        ExprValue::BitRange { v, from, bits } => one_value(7, from, bits, v),
+        ExprValue::RamRef { pointer, size } => one_value(RAM_REF, size, 0, pointer),
+        ExprValue::RegisterRef { pointer, size } => one_value(REGISTER_REF, size, 0, pointer),
+        ExprValue::AddressOf { base, size } => one_value(ADDRESS_OF, size, 0, base),
+        ExprValue::BitRange { v, from, bits } => one_value(BIT_RANGE, from, bits, v),
     }
 }
 
@@ -114,25 +160,25 @@ pub fn of_slot(k: Slot) -> ExprValue
     let a = k.a;
     let b = k.b;
     match tag {
-        0 => ExprValue::Local(a),
-        1 => ExprValue::Unbound(a),
-        2 => ExprValue::Const { value: x, size: y },
-        3 => ExprValue::Apply {
+        LOCAL => ExprValue::Local(a),
+        UNBOUND => ExprValue::Unbound(a),
+        CONST => ExprValue::Const { value: x, size: y },
+        APPLY => ExprValue::Apply {
             op: x % 256,
             number: y,
             count: x / 256,
             a,
             b,
         },
-        4 => ExprValue::RamRef {
+        RAM_REF => ExprValue::RamRef {
             pointer: a,
             size: x,
         },
-        5 => ExprValue::RegisterRef {
+        REGISTER_REF => ExprValue::RegisterRef {
             pointer: a,
             size: x,
         },
-        6 => ExprValue::AddressOf { base: a, size: x },
+        ADDRESS_OF => ExprValue::AddressOf { base: a, size: x },
         _ => ExprValue::BitRange {
             v: a,
             from: x,
@@ -144,22 +190,22 @@ pub fn of_slot(k: Slot) -> ExprValue
 pub fn put_slot(p: &mut [u64], at: usize, k: Slot)
     ensures { λ _. ⌜ now (p .exit) ≡ putSlot (now (p .entry)) at k ⌝ }
 {
-    put(p, at, 1, k.tag);
-    put(p, at, 2, k.x);
-    put(p, at, 3, k.y);
-    put_value(p, at, 4, k.a);
-    put_value(p, at, 6, k.b);
+    put(p, at, SLOT_TAG, k.tag);
+    put(p, at, SLOT_X, k.x);
+    put(p, at, SLOT_Y, k.y);
+    put_value(p, at, SLOT_A, k.a);
+    put_value(p, at, SLOT_B, k.b);
 }
 
 pub fn slot_at(p: &[u64], at: usize) -> Slot
     ensures { λ r. ⌜ r ≡ slotAt (now (p .entry)) at ⌝ }
 {
     Slot {
-        tag: get(p, at, 1),
-        x: get(p, at, 2),
-        y: get(p, at, 3),
-        a: value_at(p, at, 4),
-        b: value_at(p, at, 6),
+        tag: get(p, at, SLOT_TAG),
+        x: get(p, at, SLOT_X),
+        y: get(p, at, SLOT_Y),
+        a: value_at(p, at, SLOT_A),
+        b: value_at(p, at, SLOT_B),
     }
 }
 
@@ -176,7 +222,7 @@ fn find_param(p: &[u64], count: usize, name: u64) -> usize
 {
     let mut i = count;
     while 0 < i {
-        if get(p, param_place(i - 1), 0) == name {
+        if get(p, param_place(i - 1), SLOT_NAME) == name {
             return i;
         }
         i -= 1;
@@ -188,7 +234,7 @@ fn is_local(w: u64, name: u64, scope: u64) -> bool
     ensures { λ r. ⌜ r ≡ isLocal w name scope ⌝ }
 {
     if w % 65536 == name {
-        w / 1125899906842624 == scope
+        w / SCOPE_PLACE == scope
     } else {
         false
     }
@@ -207,9 +253,9 @@ fn link(w: u64, h: u64) -> usize
     ensures { λ r. ⌜ r ≡ link w h ⌝ }
 {
     if h % 2 == 0 {
-        (w / 4294967296 % 512) as usize
+        (w / LEFT_PLACE % 512) as usize
     } else {
-        (w / 2199023255552 % 512) as usize
+        (w / RIGHT_PLACE % 512) as usize
     }
 }
 
@@ -218,11 +264,9 @@ fn linked(w: u64, h: u64, n: usize) -> u64
     ensures { λ r. ⌜ r ≡ linked w h n ⌝ }
 {
     if h % 2 == 0 {
-        w % 4294967296 + (n % 512) as u64 * 4294967296 + w / 2199023255552 * 2199023255552
+        w % LEFT_PLACE + (n % 512) as u64 * LEFT_PLACE + w / RIGHT_PLACE * RIGHT_PLACE
     } else {
-        w % 2199023255552
-            + (n % 512) as u64 * 2199023255552
-            + w / 1125899906842624 * 1125899906842624
+        w % RIGHT_PLACE + (n % 512) as u64 * RIGHT_PLACE + w / SCOPE_PLACE * SCOPE_PLACE
     }
 }
 
@@ -275,17 +319,17 @@ fn attach(m: &mut [u64], n: usize, name: u64, scope: u64)
 }
 
 // A field or a subtable as one number: kind + 8 × (1 + number), or 0 where there is none.
-fn plain_own(t: &[u16; 3344], name: u64) -> u64
+fn plain_own(t: &[u16; table::LENGTH], name: u64) -> u64
     ensures { λ r. ⌜ r ≡ plainFound (ownLocal (now (t .entry)) name) ⌝ }
 {
-    let k = cells::get_u16(t, 2048 + (name % 1024) as usize) as u64;
+    let k = cells::get_u16(t, table::LOCALS + (name % 1024) as usize) as u64;
     if k == 0 {
         return 0;
     }
     if k % 2 == 1 {
-        return 3 + 8 * (k / 2 + 1);
+        return value_kind::FIELD + 8 * (k / 2 + 1);
     }
-    4 + 8 * (k / 2)
+    value_kind::SUBTABLE + 8 * (k / 2)
 }
 
 fn plain_tmp(m: &[u64], n: usize, name: u64, scope: u64) -> u64
@@ -293,12 +337,12 @@ fn plain_tmp(m: &[u64], n: usize, name: u64, scope: u64) -> u64
 {
     let i = find_local(m, n, name, scope);
     if i < n {
-        return 6 + 8 * (i as u64 + 1);
+        return value_kind::PCODE_TMP + 8 * (i as u64 + 1);
     }
     0
 }
 
-fn plain_found(t: &[u16; 3344], m: &[u64], scope: u64, n: usize, name: u64) -> u64
+fn plain_found(t: &[u16; table::LENGTH], m: &[u64], scope: u64, n: usize, name: u64) -> u64
     ensures { λ r. ⌜ r ≡ plainFound (lookupLocal (now (t .entry)) (now (m .entry)) scope n name) ⌝ }
 {
     if scope != 0 {
@@ -312,25 +356,25 @@ fn plain_found(t: &[u16; 3344], m: &[u64], scope: u64, n: usize, name: u64) -> u
 }
 
 // A global of a name: 0, or 1 + kind + 8 × its place in that kind's list.
-pub fn global(t: &[u16; 3344], name: u64) -> u64
+pub fn global(t: &[u16; table::LENGTH], name: u64) -> u64
     ensures { λ r. ⌜ (r ≡ global (now (t .entry)) name) × (r < 65536) ⌝ }
 {
-    cells::get_u16(t, 1024 + (name % 1024) as usize) as u64
+    cells::get_u16(t, table::GLOBALS + (name % 1024) as usize) as u64
 }
 
-fn bit_range(s: &[u8], t: &[u16; 3344], i: u64) -> ExprValue
+fn bit_range(s: &[u8], t: &[u16; table::LENGTH], i: u64) -> ExprValue
     ensures { λ r. ⌜ r ≡ bitRange (now (s .entry)) (now (t .entry)) i ⌝ }
 {
-    let at = entry(t, 2, i % 65536 * 8);
+    let at = entry(t, table::BIT_RANGES, i % 65536 * 8);
     ExprValue::BitRange {
-        v: local(2, cells::u16_in(s, at, 2)),
+        v: local(value_kind::REGISTER, cells::u16_in(s, at, 2)),
         from: cells::u16_in(s, at, 4),
         bits: cells::u16_in(s, at, 6),
     }
 }
 
 // A global register as one number; 0 for a bit range, 1 where a name means nothing or a wrong thing.
-fn plain_global(t: &[u16; 3344], name: u64) -> u64
+fn plain_global(t: &[u16; table::LENGTH], name: u64) -> u64
     ensures { λ r. ⌜ r ≡ plainGlobal (global (now (t .entry)) name) ⌝ }
 {
     let g = global(t, name);
@@ -339,20 +383,20 @@ fn plain_global(t: &[u16; 3344], name: u64) -> u64
     }
     let kind = (g - 1) % 8;
     match kind {
-        1 => 2 + 8 * ((g - 1) / 8 + 1),
-        2 => 0,
+        symbol_kind::REGISTER => value_kind::REGISTER + 8 * ((g - 1) / 8 + 1),
+        symbol_kind::BIT_RANGE => 0,
         _ => 1,
     }
 }
 
-fn plain_inner(s: &[u8], t: &[u16; 3344], m: &[u64], e: Env, st: State, name: u64) -> u64
+fn plain_inner(s: &[u8], t: &[u16; table::LENGTH], m: &[u64], e: Env, st: State, name: u64) -> u64
     ensures { λ r. ⌜ r ≡ plainInner (now (s .entry)) (now (t .entry)) (now (m .entry)) e st name ⌝ }
 {
-    if name == cells::u16_at(s, 28) {
-        return 9;
+    if name == cells::u16_at(s, header::INST_NEXT) {
+        return INST_NEXT;
     }
-    if name == cells::u16_at(s, 26) {
-        return 8;
+    if name == cells::u16_at(s, header::INST_START) {
+        return INST_START;
     }
     let q = plain_found(t, m, e.scope, st.temporaries, name);
     if q == 0 {
@@ -365,7 +409,7 @@ fn plain_inner(s: &[u8], t: &[u16; 3344], m: &[u64], e: Env, st: State, name: u6
 // 0 for what only `resolve_ident` tells.
 pub fn plain_local(
     s: &[u8],
-    t: &[u16; 3344],
+    t: &[u16; table::LENGTH],
     p: &[u64],
     m: &[u64],
     e: Env,
@@ -381,22 +425,22 @@ pub fn plain_local(
 }
 
 // What a global means that is no register.
-fn other_global(s: &[u8], t: &[u16; 3344], name: u64) -> Meaning
+fn other_global(s: &[u8], t: &[u16; table::LENGTH], name: u64) -> Meaning
     ensures { λ r. ⌜ r ≡ otherGlobal (now (s .entry)) (now (t .entry)) (global (now (t .entry)) name) ⌝ }
 {
     let g = global(t, name);
     if g == 0 {
-        return Meaning::Wrong(22);
+        return Meaning::Wrong(refusal::UNDEFINED);
     }
-    if (g - 1) % 8 == 2 {
+    if (g - 1) % 8 == symbol_kind::BIT_RANGE {
         return Meaning::Means(bit_range(s, t, (g - 1) / 8));
     }
-    Meaning::Wrong(23)
+    Meaning::Wrong(refusal::WRONG_KIND)
 }
 
 pub fn resolve_ident(
     s: &[u8],
-    t: &[u16; 3344],
+    t: &[u16; table::LENGTH],
     p: &[u64],
     m: &[u64],
     e: Env,
@@ -417,14 +461,21 @@ pub fn resolve_ident(
 }
 
 // A named temporary is made, then declared.
-pub fn named_tmp(t: &[u16; 3344], m: &mut [u64], e: Env, name: u64, size: u64, st: State) -> Read
+pub fn named_tmp(
+    t: &[u16; table::LENGTH],
+    m: &mut [u64],
+    e: Env,
+    name: u64,
+    size: u64,
+    st: State,
+) -> Read
     ensures { λ r. ⌜ listed r (now (m .exit)) ≡ namedTmp (now (t .entry)) (now (m .entry)) e name size st ⌝ }
 {
     match add_tmp(m, name, size, e.scope, st) {
         Read::No(n) => Read::No(n),
         Read::Value { v, st: next } => {
             if plain_found(t, m, e.scope, st.temporaries, name) != 0 {
-                return Read::No(21);
+                return Read::No(refusal::REDECLARED);
             }
             attach(m, st.temporaries, name, e.scope);
             Read::Value { v, st: next }

@@ -1,5 +1,6 @@
 // The answer, its twelve numbers, and what the two lent lists hold with it: zeros after a refusal, else the actions in their
 // final order and the temporaries without the marks of their scopes.
+use codes::NONE;
 use pcode::value::word;
 use walking::walk::Export;
 use walking::walk::Walk;
@@ -109,7 +110,7 @@ pub fn accepted(
     let e = export_words(x);
     Answer {
         refusal: 0,
-        ordinal: 65535,
+        ordinal: NONE,
         statements: w.statements,
         actions: k as u64,
         temporaries: nt as u64,

@@ -2,6 +2,10 @@
 use crate::answer::Answer;
 use crate::answer::accepted;
 use crate::answer::refused;
+use codes::action;
+use codes::header;
+use codes::refusal;
+use codes::table;
 use pcode::sizes::Sizing;
 use pcode::value::place;
 use walking::walk::Export;
@@ -24,14 +28,14 @@ fn judged(
     ensures { λ r. ⌜ resolvedTo r (now (a .exit)) (now (m .exit)) ≡ judged (now (a .entry)) (now (m .entry)) subtables n w x z ⌝ }
 {
     if z.errors != 0 {
-        return refused(a, m, 51, z.first, z.errors);
+        return refused(a, m, refusal::ERRORS_RECORDED, z.first, z.errors);
     }
     accepted(a, m, subtables, n, w, x)
 }
 
 fn finish_export(
     s: &[u8],
-    t: &[u16; 3344],
+    t: &[u16; table::LENGTH],
     a: &mut [u64],
     m: &mut [u64],
     subtables: usize,
@@ -60,7 +64,7 @@ fn finish_export(
 // From the actions with the sizes that the passes found.
 fn finish_sized(
     s: &[u8],
-    t: &[u16; 3344],
+    t: &[u16; table::LENGTH],
     a: &mut [u64],
     m: &mut [u64],
     subtables: usize,
@@ -86,12 +90,12 @@ fn actions_between(base: usize, end: usize) -> usize
     if end < base {
         return 0;
     }
-    (end - base) / 24
+    (end - base) / action::WORDS
 }
 
 fn both_passes(
     s: &[u8],
-    t: &[u16; 3344],
+    t: &[u16; table::LENGTH],
     a: &mut [u64],
     m: &mut [u64],
     base: usize,
@@ -105,10 +109,17 @@ fn both_passes(
     ending::passes::forward_pass(s, t, a, m, base, n, ptr, y)
 }
 
-pub fn finish(s: &[u8], t: &[u16; 3344], a: &mut [u64], m: &mut [u64], ptr: u64, w: Walk) -> Answer
+pub fn finish(
+    s: &[u8],
+    t: &[u16; table::LENGTH],
+    a: &mut [u64],
+    m: &mut [u64],
+    ptr: u64,
+    w: Walk,
+) -> Answer
     ensures { λ r. ⌜ resolvedTo r (now (a .exit)) (now (m .exit)) ≡ finish (now (s .entry)) (now (t .entry)) (now (a .entry)) (now (m .entry)) ptr w ⌝ }
 {
-    let subtables = cells::u16_at(s, 20) as usize;
+    let subtables = cells::u16_at(s, header::SUBTABLES) as usize;
     let base = place(0, subtables);
     let n = actions_between(base, w.st.end);
     let z = both_passes(s, t, a, m, base, n, ptr, w.st.sizing);

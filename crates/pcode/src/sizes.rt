@@ -1,12 +1,20 @@
 // Known sizes, and setting one: in the operand, in its temporary, or as a recorded error. In all of these s is the stream, t
 // the section's table, a the actions and m the temporaries.
+use crate::value::SIZE_PLACE;
 use crate::value::Value;
 use crate::value::get;
 use crate::value::put_size;
 use crate::value::value_at;
+use codes::NONE;
+use codes::action;
+use codes::table;
+use codes::value_kind;
 ghost use mathlib.Core.Path.{_≡_};
 ghost use Prim.Native.Nat.{_<_};
 ghost use Rattle.pcode.specs.Sizes.{Settles, Counted, entry, listSize, exportSizeOf, tmpSize, listedSize, sizeOf, sizeAt, sumOfErrors, recorded, sizeTemporary, settled, setOperand, setTwo, setThree, fallsBack, pairFallback, setSizeOfPair, tripleFallsBack, tripleFallback, shareSize, allEqual, setSizeOfTriple, setUnsized};
+
+// The greatest number of a word.
+const MOST: u64 = 18446744073709551615;
 
 // The ordinal of the statement begun last, the errors recorded and the first one's ordinal.
 pub struct Sizing {
@@ -16,24 +24,24 @@ pub struct Sizing {
 }
 
 // A position so many bytes into list k.
-pub fn entry(t: &[u16; 3344], k: usize, bytes: u64) -> usize
+pub fn entry(t: &[u16; table::LENGTH], k: usize, bytes: u64) -> usize
     ensures { λ r. ⌜ r ≡ entry (now (t .entry)) k bytes ⌝ }
 {
-    cells::get_u16(t, 3328 + k % 16) as usize + (bytes % 1048576) as usize
+    cells::get_u16(t, table::LISTS + k % 16) as usize + (bytes % 1048576) as usize
 }
 
 // The size of entry i of list k, whose entries are a name and a size.
-fn list_size(s: &[u8], t: &[u16; 3344], k: usize, i: u64) -> u64
+fn list_size(s: &[u8], t: &[u16; table::LENGTH], k: usize, i: u64) -> u64
     ensures { λ r. ⌜ r ≡ listSize (now (s .entry)) (now (t .entry)) k i ⌝ }
 {
     cells::u16_at(s, entry(t, k, i % 65536 * 4 + 2))
 }
 
 // The size of a subtable's table export.
-fn export_size(s: &[u8], t: &[u16; 3344], i: u64) -> u64
+fn export_size(s: &[u8], t: &[u16; table::LENGTH], i: u64) -> u64
     ensures { λ r. ⌜ r ≡ exportSizeOf (now (s .entry)) (now (t .entry)) i ⌝ }
 {
-    list_size(s, t, 3, list_size(s, t, 8, i))
+    list_size(s, t, table::TABLES, list_size(s, t, table::SUBTABLES, i))
 }
 
 fn tmp_size(m: &[u64], i: u64) -> u64
@@ -44,42 +52,42 @@ fn tmp_size(m: &[u64], i: u64) -> u64
 
 // The size of a register, table export or field. It is called from two places below, so that what is tested before it stays
 // small enough to be compiled into every place that asks for a size.
-fn listed_size(s: &[u8], t: &[u16; 3344], kind: u64, number: u64) -> u64
+fn listed_size(s: &[u8], t: &[u16; table::LENGTH], kind: u64, number: u64) -> u64
     ensures { λ r. ⌜ r ≡ listedSize (now (s .entry)) (now (t .entry)) kind number ⌝ }
 {
     match kind {
-        2 => list_size(s, t, 1, number),
-        3 => list_size(s, t, 7, number),
-        4 => export_size(s, t, number),
-        5 => export_size(s, t, number),
-        _ => 65535,
+        value_kind::REGISTER => list_size(s, t, table::REGISTERS, number),
+        value_kind::FIELD => list_size(s, t, table::FIELDS, number),
+        value_kind::SUBTABLE => export_size(s, t, number),
+        value_kind::SUBTABLE_REF => export_size(s, t, number),
+        _ => NONE,
     }
 }
 
 // The known size, 65,535 for none.
-pub fn size_of(s: &[u8], t: &[u16; 3344], m: &[u64], v: Value) -> u64
+pub fn size_of(s: &[u8], t: &[u16; table::LENGTH], m: &[u64], v: Value) -> u64
     ensures { λ r. ⌜ r ≡ sizeOf (now (s .entry)) (now (t .entry)) (now (m .entry)) v ⌝ }
 {
-    if v.size != 65535 {
+    if v.size != NONE {
         return v.size;
     }
-    if v.kind == 6 {
+    if v.kind == value_kind::PCODE_TMP {
         return tmp_size(m, v.number);
     }
     listed_size(s, t, v.kind, v.number)
 }
 
-fn size_at(s: &[u8], t: &[u16; 3344], a: &[u64], m: &[u64], at: usize, i: usize) -> u64
+fn size_at(s: &[u8], t: &[u16; table::LENGTH], a: &[u64], m: &[u64], at: usize, i: usize) -> u64
     requires { ⌜ i < 32 ⌝ }
     ensures { λ r. ⌜ r ≡ sizeAt (now (s .entry)) (now (t .entry)) (now (a .entry)) (now (m .entry)) at i ⌝ }
 {
     let w = get(a, at, i + 1);
-    let own = w / 16777216 % 65536;
-    if own != 65535 {
+    let own = w / SIZE_PLACE % 65536;
+    if own != NONE {
         return own;
     }
     let number = get(a, at, i);
-    if w % 256 == 6 {
+    if w % 256 == value_kind::PCODE_TMP {
         return tmp_size(m, number);
     }
     listed_size(s, t, w % 256, number)
@@ -89,10 +97,10 @@ fn size_at(s: &[u8], t: &[u16; 3344], a: &[u64], m: &[u64], at: usize, i: usize)
 pub fn sum_of_errors(x: u64, y: u64) -> u64
     ensures { λ r. ⌜ r ≡ sumOfErrors x y ⌝ }
 {
-    if y <= 18446744073709551615 - x {
+    if y <= MOST - x {
         return x + y;
     }
-    18446744073709551615
+    MOST
 }
 
 // So many errors more.
@@ -120,7 +128,7 @@ pub fn record_errors(z: Sizing, n: u64) -> Sizing
 fn size_temporary(m: &mut [u64], v: Value, size: u64)
     ensures { λ _. ⌜ now (m .exit) ≡ sizeTemporary (now (m .entry)) v size ⌝ }
 {
-    if v.kind != 6 {
+    if v.kind != value_kind::PCODE_TMP {
         return;
     }
     let i = v.number as usize;
@@ -136,14 +144,14 @@ fn size_temporary(m: &mut [u64], v: Value, size: u64)
 pub fn settle(m: &mut [u64], v: Value, known: u64, size: u64) -> u64
     ensures { λ r. ⌜ Settles r (now (m .exit)) (settled (now (m .entry)) v known size) ⌝ }
 {
-    if known == 65535 {
+    if known == NONE {
         size_temporary(m, v, size);
         return 0;
     }
     if known == size {
         return 0;
     }
-    if v.kind == 4 {
+    if v.kind == value_kind::SUBTABLE {
         return 0;
     }
     1
@@ -152,7 +160,7 @@ pub fn settle(m: &mut [u64], v: Value, known: u64, size: u64) -> u64
 // Sets the size of the operand i after a position.
 pub fn set_operand(
     s: &[u8],
-    t: &[u16; 3344],
+    t: &[u16; table::LENGTH],
     a: &mut [u64],
     m: &mut [u64],
     at: usize,
@@ -170,7 +178,7 @@ pub fn set_operand(
 
 fn set_two(
     s: &[u8],
-    t: &[u16; 3344],
+    t: &[u16; table::LENGTH],
     a: &mut [u64],
     m: &mut [u64],
     at: usize,
@@ -188,7 +196,7 @@ fn set_two(
 
 pub fn set_three(
     s: &[u8],
-    t: &[u16; 3344],
+    t: &[u16; table::LENGTH],
     a: &mut [u64],
     m: &mut [u64],
     at: usize,
@@ -196,8 +204,8 @@ pub fn set_three(
 ) -> u64
     ensures { λ r. ⌜ Counted r (now (a .exit)) (now (m .exit)) (setThree (now (s .entry)) (now (t .entry)) (now (a .entry)) (now (m .entry)) at size) ⌝ }
 {
-    let x = set_two(s, t, a, m, at, 6, 8, size);
-    let y = set_operand(s, t, a, m, at, 4, size);
+    let x = set_two(s, t, a, m, at, action::INPUT_0, action::INPUT_1, size);
+    let y = set_operand(s, t, a, m, at, action::OUTPUT, size);
     sum_of_errors(x, y)
 }
 
@@ -207,17 +215,17 @@ pub fn falls_back(v: Value) -> bool
 {
     let kind = v.kind;
     match kind {
-        0 => true,
-        1 => true,
-        3 => true,
-        7 => true,
+        value_kind::INST_START => true,
+        value_kind::INST_NEXT => true,
+        value_kind::FIELD => true,
+        value_kind::CONSTANT => true,
         _ => false,
     }
 }
 
 fn pair_fallback(
     s: &[u8],
-    t: &[u16; 3344],
+    t: &[u16; table::LENGTH],
     fallback: bool,
     a: &mut [u64],
     m: &mut [u64],
@@ -243,7 +251,7 @@ fn pair_fallback(
 // Two operands have one size.
 pub fn set_size_of_pair(
     s: &[u8],
-    t: &[u16; 3344],
+    t: &[u16; table::LENGTH],
     fallback: bool,
     a: &mut [u64],
     m: &mut [u64],
@@ -257,8 +265,8 @@ pub fn set_size_of_pair(
 {
     let x = size_at(s, t, a, m, at, i);
     let y = size_at(s, t, a, m, at, j);
-    if x == 65535 {
-        if y == 65535 {
+    if x == NONE {
+        if y == NONE {
             return pair_fallback(s, t, fallback, a, m, at, i, j, ptr);
         }
         return set_operand(s, t, a, m, at, i, y);
@@ -272,18 +280,18 @@ pub fn set_size_of_pair(
 fn triple_falls_back(a: &[u64], at: usize) -> bool
     ensures { λ r. ⌜ r ≡ tripleFallsBack (now (a .entry)) at ⌝ }
 {
-    if falls_back(value_at(a, at, 6)) {
+    if falls_back(value_at(a, at, action::INPUT_0)) {
         return true;
     }
-    if falls_back(value_at(a, at, 8)) {
+    if falls_back(value_at(a, at, action::INPUT_1)) {
         return true;
     }
-    falls_back(value_at(a, at, 4))
+    falls_back(value_at(a, at, action::OUTPUT))
 }
 
 fn triple_fallback(
     s: &[u8],
-    t: &[u16; 3344],
+    t: &[u16; table::LENGTH],
     fallback: bool,
     a: &mut [u64],
     m: &mut [u64],
@@ -303,7 +311,7 @@ fn triple_fallback(
 // The other two take the size of the first known one.
 fn share_size(
     s: &[u8],
-    t: &[u16; 3344],
+    t: &[u16; table::LENGTH],
     a: &mut [u64],
     m: &mut [u64],
     at: usize,
@@ -313,13 +321,13 @@ fn share_size(
 ) -> u64
     ensures { λ r. ⌜ Counted r (now (a .exit)) (now (m .exit)) (shareSize (now (s .entry)) (now (t .entry)) (now (a .entry)) (now (m .entry)) at x y w) ⌝ }
 {
-    if x != 65535 {
-        return set_two(s, t, a, m, at, 8, 4, x);
+    if x != NONE {
+        return set_two(s, t, a, m, at, action::INPUT_1, action::OUTPUT, x);
     }
-    if y != 65535 {
-        return set_two(s, t, a, m, at, 6, 4, y);
+    if y != NONE {
+        return set_two(s, t, a, m, at, action::INPUT_0, action::OUTPUT, y);
     }
-    set_two(s, t, a, m, at, 6, 8, w)
+    set_two(s, t, a, m, at, action::INPUT_0, action::INPUT_1, w)
 }
 
 fn all_equal(x: u64, y: u64, w: u64) -> bool
@@ -331,7 +339,7 @@ fn all_equal(x: u64, y: u64, w: u64) -> bool
 // Both inputs and the output have one size.
 pub fn set_size_of_triple(
     s: &[u8],
-    t: &[u16; 3344],
+    t: &[u16; table::LENGTH],
     fallback: bool,
     a: &mut [u64],
     m: &mut [u64],
@@ -340,11 +348,11 @@ pub fn set_size_of_triple(
 ) -> u64
     ensures { λ r. ⌜ Counted r (now (a .exit)) (now (m .exit)) (setSizeOfTriple (now (s .entry)) (now (t .entry)) fallback (now (a .entry)) (now (m .entry)) at ptr) ⌝ }
 {
-    let x = size_at(s, t, a, m, at, 6);
-    let y = size_at(s, t, a, m, at, 8);
-    let w = size_at(s, t, a, m, at, 4);
+    let x = size_at(s, t, a, m, at, action::INPUT_0);
+    let y = size_at(s, t, a, m, at, action::INPUT_1);
+    let w = size_at(s, t, a, m, at, action::OUTPUT);
     if all_equal(x, y, w) {
-        if x == 65535 {
+        if x == NONE {
             return triple_fallback(s, t, fallback, a, m, at, ptr);
         }
         return 0;
@@ -355,7 +363,7 @@ pub fn set_size_of_triple(
 // An operand with no known size takes pointer size.
 pub fn set_unsized(
     s: &[u8],
-    t: &[u16; 3344],
+    t: &[u16; table::LENGTH],
     a: &mut [u64],
     m: &mut [u64],
     at: usize,
@@ -365,7 +373,7 @@ pub fn set_unsized(
     requires { ⌜ i < 32 ⌝ }
     ensures { λ r. ⌜ Counted r (now (a .exit)) (now (m .exit)) (setUnsized (now (s .entry)) (now (t .entry)) (now (a .entry)) (now (m .entry)) at i ptr) ⌝ }
 {
-    if size_at(s, t, a, m, at, i) == 65535 {
+    if size_at(s, t, a, m, at, i) == NONE {
         return set_operand(s, t, a, m, at, i, ptr);
     }
     0

@@ -1,9 +1,17 @@
 // A value and its two words in a list: its number, and kind + 256 × offset + 2^24 × size. Reads past a list's end are 0, and
 // writes there change nothing.
+use codes::NONE;
+use codes::action;
 ghost use mathlib.Core.Path.{_≡_};
 ghost use Prim.Native.Nat.{_+_, _<_};
 ghost use lib.ListN.{getD, set};
 ghost use Rattle.pcode.specs.Values.{local, withSize, absent, noOutput, word, valueAt, putValue, putSize, place};
+
+// The size stands in a value's second word from bit 24 on.
+pub const SIZE_PLACE: u64 = 16777216;
+
+// The second word of an output that is not there.
+pub const NO_OUTPUT: u64 = 255;
 
 // Kinds are 0 to 7 in the order of `Local`; a size of 65,535 is none.
 pub struct Value {
@@ -21,7 +29,7 @@ pub fn local(kind: u64, number: u64) -> Value
         kind,
         number,
         offset: 0,
-        size: 65535,
+        size: NONE,
     }
 }
 
@@ -53,7 +61,7 @@ pub fn no_output() -> Value
     ensures { λ r. ⌜ r ≡ noOutput ⌝ }
 {
     Value {
-        kind: 255,
+        kind: NO_OUTPUT,
         number: 0,
         offset: 0,
         size: 0,
@@ -64,7 +72,7 @@ pub fn no_output() -> Value
 pub fn word(v: Value) -> u64
     ensures { λ r. ⌜ r ≡ word v ⌝ }
 {
-    v.kind % 256 + v.offset % 65536 * 256 + v.size % 65536 * 16777216
+    v.kind % 256 + v.offset % 65536 * 256 + v.size % 65536 * SIZE_PLACE
 }
 
 // The element i after a position, and 0 past the end.
@@ -99,7 +107,7 @@ pub fn value_at(list: &[u64], at: usize, i: usize) -> Value
         kind: w % 256,
         number: get(list, at, i),
         offset: w / 256 % 65536,
-        size: w / 16777216 % 65536,
+        size: w / SIZE_PLACE % 65536,
     }
 }
 
@@ -116,7 +124,7 @@ pub fn put_size(list: &mut [u64], at: usize, i: usize, size: u64)
     ensures { λ _. ⌜ now (list .exit) ≡ putSize (now (list .entry)) at i size ⌝ }
 {
     let w = get(list, at, i + 1);
-    put(list, at, i + 1, w % 16777216 + size % 65536 * 16777216);
+    put(list, at, i + 1, w % SIZE_PLACE + size % 65536 * SIZE_PLACE);
 }
 
 // Where action i stands in a list whose first is at a position.
@@ -125,7 +133,7 @@ pub fn place(base: usize, i: usize) -> usize
 {
     if base < 4096 {
         if i < 700000000000000000 {
-            return base + i * 24;
+            return base + i * action::WORDS;
         }
     }
     0

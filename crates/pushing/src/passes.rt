@@ -1,6 +1,7 @@
 // A pass over actions: the rule of each, applied in place. A push is a pass over the one action that it has pushed, so that
 // the rules are compiled into one loop.
 use crate::rules::update_operand_sizes;
+use codes::table;
 use pcode::sizes::sum_of_errors;
 use pcode::value::place;
 ghost use mathlib.Core.Path.{_≡_};
@@ -26,7 +27,7 @@ fn turn(forward: bool, n: usize, i: usize) -> usize
 // The n actions from a position on, forward with fallback or backward without: how many errors.
 pub fn pass(
     s: &[u8],
-    t: &[u16; 3344],
+    t: &[u16; table::LENGTH],
     fallback: bool,
     a: &mut [u64],
     m: &mut [u64],

@@ -1,5 +1,11 @@
 // Temporaries and pushes. Actions are pushed behind room for the Builds of all subtables, up to the end of the lent list.
 use crate::passes::pass;
+use codes::NONE;
+use codes::action;
+use codes::action_kind;
+use codes::refusal;
+use codes::table;
+use codes::value_kind;
 use pcode::sizes::Sizing;
 use pcode::sizes::record_errors;
 use pcode::value::Value;
@@ -12,6 +18,11 @@ ghost use Prim.Native.Nat.{_+_};
 ghost use lib.Dec.{leb};
 ghost use Rattle.pcode.specs.Base.{listed};
 ghost use Rattle.pushing.specs.Pushes.{read, pushed, state, addTmp, outputOr, writeOperands, writeZeros, writeHead, write, push, updateLast, pushOp, opTo, op};
+
+const MOST_TEMPORARIES: usize = 512;
+
+// The scope stands in a temporary's word from bit 50 on.
+pub const SCOPE_PLACE: u64 = 1125899906842624;
 
 // Where the list of actions ends, the temporaries made, and the sizing.
 pub struct State {
@@ -43,11 +54,11 @@ pub fn add_tmp(m: &mut [u64], name: u64, size: u64, scope: u64, st: State) -> Re
 {
     let n = st.temporaries;
     if n < m.len() {
-        if n < 512 {
+        if n < MOST_TEMPORARIES {
             let z = st.sizing;
-            m[n] = name % 65536 + size % 65536 * 65536 + scope % 8192 * 1125899906842624;
+            m[n] = name % 65536 + size % 65536 * 65536 + scope % 8192 * SCOPE_PLACE;
             return Read::Value {
-                v: local(6, n as u64),
+                v: local(value_kind::PCODE_TMP, n as u64),
                 st: State {
                     end: st.end,
                     temporaries: n + 1,
@@ -56,7 +67,7 @@ pub fn add_tmp(m: &mut [u64], name: u64, size: u64, scope: u64, st: State) -> Re
             };
         }
     }
-    Read::No(13)
+    Read::No(refusal::TOO_MANY_TEMPORARIES)
 }
 
 // The output given, else a fresh temporary of that size.
@@ -66,21 +77,21 @@ pub fn output_or(m: &mut [u64], given: bool, to: Value, size: u64, st: State) ->
     if given {
         return Read::Value { v: to, st };
     }
-    add_tmp(m, 65535, size, 0, st)
+    add_tmp(m, NONE, size, 0, st)
 }
 
 fn write_operands(a: &mut [u64], at: usize, out: Value, x: Value, y: Value)
     ensures { λ _. ⌜ now (a .exit) ≡ writeOperands (now (a .entry)) at out x y ⌝ }
 {
-    put_value(a, at, 4, out);
-    put_value(a, at, 6, x);
-    put_value(a, at, 8, y);
+    put_value(a, at, action::OUTPUT, out);
+    put_value(a, at, action::INPUT_0, x);
+    put_value(a, at, action::INPUT_1, y);
 }
 
 fn write_zeros(a: &mut [u64], at: usize)
     ensures { λ _. ⌜ now (a .exit) ≡ writeZeros (now (a .entry)) at ⌝ }
 {
-    for i in 10..24 {
+    for i in 10..action::WORDS {
         put(a, at, i, 0);
     }
 }
@@ -88,10 +99,10 @@ fn write_zeros(a: &mut [u64], at: usize)
 fn write_head(a: &mut [u64], at: usize, kind: u64, op: u64, number: u64, count: u64)
     ensures { λ _. ⌜ now (a .exit) ≡ writeHead (now (a .entry)) at kind op number count ⌝ }
 {
-    put(a, at, 0, kind);
-    put(a, at, 1, op);
-    put(a, at, 2, number);
-    put(a, at, 3, count);
+    put(a, at, action::KIND, kind);
+    put(a, at, action::OPERATION, op);
+    put(a, at, action::NUMBER, number);
+    put(a, at, action::INPUT_COUNT, count);
 }
 
 // All 24 words of an action with at most two inputs.
@@ -116,7 +127,11 @@ fn write(
 fn has_room(len: usize, end: usize) -> bool
     ensures { λ r. ⌜ r ≡ leb (end + 24) len ⌝ }
 {
-    if end <= len { 24 <= len - end } else { false }
+    if end <= len {
+        action::WORDS <= len - end
+    } else {
+        false
+    }
 }
 
 // An action of any kind with at most two inputs, pushed as it is.
@@ -135,7 +150,7 @@ pub fn push(
 {
     let at = st.end;
     if has_room(a.len(), at) {
-        let end = at + 24;
+        let end = at + action::WORDS;
         let z = st.sizing;
         write(a, at, kind, op, number, count, out, x, y);
         return Pushed::Done(State {
@@ -144,13 +159,13 @@ pub fn push(
             sizing: z,
         });
     }
-    Pushed::No(12)
+    Pushed::No(refusal::LIST_FULL)
 }
 
 // The rule of the action pushed last.
 fn update_last(
     s: &[u8],
-    t: &[u16; 3344],
+    t: &[u16; table::LENGTH],
     a: &mut [u64],
     m: &mut [u64],
     at: usize,
@@ -170,7 +185,7 @@ fn update_last(
 
 pub fn push_op(
     s: &[u8],
-    t: &[u16; 3344],
+    t: &[u16; table::LENGTH],
     a: &mut [u64],
     m: &mut [u64],
     e: Env,
@@ -185,7 +200,7 @@ pub fn push_op(
     ensures { λ r. ⌜ pushed r (now (a .exit)) (now (m .exit)) ≡ pushOp (now (s .entry)) (now (t .entry)) (now (a .entry)) (now (m .entry)) e op number count out x y st ⌝ }
 {
     let at = st.end;
-    match push(a, 0, op, number, count, out, x, y, st) {
+    match push(a, action_kind::OP, op, number, count, out, x, y, st) {
         Pushed::No(n) => Pushed::No(n),
         Pushed::Done(next) => Pushed::Done(update_last(s, t, a, m, at, e.pointer, next)),
     }
@@ -194,7 +209,7 @@ pub fn push_op(
 // An operation with an output, and the output as its rule left it.
 pub fn op_to(
     s: &[u8],
-    t: &[u16; 3344],
+    t: &[u16; table::LENGTH],
     a: &mut [u64],
     m: &mut [u64],
     e: Env,
@@ -212,7 +227,7 @@ pub fn op_to(
     match push_op(s, t, a, m, e, op, number, count, to, x, y, st) {
         Pushed::No(n) => Read::No(n),
         Pushed::Done(next) => Read::Value {
-            v: value_at(a, at, 4),
+            v: value_at(a, at, action::OUTPUT),
             st: next,
         },
     }
@@ -221,7 +236,7 @@ pub fn op_to(
 // The same, with a fresh temporary where no output is given.
 pub fn op(
     s: &[u8],
-    t: &[u16; 3344],
+    t: &[u16; table::LENGTH],
     a: &mut [u64],
     m: &mut [u64],
     e: Env,
@@ -236,7 +251,7 @@ pub fn op(
 ) -> Read
     ensures { λ r. ⌜ read r (now (a .exit)) (now (m .exit)) ≡ op (now (s .entry)) (now (t .entry)) (now (a .entry)) (now (m .entry)) e code number count given to x y st ⌝ }
 {
-    match output_or(m, given, to, 65535, st) {
+    match output_or(m, given, to, NONE, st) {
         Read::No(n) => Read::No(n),
         Read::Value { v, st: next } => op_to(s, t, a, m, e, code, number, count, v, x, y, next),
     }

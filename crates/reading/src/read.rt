@@ -1,4 +1,10 @@
 // Reading: an expression's value becomes an operand, in the output where one is given.
+use codes::NONE;
+use codes::action_kind;
+use codes::operation;
+use codes::refusal;
+use codes::table;
+use codes::value_kind;
 use meaning::scope::ExprValue;
 use pcode::sizes::Sizing;
 use pcode::sizes::record_errors;
@@ -23,6 +29,8 @@ ghost use Rattle.pcode.specs.Values.{local};
 ghost use Rattle.pushing.specs.Pushes.{read, withSizing};
 ghost use Rattle.reading.specs.Reading.{neededBytes, constant, setSize, setStated, takeStated, copyTo, byteAligned, sliced, shiftTo, shiftAndMask, partOf, readSlice, pushedTo, readAddress, load, loadRegister, readValue, readOperand};
 
+const LAST_OFFSET: u64 = 65535;
+
 pub fn needed_bytes(bits: u64) -> u64
     ensures { λ r. ⌜ r ≡ neededBytes bits ⌝ }
 {
@@ -32,7 +40,7 @@ pub fn needed_bytes(bits: u64) -> u64
 pub fn constant(n: u64) -> Value
     ensures { λ r. ⌜ r ≡ constant n ⌝ }
 {
-    local(7, n)
+    local(value_kind::CONSTANT, n)
 }
 
 fn with_sizing(st: State, z: Sizing) -> State
@@ -50,7 +58,14 @@ pub struct Stated {
     pub st: State,
 }
 
-fn set_size(s: &[u8], t: &[u16; 3344], m: &mut [u64], v: Value, size: u64, st: State) -> Stated
+fn set_size(
+    s: &[u8],
+    t: &[u16; table::LENGTH],
+    m: &mut [u64],
+    v: Value,
+    size: u64,
+    st: State,
+) -> Stated
     ensures { λ r. ⌜ listed r (now (m .exit)) ≡ setSize (now (s .entry)) (now (t .entry)) (now (m .entry)) v size st ⌝ }
 {
     let known = size_of(s, t, m, v);
@@ -65,7 +80,7 @@ fn set_size(s: &[u8], t: &[u16; 3344], m: &mut [u64], v: Value, size: u64, st: S
 // A register access's stated size is set; 0 sets none.
 pub fn set_stated(
     s: &[u8],
-    t: &[u16; 3344],
+    t: &[u16; table::LENGTH],
     m: &mut [u64],
     v: Value,
     size: u64,
@@ -82,7 +97,7 @@ pub fn set_stated(
 // A RAM access's stated size is taken silently; 0 sets none.
 pub fn take_stated(
     s: &[u8],
-    t: &[u16; 3344],
+    t: &[u16; table::LENGTH],
     m: &mut [u64],
     v: Value,
     size: u64,
@@ -93,7 +108,7 @@ pub fn take_stated(
     if size == 0 {
         return Stated { v, st };
     }
-    if size_of(s, t, m, v) != 65535 {
+    if size_of(s, t, m, v) != NONE {
         return Stated {
             v: with_size(v, size),
             st,
@@ -104,7 +119,7 @@ pub fn take_stated(
 
 fn copy_to(
     s: &[u8],
-    t: &[u16; 3344],
+    t: &[u16; table::LENGTH],
     a: &mut [u64],
     m: &mut [u64],
     e: Env,
@@ -116,7 +131,7 @@ fn copy_to(
     ensures { λ r. ⌜ read r (now (a .exit)) (now (m .exit)) ≡ copyTo (now (s .entry)) (now (t .entry)) (now (a .entry)) (now (m .entry)) e given to v st ⌝ }
 {
     if given {
-        return op_to(s, t, a, m, e, 57, 0, 1, to, v, absent(), st);
+        return op_to(s, t, a, m, e, operation::COPY, 0, 1, to, v, absent(), st);
     }
     Read::Value { v, st }
 }
@@ -131,8 +146,8 @@ pub fn byte_aligned(from: u64, bits: u64) -> bool
 pub fn sliced(v: Value, more: u64, size: u64, st: State) -> Read
     ensures { λ r. ⌜ r ≡ sliced v more size st ⌝ }
 {
-    if v.offset <= 65535 {
-        if more <= 65535 - v.offset {
+    if v.offset <= LAST_OFFSET {
+        if more <= LAST_OFFSET - v.offset {
             return Read::Value {
                 v: Value {
                     kind: v.kind,
@@ -144,12 +159,12 @@ pub fn sliced(v: Value, more: u64, size: u64, st: State) -> Read
             };
         }
     }
-    Read::No(42)
+    Read::No(refusal::OFFSET_TOO_FAR)
 }
 
 fn shift_to(
     s: &[u8],
-    t: &[u16; 3344],
+    t: &[u16; table::LENGTH],
     a: &mut [u64],
     m: &mut [u64],
     e: Env,
@@ -161,7 +176,20 @@ fn shift_to(
 ) -> Read
     ensures { λ r. ⌜ read r (now (a .exit)) (now (m .exit)) ≡ shiftTo (now (s .entry)) (now (t .entry)) (now (a .entry)) (now (m .entry)) e v tmp from bits st ⌝ }
 {
-    match op_to(s, t, a, m, e, 8, 0, 2, tmp, v, constant(from), st) {
+    match op_to(
+        s,
+        t,
+        a,
+        m,
+        e,
+        operation::INT_RIGHT,
+        0,
+        2,
+        tmp,
+        v,
+        constant(from),
+        st,
+    ) {
         Read::No(n) => Read::No(n),
         Read::Value { v: _, st: next } => op_to(
             s,
@@ -169,7 +197,7 @@ fn shift_to(
             a,
             m,
             e,
-            24,
+            operation::INT_AND,
             0,
             2,
             tmp,
@@ -182,7 +210,7 @@ fn shift_to(
 
 fn shift_and_mask(
     s: &[u8],
-    t: &[u16; 3344],
+    t: &[u16; table::LENGTH],
     a: &mut [u64],
     m: &mut [u64],
     e: Env,
@@ -194,7 +222,7 @@ fn shift_and_mask(
     ensures { λ r. ⌜ read r (now (a .exit)) (now (m .exit)) ≡ shiftAndMask (now (s .entry)) (now (t .entry)) (now (a .entry)) (now (m .entry)) e v from bits st ⌝ }
 {
     let size = size_of(s, t, m, v);
-    match add_tmp(m, 65535, size, 0, st) {
+    match add_tmp(m, NONE, size, 0, st) {
         Read::No(n) => Read::No(n),
         Read::Value { v: tmp, st: next } => match shift_to(
             s,
@@ -219,7 +247,7 @@ fn shift_and_mask(
 
 fn part_of(
     s: &[u8],
-    t: &[u16; 3344],
+    t: &[u16; table::LENGTH],
     a: &mut [u64],
     m: &mut [u64],
     e: Env,
@@ -238,7 +266,7 @@ fn part_of(
 
 pub fn read_slice(
     s: &[u8],
-    t: &[u16; 3344],
+    t: &[u16; table::LENGTH],
     a: &mut [u64],
     m: &mut [u64],
     e: Env,
@@ -278,14 +306,14 @@ fn read_address(
     ensures { λ r. ⌜ read r (now (a .exit)) (now (m .exit)) ≡ readAddress (now (a .entry)) (now (m .entry)) base size given to st ⌝ }
 {
     if base.offset != 0 {
-        return Read::No(31);
+        return Read::No(refusal::ADDRESS_OF_OFFSET);
     }
     match output_or(m, given, to, size, st) {
         Read::No(n) => Read::No(n),
         Read::Value { v, st: next } => pushed_to(
             push(
                 a,
-                1,
+                action_kind::ADDRESS_OF,
                 0,
                 0,
                 1,
@@ -301,7 +329,7 @@ fn read_address(
 
 fn load(
     s: &[u8],
-    t: &[u16; 3344],
+    t: &[u16; table::LENGTH],
     a: &mut [u64],
     m: &mut [u64],
     e: Env,
@@ -313,18 +341,31 @@ fn load(
 ) -> Read
     ensures { λ r. ⌜ read r (now (a .exit)) (now (m .exit)) ≡ load (now (s .entry)) (now (t .entry)) (now (a .entry)) (now (m .entry)) e pointer size given to st ⌝ }
 {
-    match output_or(m, given, to, 65535, st) {
+    match output_or(m, given, to, NONE, st) {
         Read::No(n) => Read::No(n),
         Read::Value { v, st: next } => {
             let out = take_stated(s, t, m, v, size, next);
-            op_to(s, t, a, m, e, 58, 0, 1, out.v, pointer, absent(), out.st)
+            op_to(
+                s,
+                t,
+                a,
+                m,
+                e,
+                operation::LOAD,
+                0,
+                1,
+                out.v,
+                pointer,
+                absent(),
+                out.st,
+            )
         }
     }
 }
 
 fn load_register(
     s: &[u8],
-    t: &[u16; 3344],
+    t: &[u16; table::LENGTH],
     a: &mut [u64],
     m: &mut [u64],
     pointer: Value,
@@ -340,7 +381,17 @@ fn load_register(
         Read::Value { v, st: next } => {
             let out = set_stated(s, t, m, v, size, next);
             pushed_to(
-                push(a, 2, 0, size, 1, out.v, pointer, absent(), out.st),
+                push(
+                    a,
+                    action_kind::LOAD_REGISTER,
+                    0,
+                    size,
+                    1,
+                    out.v,
+                    pointer,
+                    absent(),
+                    out.st,
+                ),
                 out.v,
             )
         }
@@ -349,7 +400,7 @@ fn load_register(
 
 pub fn read_value(
     s: &[u8],
-    t: &[u16; 3344],
+    t: &[u16; table::LENGTH],
     a: &mut [u64],
     m: &mut [u64],
     e: Env,
@@ -390,7 +441,7 @@ pub fn read_value(
 // Read as an operand, with no output given.
 pub fn read_operand(
     s: &[u8],
-    t: &[u16; 3344],
+    t: &[u16; table::LENGTH],
     a: &mut [u64],
     m: &mut [u64],
     e: Env,

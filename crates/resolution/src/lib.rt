@@ -1,5 +1,10 @@
 // A section file resolved into lent lists: the file is read, its statements are walked, the end is run. After a refusal both
 // lists are zero.
+use codes::NONE;
+use codes::action;
+use codes::header;
+use codes::refusal;
+use codes::table;
 use outcome::answer::Answer;
 use outcome::answer::refused;
 use outcome::finish::finish;
@@ -19,15 +24,18 @@ ghost use Rattle.walking.specs.Walks.{stepped};
 ghost use Rattle.outcome.specs.Answers.{resolvedTo};
 ghost use Rattle.resolution.specs.Files.{pointerSize, atStart, startEnv, walkSection, resolveSection, resolveStream, resolveFile};
 
+// How deep macro calls go at most.
+const DEPTH: u64 = 16;
+
 // The size of the default space's pointers, 8 where there is none.
-pub fn pointer_size(s: &[u8], t: &[u16; 3344]) -> u64
+pub fn pointer_size(s: &[u8], t: &[u16; table::LENGTH]) -> u64
     ensures { λ r. ⌜ r ≡ pointerSize (now (s .entry)) (now (t .entry)) ⌝ }
 {
-    let i = cells::u16_at(s, 24);
-    if i == 65535 {
+    let i = cells::u16_at(s, header::DEFAULT_SPACE);
+    if i == NONE {
         return 8;
     }
-    cells::u16_at(s, pcode::sizes::entry(t, 0, i * 5 + 3))
+    cells::u16_at(s, pcode::sizes::entry(t, table::SPACES, i * 5 + 3))
 }
 
 // Actions begin behind room for the Builds of all subtables.
@@ -39,9 +47,9 @@ fn at_start(subtables: usize) -> Walk
             end: place(0, subtables),
             temporaries: 0,
             sizing: Sizing {
-                begun: 65535,
+                begun: NONE,
                 errors: 0,
-                first: 65535,
+                first: NONE,
             },
         },
         labels: 0,
@@ -69,7 +77,7 @@ fn start_env(ptr: u64) -> Env
 // The section's own statements, which have no parameters, with macro calls 16 deep at most.
 fn walk_section(
     s: &[u8],
-    t: &[u16; 3344],
+    t: &[u16; table::LENGTH],
     a: &mut [u64],
     m: &mut [u64],
     subtables: usize,
@@ -79,20 +87,20 @@ fn walk_section(
 {
     let p = [0u64; 1];
     let mut l = [0u64; 256];
-    let pos = cells::get_u16(t, 3337) as usize;
-    let n = cells::u16_at(s, 22);
-    let ordinal = cells::get_u16(t, 3338) as u64;
+    let pos = cells::get_u16(t, table::STATEMENTS) as usize;
+    let n = cells::u16_at(s, header::STATEMENTS);
+    let ordinal = cells::get_u16(t, table::FIRST_ORDINAL) as u64;
     let e = start_env(ptr);
     let w = at_start(subtables);
-    bodies::statements::body(16, s, t, &p, &mut l, a, m, e, pos, n, ordinal, w)
+    bodies::statements::body(DEPTH, s, t, &p, &mut l, a, m, e, pos, n, ordinal, w)
 }
 
-fn resolve_section(s: &[u8], t: &[u16; 3344], a: &mut [u64], m: &mut [u64]) -> Answer
+fn resolve_section(s: &[u8], t: &[u16; table::LENGTH], a: &mut [u64], m: &mut [u64]) -> Answer
     ensures { λ r. ⌜ resolvedTo r (now (a .exit)) (now (m .exit)) ≡ resolveSection (now (s .entry)) (now (t .entry)) (now (a .entry)) (now (m .entry)) ⌝ }
 {
-    let subtables = cells::u16_at(s, 20) as usize;
-    if a.len() / 24 < subtables {
-        return refused(a, m, 12, 65535, 0);
+    let subtables = cells::u16_at(s, header::SUBTABLES) as usize;
+    if a.len() / action::WORDS < subtables {
+        return refused(a, m, refusal::LIST_FULL, NONE, 0);
     }
     let ptr = pointer_size(s, t);
     match walk_section(s, t, a, m, subtables, ptr) {
@@ -104,10 +112,10 @@ fn resolve_section(s: &[u8], t: &[u16; 3344], a: &mut [u64], m: &mut [u64]) -> A
 fn resolve_stream(s: &[u8], a: &mut [u64], m: &mut [u64]) -> Answer
     ensures { λ r. ⌜ resolvedTo r (now (a .exit)) (now (m .exit)) ≡ resolveStream (now (s .entry)) (now (a .entry)) (now (m .entry)) ⌝ }
 {
-    let mut t = [0u16; 3344];
+    let mut t = [0u16; table::LENGTH];
     let bad = section::read_stream(s, &mut t);
     if bad != 0 {
-        return refused(a, m, bad, 65535, 0);
+        return refused(a, m, bad, NONE, 0);
     }
     resolve_section(s, &t, a, m)
 }
@@ -136,7 +144,7 @@ pub fn resolve_words(file: &[u8], actions: &mut [u64], temporaries: &mut [u64]) 
 {
     let bad = framing::blocks::check_blocks(file);
     if bad != 0 {
-        return refused(actions, temporaries, bad, 65535, 0);
+        return refused(actions, temporaries, bad, NONE, 0);
     }
     if file.len() == 512 {
         return resolve_front(file, 510, actions, temporaries);

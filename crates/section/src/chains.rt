@@ -7,6 +7,11 @@ ghost use Prim.Native.Nat.{_+_, _<_};
 ghost use lib.ListN.{getD};
 ghost use Rattle.section.specs.Chains.{key, spread, Hashed, link};
 
+// Where the last names of the chains stand, and how many numbers there are.
+pub const LAST: usize = 1024;
+
+pub const CHAINS: usize = 1280;
+
 // What the hash of the name at p is made of: the four bytes up to its last letter (of three letters, with the length byte),
 // or of a name of fewer letters its length, first letter and last letter. A name whose last letter is 0, as that of one is
 // which the stream's end cuts, is taken like a short one, so that the four bytes always lie inside the stream.
@@ -39,6 +44,6 @@ pub fn link(h: usize, i: usize, k: &mut [u16])
     requires { ⌜ (h < 256) × (i < 1024) ⌝ }
     ensures { λ _. ⌜ now (k .exit) ≡ link h i (now (k .entry)) ⌝ }
 {
-    cells::put_u16(k, i, cells::get_u16(k, 1024 + h));
-    cells::put_u16(k, 1024 + h, low(i + 1));
+    cells::put_u16(k, i, cells::get_u16(k, LAST + h));
+    cells::put_u16(k, LAST + h, low(i + 1));
 }

@@ -10,6 +10,7 @@
 //                subtables, statements
 //   3338         the first ordinal of the section's own statements
 // The header stays in the stream, at its fixed offsets.
+use codes::table;
 use header::header;
 use lists::lists;
 use names::low;
@@ -31,23 +32,31 @@ mod zeros;
 fn own_statements(s: &[u8], c: Cursor, t: &mut [u16]) -> Cursor
     ensures { λ r. ⌜ reading r (now (t .exit)) ≡ statements (now (s .entry)) (reading c (now (t .entry))) ⌝ }
 {
-    cells::put_u16(t, 3337, low(c.at));
-    tail(s, body(s, cells::u16_at(s, 2), cells::u16_at(s, 22), c))
+    cells::put_u16(t, table::STATEMENTS, low(c.at));
+    tail(
+        s,
+        body(
+            s,
+            cells::u16_at(s, codes::header::NAMES),
+            cells::u16_at(s, codes::header::STATEMENTS),
+            c,
+        ),
+    )
 }
 
 // The refusal of a stream, or 0, and the table.
-pub fn read_stream(s: &[u8], t: &mut [u16; 3344]) -> u64
+pub fn read_stream(s: &[u8], t: &mut [u16; table::LENGTH]) -> u64
     ensures { λ r. ⌜ answer r (now (t .exit)) ≡ readStream (now (s .entry)) (now (t .entry)) ⌝ }
 {
     // Called from two places, the header is not compiled into what follows, which is faster without it.
-    if s.len() < 34 {
+    if s.len() < codes::header::LENGTH {
         return header(s).bad;
     }
     let h = header(s);
     if h.bad != 0 {
         return h.bad;
     }
-    let named = names(s, cells::u16_at(s, 2) as usize, h, t);
+    let named = names(s, cells::u16_at(s, codes::header::NAMES) as usize, h, t);
     let listed = lists(s, named, t);
     let end = own_statements(s, listed, t);
     end.bad

@@ -1,6 +1,10 @@
 // The lists of entries. Each entry begins with its name, which the table marks, so that a second one is found there:
 // globals from 1,024 on, fields and subtables from 2,048 on.
 use crate::names::low;
+use codes::header;
+use codes::refusal;
+use codes::symbol_kind;
+use codes::table;
 use syntax::cursor::Cursor;
 use syntax::cursor::bits;
 use syntax::cursor::code;
@@ -16,14 +20,20 @@ ghost use Prim.Native.Nat.{_<_};
 ghost use Rattle.section.specs.Names.{reading};
 ghost use Rattle.section.specs.Lists.{slot, stamp, mark, after, params, macroHead, noted, macro, entry, list, lists};
 
+// The number of the list of fields, behind those of the globals.
+const FIELDS: u64 = 7;
+
+// A macro has fewer statements than this.
+const STATEMENTS: u64 = 1025;
+
 // Where list k marks a name.
 fn slot(k: u64, name: u64) -> usize
     ensures { λ r. ⌜ r ≡ slot k name ⌝ }
 {
-    if k < 7 {
-        return 1024 + (name % 65536) as usize;
+    if k < FIELDS {
+        return table::GLOBALS + (name % 65536) as usize;
     }
-    2048 + (name % 65536) as usize
+    table::LOCALS + (name % 65536) as usize
 }
 
 // What list k marks the name of its entry i with.
@@ -31,7 +41,7 @@ fn stamp(k: u64, i: u64) -> u16
     requires { ⌜ (k < 9) × (i < 65536) ⌝ }
     ensures { λ r. ⌜ r ≡ stamp k i ⌝ }
 {
-    if k < 7 {
+    if k < FIELDS {
         return ((1 + k + 8 * i) % 65536) as u16;
     }
     ((k - 6 + 2 * i) % 65536) as u16
@@ -44,7 +54,7 @@ fn mark(at: usize, v: u16, c: Cursor, t: &mut [u16]) -> Cursor
         return c;
     }
     if cells::get_u16(t, at) != 0 {
-        return refuse(6, c);
+        return refuse(refusal::SPELLED_TWICE, c);
     }
     cells::put_u16(t, at, v);
     c
@@ -55,15 +65,28 @@ fn after(k: u64, s: &[u8], c: Cursor) -> Cursor
     ensures { λ r. ⌜ r ≡ after k (now (s .entry)) c ⌝ }
 {
     match k {
-        0 => size(s, code(s, 3, c)),
-        1 => size(s, c),
-        2 => bits(s, u16_below(s, cells::u16_at(s, 6), 5, c)),
-        3 => size_or(s, c),
-        4 => c,
-        5 => c,
-        6 => c,
-        7 => size_or(s, c),
-        _ => u16_below(s, cells::u16_at(s, 10), 5, c),
+        symbol_kind::SPACE => size(s, code(s, 3, c)),
+        symbol_kind::REGISTER => size(s, c),
+        symbol_kind::BIT_RANGE => bits(
+            s,
+            u16_below(
+                s,
+                cells::u16_at(s, header::REGISTERS),
+                refusal::NAMES_NOTHING,
+                c,
+            ),
+        ),
+        symbol_kind::TABLE => size_or(s, c),
+        symbol_kind::USER_OP => c,
+        symbol_kind::MACRO => c,
+        symbol_kind::OTHER => c,
+        FIELDS => size_or(s, c),
+        _ => u16_below(
+            s,
+            cells::u16_at(s, header::TABLES),
+            refusal::NAMES_NOTHING,
+            c,
+        ),
     }
 }
 
@@ -83,7 +106,12 @@ fn params(s: &[u8], m: u64, c: Cursor) -> Cursor
 fn macro_head(s: &[u8], m: u64, c: Cursor) -> Cursor
     ensures { λ r. ⌜ r ≡ macroHead (now (s .entry)) m c ⌝ }
 {
-    u16_below(s, 1025, 4, params(s, m, small_count(s, c)))
+    u16_below(
+        s,
+        STATEMENTS,
+        refusal::OUTSIDE_LIMIT,
+        params(s, m, small_count(s, c)),
+    )
 }
 
 // Where macro i stands, its first ordinal, and the next free ordinal after its n statements.
@@ -91,10 +119,14 @@ fn note_macro(i: usize, at: usize, n: u64, t: &mut [u16])
     requires { ⌜ i < 65536 ⌝ }
     ensures { λ _. ⌜ now (t .exit) ≡ noted i at n (now (t .entry)) ⌝ }
 {
-    let first = cells::get_u16(t, 3338);
-    cells::put_u16(t, 3072 + i, low(at));
-    cells::put_u16(t, 3200 + i, first);
-    cells::put_u16(t, 3338, low(first as usize + (n % 65536) as usize));
+    let first = cells::get_u16(t, table::FIRST_ORDINAL);
+    cells::put_u16(t, table::MACROS + i, low(at));
+    cells::put_u16(t, table::MACRO_ORDINALS + i, first);
+    cells::put_u16(
+        t,
+        table::FIRST_ORDINAL,
+        low(first as usize + (n % 65536) as usize),
+    );
 }
 
 fn macro_entry(s: &[u8], m: u64, i: usize, c: Cursor, t: &mut [u16]) -> Cursor
@@ -111,10 +143,10 @@ fn entry(k: u64, s: &[u8], i: usize, c: Cursor, t: &mut [u16]) -> Cursor
     requires { ⌜ (k < 9) × (i < 65536) ⌝ }
     ensures { λ r. ⌜ reading r (now (t .exit)) ≡ entry k (now (s .entry)) i (reading c (now (t .entry))) ⌝ }
 {
-    let m = cells::u16_at(s, 2);
+    let m = cells::u16_at(s, header::NAMES);
     let v = name(s, m, c);
     let g = mark(slot(k, v.val), stamp(k, i as u64), v, t);
-    if k == 5 {
+    if k == symbol_kind::MACRO {
         return macro_entry(s, m, i, g, t);
     }
     after(k, s, g)
@@ -125,8 +157,8 @@ fn list(k: usize, s: &[u8], c: Cursor, t: &mut [u16]) -> Cursor
     requires { ⌜ k < 9 ⌝ }
     ensures { λ r. ⌜ reading r (now (t .exit)) ≡ list (now (s .entry)) k (reading c (now (t .entry))) ⌝ }
 {
-    cells::put_u16(t, 3328 + k, low(c.at));
-    let n = cells::u16_at(s, 4 + 2 * k) as usize;
+    cells::put_u16(t, table::LISTS + k, low(c.at));
+    let n = cells::u16_at(s, header::SPACES + 2 * k) as usize;
     let mut c = c;
     for i in 0..n {
         c = entry(k as u64, s, i, c, t);

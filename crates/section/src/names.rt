@@ -1,7 +1,10 @@
 // The list of names. The table keeps where the length byte of each stands; a spelling that stands there already is found on
 // the chain of its hash.
+use crate::chains::CHAINS;
+use crate::chains::LAST;
 use crate::chains::hash;
 use crate::chains::link;
+use codes::refusal;
 use syntax::cursor::Cursor;
 use syntax::cursor::refuse;
 use syntax::cursor::skip;
@@ -10,6 +13,9 @@ ghost use mathlib.Core.Path.{_≡_};
 ghost use Prim.Native.Nat.{_+_, _%_, _≤_, _<_};
 ghost use Rattle.section.specs.Names.{reading, restAlike, alike, known, spelling, nameAt, names};
 ghost use Rattle.section.specs.Chains.{Hashed, Linked};
+
+// A name has fewer letters than this.
+const LETTERS: u64 = 25;
 
 // Bytes 2 up to n of two places.
 fn rest_alike(s: &[u8], a: usize, b: usize, n: u64) -> bool
@@ -54,7 +60,7 @@ fn known(s: &[u8], t: &[u16], k: &[u16], p: usize, h: usize, n: usize) -> bool
     requires { ⌜ Linked (now s) (now t) (now k) n × Hashed (now s) p h ⌝ }
     ensures { λ r. ⌜ r ≡ known (now (s .entry)) (now (t .entry)) p n ⌝ }
 {
-    let mut j = place(cells::get_u16(k, 1024 + h));
+    let mut j = place(cells::get_u16(k, LAST + h));
     while 0 < j {
         let i = j - 1;
         if alike(s, p, place(cells::get_u16(t, i))) {
@@ -70,19 +76,19 @@ fn spelling(s: &[u8], t: &[u16], k: &[u16], i: usize, h: usize, c: Cursor) -> Cu
     requires { ⌜ Linked (now s) (now t) (now k) i × Hashed (now s) (c .at) h ⌝ }
     ensures { λ r. ⌜ r ≡ spelling (now (s .entry)) (now (t .entry)) i c ⌝ }
 {
-    let l = u8_below(s, 25, 4, c);
+    let l = u8_below(s, LETTERS, refusal::OUTSIDE_LIMIT, c);
     if l.bad != 0 {
         return l;
     }
     if l.val == 0 {
-        return refuse(4, l);
+        return refuse(refusal::OUTSIDE_LIMIT, l);
     }
     let e = skip(s, l.val as usize, l);
     if e.bad != 0 {
         return e;
     }
     if known(s, t, k, c.at, h, i) {
-        return refuse(6, e);
+        return refuse(refusal::SPELLED_TWICE, e);
     }
     e
 }
@@ -109,7 +115,7 @@ fn name_at(s: &[u8], i: usize, c: Cursor, t: &mut [u16], k: &mut [u16]) -> Curso
 }
 
 // The names, by chains that are empty at first.
-fn chained(s: &[u8], n: usize, c: Cursor, t: &mut [u16], k: &mut [u16; 1280]) -> Cursor
+fn chained(s: &[u8], n: usize, c: Cursor, t: &mut [u16], k: &mut [u16; CHAINS]) -> Cursor
     requires { ⌜ (n ≤ 1024) × Linked (now s) (now t) (now k) 0 ⌝ }
     ensures { λ r. ⌜ reading r (now (t .exit)) ≡ names (now (s .entry)) n (reading c (now (t .entry))) ⌝ }
 {
@@ -124,6 +130,6 @@ pub fn names(s: &[u8], n: usize, c: Cursor, t: &mut [u16]) -> Cursor
     requires { ⌜ n ≤ 1024 ⌝ }
     ensures { λ r. ⌜ reading r (now (t .exit)) ≡ names (now (s .entry)) n (reading c (now (t .entry))) ⌝ }
 {
-    let mut k = [0u16; 1280];
+    let mut k = [0u16; CHAINS];
     chained(s, n, c, t, &mut k)
 }

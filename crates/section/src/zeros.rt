@@ -1,5 +1,6 @@
 // The stream after its statements is zero, which is tested by eight bytes at a time.
 use cells::inside::eight;
+use codes::refusal;
 use syntax::cursor::Cursor;
 use syntax::cursor::refuse;
 ghost use mathlib.Core.Path.{_≡_};
@@ -32,7 +33,7 @@ pub fn tail(s: &[u8], c: Cursor) -> Cursor
     let mut i = past_zeros(s, c.at);
     while i < s.len() {
         if s[i] != 0 {
-            return refuse(3, c);
+            return refuse(refusal::MALFORMED, c);
         }
         i += 1;
     }

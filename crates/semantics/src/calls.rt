@@ -1,8 +1,18 @@
 // Calls that enter no macro: the delay slot and user ops; and what a macro call is given.
 use cells::u16_in;
+use codes::action;
+use codes::action_kind;
+use codes::header;
+use codes::operation;
+use codes::refusal;
+use codes::symbol_kind;
+use codes::table;
+use expression::expr::DEPTH;
 use expression::expr::resolve_args;
 use meaning::args::Args;
 use meaning::args::arg_at;
+use meaning::scope::SLOT_A;
+use meaning::scope::SLOT_NAME;
 use meaning::scope::global;
 use meaning::scope::param_place;
 use pcode::value::absent;
@@ -28,7 +38,16 @@ ghost use Rattle.terms.specs.Answers.{passed};
 ghost use Rattle.walking.specs.Walks.{stepped};
 ghost use Rattle.semantics.specs.Calls.{symbolOf, calledOf, delaySlot, argsRead, readArgs, writeInputs, pushUserOp, userOpArgs, userOpStatement, otherCall, macroAt, bindNames, counted, macroArgs};
 
-// What a call statement calls: 0 the delay slot, 1 a user op, 2 a macro, 3 a refusal.
+// What a call statement calls.
+pub const DELAY_SLOT: u64 = 0;
+
+pub const USER_OP: u64 = 1;
+
+pub const MACRO: u64 = 2;
+
+pub const REFUSED: u64 = 3;
+
+// What a call statement calls, and the number of the user op, the macro or the refusal.
 pub struct Called {
     pub kind: u64,
     pub number: u64,
@@ -39,33 +58,36 @@ fn symbol_of(g: u64) -> Called
 {
     if g == 0 {
         return Called {
-            kind: 3,
-            number: 22,
+            kind: REFUSED,
+            number: refusal::UNDEFINED,
         };
     }
-    if (g - 1) % 8 == 4 {
+    if (g - 1) % 8 == symbol_kind::USER_OP {
         return Called {
-            kind: 1,
+            kind: USER_OP,
             number: (g - 1) / 8,
         };
     }
-    if (g - 1) % 8 == 5 {
+    if (g - 1) % 8 == symbol_kind::MACRO {
         return Called {
-            kind: 2,
+            kind: MACRO,
             number: (g - 1) / 8,
         };
     }
     Called {
-        kind: 3,
-        number: 23,
+        kind: REFUSED,
+        number: refusal::WRONG_KIND,
     }
 }
 
-pub fn called_of(s: &[u8], t: &[u16; 3344], name: u64) -> Called
+pub fn called_of(s: &[u8], t: &[u16; table::LENGTH], name: u64) -> Called
     ensures { λ r. ⌜ r ≡ calledOf (now (s .entry)) (now (t .entry)) name ⌝ }
 {
-    if name == cells::u16_at(s, 32) {
-        return Called { kind: 0, number: 0 };
+    if name == cells::u16_at(s, header::DELAY_SLOT) {
+        return Called {
+            kind: DELAY_SLOT,
+            number: 0,
+        };
     }
     symbol_of(global(t, name))
 }
@@ -75,18 +97,28 @@ fn delay_slot(s: &[u8], a: &mut [u64], pos: usize, n: u64, w: Walk) -> Step
 {
     if only_integer(s, pos, n) == 1 {
         return pushed_then(
-            push(a, 4, 0, 0, 0, absent(), absent(), absent(), w.st),
+            push(
+                a,
+                action_kind::DELAY_SLOT,
+                0,
+                0,
+                0,
+                absent(),
+                absent(),
+                absent(),
+                w.st,
+            ),
             after(pos, 13),
             w,
         );
     }
-    stop(w, 25)
+    stop(w, refusal::DELAY_SLOT_ARGUMENT)
 }
 
 // Reads n arguments in place: each slot's value becomes an operand.
 fn read_args(
     s: &[u8],
-    t: &[u16; 3344],
+    t: &[u16; table::LENGTH],
     a: &mut [u64],
     m: &mut [u64],
     args: &mut [u64],
@@ -101,7 +133,7 @@ fn read_args(
         match read_operand(s, t, a, m, e, arg_at(args, i), st) {
             Read::No(k) => return Pushed::No(k),
             Read::Value { v, st: st1 } => {
-                put_value(args, param_place(i as usize), 4, v);
+                put_value(args, param_place(i as usize), SLOT_A, v);
                 st = st1;
             }
         }
@@ -114,15 +146,25 @@ fn write_inputs(a: &mut [u64], at: usize, args: &[u64], n: u64)
     ensures { λ _. ⌜ now (a .exit) ≡ writeInputs n (now (a .entry)) at (now (args .entry)) ⌝ }
 {
     for i in 0..n {
-        let v = value_at(args, param_place(i as usize), 4);
-        put_value(a, at, 6 + 2 * (i % 8) as usize, v);
+        let v = value_at(args, param_place(i as usize), SLOT_A);
+        put_value(a, at, action::INPUT_0 + 2 * (i % 8) as usize, v);
     }
 }
 
 fn push_user_op(a: &mut [u64], args: &[u64], id: u64, n: u64, st: State) -> Pushed
     ensures { λ r. ⌜ listed r (now (a .exit)) ≡ pushUserOp (now (a .entry)) (now (args .entry)) id n st ⌝ }
 {
-    match push(a, 0, 63, id, n, no_output(), absent(), absent(), st) {
+    match push(
+        a,
+        action_kind::OP,
+        operation::PCODE_OP,
+        id,
+        n,
+        no_output(),
+        absent(),
+        absent(),
+        st,
+    ) {
         Pushed::No(k) => Pushed::No(k),
         Pushed::Done(st1) => {
             write_inputs(a, st.end, args, n);
@@ -133,7 +175,7 @@ fn push_user_op(a: &mut [u64], args: &[u64], id: u64, n: u64, st: State) -> Push
 
 fn user_op_args(
     s: &[u8],
-    t: &[u16; 3344],
+    t: &[u16; table::LENGTH],
     a: &mut [u64],
     m: &mut [u64],
     args: &mut [u64],
@@ -152,7 +194,7 @@ fn user_op_args(
 
 fn user_op_statement(
     s: &[u8],
-    t: &[u16; 3344],
+    t: &[u16; table::LENGTH],
     p: &[u64],
     a: &mut [u64],
     m: &mut [u64],
@@ -165,7 +207,7 @@ fn user_op_statement(
     ensures { λ r. ⌜ stepped r (now (a .exit)) (now (m .exit)) ≡ userOpStatement (now (s .entry)) (now (t .entry)) (now (p .entry)) (now (a .entry)) (now (m .entry)) e pos id n w ⌝ }
 {
     let mut args = [0u64; 64];
-    match resolve_args(32, s, t, p, after(pos, 4), n, e, a, m, &mut args, w.st) {
+    match resolve_args(DEPTH, s, t, p, after(pos, 4), n, e, a, m, &mut args, w.st) {
         Args::No(k) => stop(w, k),
         Args::Done { next, st } => pushed_then(
             user_op_args(s, t, a, m, &mut args, id, n, e, st),
@@ -179,7 +221,7 @@ fn user_op_statement(
 pub fn other_call(
     c: Called,
     s: &[u8],
-    t: &[u16; 3344],
+    t: &[u16; table::LENGTH],
     p: &[u64],
     a: &mut [u64],
     m: &mut [u64],
@@ -192,17 +234,17 @@ pub fn other_call(
 {
     let kind = c.kind;
     match kind {
-        0 => delay_slot(s, a, pos, n, w),
-        1 => user_op_statement(s, t, p, a, m, e, pos, c.number, n, w),
+        DELAY_SLOT => delay_slot(s, a, pos, n, w),
+        USER_OP => user_op_statement(s, t, p, a, m, e, pos, c.number, n, w),
         _ => stop(w, c.number),
     }
 }
 
 // Where macro number `id` stands.
-pub fn macro_at(t: &[u16; 3344], id: u64) -> usize
+pub fn macro_at(t: &[u16; table::LENGTH], id: u64) -> usize
     ensures { λ r. ⌜ r ≡ macroAt (now (t .entry)) id ⌝ }
 {
-    cells::get_u16(t, 3072 + (id % 128) as usize) as usize
+    cells::get_u16(t, table::MACROS + (id % 128) as usize) as usize
 }
 
 // Gives n arguments the names of the macro's parameters, which stand from a position on: each slot's first word.
@@ -211,24 +253,24 @@ fn bind_names(s: &[u8], args: &mut [u64], names: usize, n: usize)
 {
     for i in 0..n {
         let name = u16_in(s, names, i % 8 * 2);
-        put(args, param_place(i), 0, name);
+        put(args, param_place(i), SLOT_NAME, name);
     }
 }
 
 // As many arguments as the macro has parameters.
-fn counted(s: &[u8], t: &[u16; 3344], id: u64, n: u64, next: usize, st: State) -> Args
+fn counted(s: &[u8], t: &[u16; table::LENGTH], id: u64, n: u64, next: usize, st: State) -> Args
     ensures { λ r. ⌜ r ≡ counted (now (s .entry)) (now (t .entry)) id n next st ⌝ }
 {
     if cells::byte(s, macro_at(t, id), 0) == n {
         return Args::Done { next, st };
     }
-    Args::No(26)
+    Args::No(refusal::MACRO_ARGUMENTS)
 }
 
 // The arguments of a macro call, as its parameters.
 pub fn macro_args(
     s: &[u8],
-    t: &[u16; 3344],
+    t: &[u16; table::LENGTH],
     p: &[u64],
     a: &mut [u64],
     m: &mut [u64],
@@ -241,7 +283,7 @@ pub fn macro_args(
 ) -> Args
     ensures { λ r. ⌜ passed r (now (a .exit)) (now (m .exit)) (now (args .exit)) ≡ macroArgs (now (s .entry)) (now (t .entry)) (now (p .entry)) (now (a .entry)) (now (m .entry)) (now (args .entry)) e pos id n st ⌝ }
 {
-    match resolve_args(32, s, t, p, after(pos, 4), n, e, a, m, args, st) {
+    match resolve_args(DEPTH, s, t, p, after(pos, 4), n, e, a, m, args, st) {
         Args::No(k) => Args::No(k),
         Args::Done { next, st: st1 } => {
             bind_names(s, args, after(macro_at(t, id), 1), n as usize);

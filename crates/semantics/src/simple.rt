@@ -1,5 +1,12 @@
 // Statements of one step: unimplemented, the export, locals, and builds.
 use cells::u16_in;
+use codes::action_kind;
+use codes::export_kind;
+use codes::header;
+use codes::operation;
+use codes::refusal;
+use codes::symbol_kind;
+use expression::expr::DEPTH;
 use expression::expr::resolve_expr;
 use meaning::scope::ExprValue;
 use meaning::scope::global;
@@ -30,7 +37,7 @@ ghost use Rattle.semantics.specs.Simple.{unimplemented, exported, export
 
 pub fn unimplemented(
     s: &[u8],
-    t: &[u16; 3344],
+    t: &[u16; codes::table::LENGTH],
     a: &mut [u64],
     m: &mut [u64],
     e: Env,
@@ -46,7 +53,7 @@ pub fn unimplemented(
             a,
             m,
             e,
-            65,
+            operation::INVALID,
             0,
             0,
             no_output(),
@@ -80,14 +87,14 @@ fn export_value(r: Read, next: usize, w: Walk) -> Step
 {
     match r {
         Read::No(n) => stop(w, n),
-        Read::Value { v, st } => exported(w, 1, v, 0, st, next),
+        Read::Value { v, st } => exported(w, export_kind::COMPUTED, v, 0, st, next),
     }
 }
 
 // A reference stays one, anything else is read.
 fn export_of(
     s: &[u8],
-    t: &[u16; 3344],
+    t: &[u16; codes::table::LENGTH],
     a: &mut [u64],
     m: &mut [u64],
     e: Env,
@@ -99,15 +106,29 @@ fn export_of(
     ensures { λ r. ⌜ stepped r (now (a .exit)) (now (m .exit)) ≡ exportOf (now (s .entry)) (now (t .entry)) (now (a .entry)) (now (m .entry)) e x next st w ⌝ }
 {
     match x {
-        ExprValue::RamRef { pointer, size } => exported(w, 2, pointer, size, st, next),
-        ExprValue::RegisterRef { pointer, size } => exported(w, 3, pointer, size, st, next),
+        ExprValue::RamRef { pointer, size } => exported(
+            w,
+            export_kind::RAM_REF,
+            pointer,
+            size,
+            st,
+            next,
+        ),
+        ExprValue::RegisterRef { pointer, size } => exported(
+            w,
+            export_kind::REGISTER_REF,
+            pointer,
+            size,
+            st,
+            next,
+        ),
         _ => export_value(read_operand(s, t, a, m, e, x, st), next, w),
     }
 }
 
 pub fn export_statement(
     s: &[u8],
-    t: &[u16; 3344],
+    t: &[u16; codes::table::LENGTH],
     p: &[u64],
     a: &mut [u64],
     m: &mut [u64],
@@ -117,7 +138,7 @@ pub fn export_statement(
 ) -> Step
     ensures { λ r. ⌜ stepped r (now (a .exit)) (now (m .exit)) ≡ exportStatement (now (s .entry)) (now (t .entry)) (now (p .entry)) (now (a .entry)) (now (m .entry)) e pos w ⌝ }
 {
-    match resolve_expr(32, s, t, p, after(pos, 1), e, a, m, w.st) {
+    match resolve_expr(DEPTH, s, t, p, after(pos, 1), e, a, m, w.st) {
         Expr::No(n) => stop(w, n),
         Expr::Value { x, next, st } => export_of(s, t, a, m, e, x, next, st, w),
     }
@@ -125,7 +146,7 @@ pub fn export_statement(
 
 pub fn local_statement(
     s: &[u8],
-    t: &[u16; 3344],
+    t: &[u16; codes::table::LENGTH],
     m: &mut [u64],
     e: Env,
     pos: usize,
@@ -141,7 +162,7 @@ pub fn local_statement(
 // An expression at a position read into a target.
 fn assign(
     s: &[u8],
-    t: &[u16; 3344],
+    t: &[u16; codes::table::LENGTH],
     p: &[u64],
     a: &mut [u64],
     m: &mut [u64],
@@ -153,7 +174,7 @@ fn assign(
 ) -> Step
     ensures { λ r. ⌜ stepped r (now (a .exit)) (now (m .exit)) ≡ assign (now (s .entry)) (now (t .entry)) (now (p .entry)) (now (a .entry)) (now (m .entry)) e pos to st w ⌝ }
 {
-    match resolve_expr(32, s, t, p, pos, e, a, m, st) {
+    match resolve_expr(DEPTH, s, t, p, pos, e, a, m, st) {
         Expr::No(n) => stop(w, n),
         Expr::Value { x, next, st: st1 } => read_then(
             read_value(s, t, a, m, e, x, true, to, st1),
@@ -165,7 +186,7 @@ fn assign(
 
 pub fn local_assignment(
     s: &[u8],
-    t: &[u16; 3344],
+    t: &[u16; codes::table::LENGTH],
     p: &[u64],
     a: &mut [u64],
     m: &mut [u64],
@@ -184,12 +205,12 @@ pub fn local_assignment(
 }
 
 // The first of n subtables that has this table, or n.
-fn find_subtable(s: &[u8], t: &[u16; 3344], n: u64, table: u64) -> u64
+fn find_subtable(s: &[u8], t: &[u16; codes::table::LENGTH], n: u64, table: u64) -> u64
     ensures { λ r. ⌜ r ≡ findSubtable n 0 (now (s .entry)) (now (t .entry)) table ⌝ }
 {
     let mut i = 0;
     while i < n {
-        if u16_in(s, entry(t, 8, i % 65536 * 4), 2) == table {
+        if u16_in(s, entry(t, codes::table::SUBTABLES, i % 65536 * 4), 2) == table {
             return i;
         }
         i += 1;
@@ -197,30 +218,47 @@ fn find_subtable(s: &[u8], t: &[u16; 3344], n: u64, table: u64) -> u64
     i
 }
 
-fn build_table(s: &[u8], t: &[u16; 3344], a: &mut [u64], table: u64, pos: usize, w: Walk) -> Step
+fn build_table(
+    s: &[u8],
+    t: &[u16; codes::table::LENGTH],
+    a: &mut [u64],
+    table: u64,
+    pos: usize,
+    w: Walk,
+) -> Step
     ensures { λ r. ⌜ listed r (now (a .exit)) ≡ buildTable (now (s .entry)) (now (t .entry)) (now (a .entry)) table pos w ⌝ }
 {
-    let n = cells::u16_at(s, 20);
+    let n = cells::u16_at(s, header::SUBTABLES);
     let i = find_subtable(s, t, n, table);
     if i < n {
         return pushed_then(
-            push(a, 5, 0, i, 0, absent(), absent(), absent(), w.st),
+            push(
+                a,
+                action_kind::BUILD,
+                0,
+                i,
+                0,
+                absent(),
+                absent(),
+                absent(),
+                w.st,
+            ),
             after(pos, 3),
             w,
         );
     }
-    stop(w, 24)
+    stop(w, refusal::ABSENT_TABLE)
 }
 
-pub fn build(s: &[u8], t: &[u16; 3344], a: &mut [u64], pos: usize, w: Walk) -> Step
+pub fn build(s: &[u8], t: &[u16; codes::table::LENGTH], a: &mut [u64], pos: usize, w: Walk) -> Step
     ensures { λ r. ⌜ listed r (now (a .exit)) ≡ build (now (s .entry)) (now (t .entry)) (now (a .entry)) pos w ⌝ }
 {
     let g = global(t, u16_in(s, pos, 1));
     if g == 0 {
-        return stop(w, 22);
+        return stop(w, refusal::UNDEFINED);
     }
-    if (g - 1) % 8 != 3 {
-        return stop(w, 23);
+    if (g - 1) % 8 != symbol_kind::TABLE {
+        return stop(w, refusal::WRONG_KIND);
     }
     build_table(s, t, a, (g - 1) / 8, pos, w)
 }

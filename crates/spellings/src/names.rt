@@ -1,4 +1,5 @@
 // The spellings of a section file's names, in its stream, by the table that `section::read_stream` fills.
+use codes::table;
 use pcode::sizes::entry;
 ghost use mathlib.Core.Path.{_≡_};
 ghost use Rattle.section_refinement.specs.Holds.{spelledAt};
@@ -21,7 +22,7 @@ fn spelled<'a>(s: &'a [u8], at: usize) -> &'a [u8]
 }
 
 // Name n.
-pub fn name<'a>(s: &'a [u8], t: &[u16; 3344], n: u64) -> &'a [u8]
+pub fn name<'a>(s: &'a [u8], t: &[u16; table::LENGTH], n: u64) -> &'a [u8]
     ensures { λ r. ⌜ now r ≡ nameOf (now (s .entry)) (now (t .entry)) n ⌝ }
 {
     let at = cells::get_u16(t, n as usize) as usize;
@@ -29,32 +30,32 @@ pub fn name<'a>(s: &'a [u8], t: &[u16; 3344], n: u64) -> &'a [u8]
 }
 
 // The name of the entry that begins so many bytes into list k.
-fn name_in<'a>(s: &'a [u8], t: &[u16; 3344], k: usize, bytes: u64) -> &'a [u8]
+fn name_in<'a>(s: &'a [u8], t: &[u16; table::LENGTH], k: usize, bytes: u64) -> &'a [u8]
     ensures { λ r. ⌜ now r ≡ nameIn (now (s .entry)) (now (t .entry)) k bytes ⌝ }
 {
     name(s, t, cells::u16_at(s, entry(t, k, bytes)))
 }
 
-pub fn register<'a>(s: &'a [u8], t: &[u16; 3344], i: u64) -> &'a [u8]
+pub fn register<'a>(s: &'a [u8], t: &[u16; table::LENGTH], i: u64) -> &'a [u8]
     ensures { λ r. ⌜ now r ≡ registerName (now (s .entry)) (now (t .entry)) i ⌝ }
 {
-    name_in(s, t, 1, i % 65536 * 4)
+    name_in(s, t, table::REGISTERS, i % 65536 * 4)
 }
 
-pub fn user_op<'a>(s: &'a [u8], t: &[u16; 3344], i: u64) -> &'a [u8]
+pub fn user_op<'a>(s: &'a [u8], t: &[u16; table::LENGTH], i: u64) -> &'a [u8]
     ensures { λ r. ⌜ now r ≡ userOpName (now (s .entry)) (now (t .entry)) i ⌝ }
 {
-    name_in(s, t, 4, i % 65536 * 2)
+    name_in(s, t, table::USER_OPS, i % 65536 * 2)
 }
 
-pub fn field<'a>(s: &'a [u8], t: &[u16; 3344], i: u64) -> &'a [u8]
+pub fn field<'a>(s: &'a [u8], t: &[u16; table::LENGTH], i: u64) -> &'a [u8]
     ensures { λ r. ⌜ now r ≡ fieldName (now (s .entry)) (now (t .entry)) i ⌝ }
 {
-    name_in(s, t, 7, i % 65536 * 4)
+    name_in(s, t, table::FIELDS, i % 65536 * 4)
 }
 
-pub fn subtable<'a>(s: &'a [u8], t: &[u16; 3344], i: u64) -> &'a [u8]
+pub fn subtable<'a>(s: &'a [u8], t: &[u16; table::LENGTH], i: u64) -> &'a [u8]
     ensures { λ r. ⌜ now r ≡ subtableName (now (s .entry)) (now (t .entry)) i ⌝ }
 {
-    name_in(s, t, 8, i % 65536 * 4)
+    name_in(s, t, table::SUBTABLES, i % 65536 * 4)
 }

@@ -6,11 +6,13 @@ ghost use Rattle.io.specs.Counts.{Counts};
 ghost use Rattle.spellings.specs.Words.{first, word, leftAfter};
 ghost use Rattle.spellings.specs.Operations.{operationText};
 
+const SPACE: u8 = 32;
+
 // How many words are still to be passed after a byte.
 fn left_after(byte: u8, left: u64) -> u64
     ensures { λ r. ⌜ r ≡ leftAfter byte left ⌝ }
 {
-    if byte != 32 {
+    if byte != SPACE {
         return left;
     }
     if left == 0 {
@@ -42,7 +44,7 @@ fn end(words: &[u8], at: usize) -> usize
 {
     let mut i = at;
     while i < words.len() {
-        if words[i] == 32 {
+        if words[i] == SPACE {
             return i;
         }
         i += 1;

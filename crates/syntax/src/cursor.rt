@@ -1,8 +1,16 @@
 // A cursor over the stream, and the fields that it reads. A refused cursor passes every read unchanged, so that the first
 // position that is wrong gives the refusal.
 use cells::inside::two;
+use codes::NONE;
+use codes::refusal;
 ghost use mathlib.Core.Path.{_≡_};
 ghost use Rattle.syntax.specs.Cursors.{refuse, number, u8, u16, u16or, skip, code, smallCount, name, nameOr, size, sizeOr, bits};
+
+// Sizes, in bytes, are below this.
+const SIZES: u64 = 1025;
+
+// First bits and bit counts are below this.
+const BITS: u64 = 8193;
 
 // Where the reading is, the refusal (0 none), and the number read last.
 pub struct Cursor {
@@ -32,10 +40,10 @@ fn number(v: u64, n: usize, len: usize, lim: u64, k: u64, c: Cursor) -> Cursor
         return c;
     }
     if len < c.at {
-        return refuse(3, c);
+        return refuse(refusal::MALFORMED, c);
     }
     if len - c.at < n {
-        return refuse(3, c);
+        return refuse(refusal::MALFORMED, c);
     }
     if v < lim {
         return Cursor {
@@ -70,7 +78,11 @@ pub fn u16_below(s: &[u8], lim: u64, k: u64, c: Cursor) -> Cursor
             }
             return Cursor { at, bad: k, val: 0 };
         }
-        return Cursor { at, bad: 3, val: 0 };
+        return Cursor {
+            at,
+            bad: refusal::MALFORMED,
+            val: 0,
+        };
     }
     number(0, 2, s.len(), lim, k, c)
 }
@@ -79,7 +91,7 @@ pub fn u16_below(s: &[u8], lim: u64, k: u64, c: Cursor) -> Cursor
 pub fn u16_or(s: &[u8], lim: u64, k: u64, c: Cursor) -> Cursor
     ensures { λ r. ⌜ r ≡ u16or (now (s .entry)) lim k c ⌝ }
 {
-    if cells::u16_at(s, c.at) == 65535 {
+    if cells::u16_at(s, c.at) == NONE {
         return u16_below(s, 65536, k, c);
     }
     u16_below(s, lim, k, c)
@@ -95,44 +107,49 @@ pub fn skip(s: &[u8], n: usize, c: Cursor) -> Cursor
 pub fn code(s: &[u8], n: u64, c: Cursor) -> Cursor
     ensures { λ r. ⌜ r ≡ code (now (s .entry)) n c ⌝ }
 {
-    u8_below(s, n, 3, c)
+    u8_below(s, n, refusal::MALFORMED, c)
 }
 
 // A count of arguments or parameters.
 pub fn small_count(s: &[u8], c: Cursor) -> Cursor
     ensures { λ r. ⌜ r ≡ smallCount (now (s .entry)) c ⌝ }
 {
-    u8_below(s, 9, 4, c)
+    u8_below(s, 9, refusal::OUTSIDE_LIMIT, c)
 }
 
 // One of m names.
 pub fn name(s: &[u8], m: u64, c: Cursor) -> Cursor
     ensures { λ r. ⌜ r ≡ name (now (s .entry)) m c ⌝ }
 {
-    u16_below(s, m, 5, c)
+    u16_below(s, m, refusal::NAMES_NOTHING, c)
 }
 
 pub fn name_or(s: &[u8], m: u64, c: Cursor) -> Cursor
     ensures { λ r. ⌜ r ≡ nameOr (now (s .entry)) m c ⌝ }
 {
-    u16_or(s, m, 5, c)
+    u16_or(s, m, refusal::NAMES_NOTHING, c)
 }
 
 pub fn size(s: &[u8], c: Cursor) -> Cursor
     ensures { λ r. ⌜ r ≡ size (now (s .entry)) c ⌝ }
 {
-    u16_below(s, 1025, 4, c)
+    u16_below(s, SIZES, refusal::OUTSIDE_LIMIT, c)
 }
 
 pub fn size_or(s: &[u8], c: Cursor) -> Cursor
     ensures { λ r. ⌜ r ≡ sizeOr (now (s .entry)) c ⌝ }
 {
-    u16_or(s, 1025, 4, c)
+    u16_or(s, SIZES, refusal::OUTSIDE_LIMIT, c)
 }
 
 // A first bit and a bit count.
 pub fn bits(s: &[u8], c: Cursor) -> Cursor
     ensures { λ r. ⌜ r ≡ bits (now (s .entry)) c ⌝ }
 {
-    u16_below(s, 8193, 4, u16_below(s, 8193, 4, c))
+    u16_below(
+        s,
+        BITS,
+        refusal::OUTSIDE_LIMIT,
+        u16_below(s, BITS, refusal::OUTSIDE_LIMIT, c),
+    )
 }

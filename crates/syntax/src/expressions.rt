@@ -10,11 +10,18 @@ use crate::cursor::size;
 use crate::cursor::size_or;
 use crate::cursor::skip;
 use crate::cursor::small_count;
+use codes::expression;
+use codes::refusal;
 ghost use mathlib.Core.Path.{_≡_};
 ghost use Prim.Native.Nat.{_≤_};
 ghost use lib.ListN.{length};
 ghost use Rattle.syntax.specs.Cursors.{cursor, skip};
 ghost use Rattle.syntax.specs.Expressions.{addressOf, space, call, expr, exprs};
+
+// Two of the codes, as bytes.
+const IDENT: u8 = 0;
+
+const INTEGER: u8 = 1;
 
 fn address_of(s: &[u8], m: u64, c: Cursor) -> Cursor
     ensures { λ r. ⌜ r ≡ addressOf (now (s .entry)) m c ⌝ }
@@ -44,7 +51,7 @@ fn integer_here(s: &[u8], at: usize) -> Cursor
     if s.len() - at < 8 {
         return Cursor {
             at: at,
-            bad: 3,
+            bad: refusal::MALFORMED,
             val: 0,
         };
     }
@@ -63,7 +70,7 @@ pub fn expr(depth: u64, s: &[u8], m: u64, c: Cursor) -> Cursor
         let at = c.at;
         if at < s.len() {
             let kind = s[at];
-            if kind == 0 {
+            if kind == IDENT {
                 let named = Cursor {
                     at: at + 1,
                     bad: 0,
@@ -71,7 +78,7 @@ pub fn expr(depth: u64, s: &[u8], m: u64, c: Cursor) -> Cursor
                 };
                 return name(s, m, named);
             }
-            if kind == 1 {
+            if kind == INTEGER {
                 return integer_here(s, at + 1);
             }
         }
@@ -85,19 +92,19 @@ fn longer(depth: u64, s: &[u8], m: u64, c: Cursor) -> Cursor
 {
     let k = code(s, 9, c);
     if depth == 0 {
-        return refuse(4, k);
+        return refuse(refusal::OUTSIDE_LIMIT, k);
     }
     let d = depth - 1;
     let kind = k.val;
     match kind {
-        0 => name(s, m, k),
-        1 => skip(s, 8, k),
-        2 => address_of(s, m, k),
-        3 => size(s, expr(d, s, m, k)),
-        4 => bits(s, expr(d, s, m, k)),
-        5 => expr(d, s, m, code(s, 39, expr(d, s, m, k))),
-        6 => expr(d, s, m, space(s, m, k)),
-        7 => exprs(d, s, m, small_count(s, k)),
+        expression::IDENT => name(s, m, k),
+        expression::INTEGER => skip(s, 8, k),
+        expression::ADDRESS_OF => address_of(s, m, k),
+        expression::TRUNCATE => size(s, expr(d, s, m, k)),
+        expression::SLICE_BITS => bits(s, expr(d, s, m, k)),
+        expression::OP => expr(d, s, m, code(s, 39, expr(d, s, m, k))),
+        expression::DEREF => expr(d, s, m, space(s, m, k)),
+        expression::CONSTANT_POOL_REF => exprs(d, s, m, small_count(s, k)),
         _ => exprs(d, s, m, call(s, m, k)),
     }
 }

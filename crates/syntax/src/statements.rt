@@ -9,8 +9,12 @@ use crate::expressions::call;
 use crate::expressions::expr;
 use crate::expressions::exprs;
 use crate::expressions::space;
+use codes::statement;
 ghost use mathlib.Core.Path.{_≡_};
 ghost use Rattle.syntax.specs.Statements.{jumpLabel, branchDst, statement, body};
+
+// How deep expressions are nested at most.
+const DEPTH: u64 = 32;
 
 fn jump_label(s: &[u8], m: u64, c: Cursor) -> Cursor
     ensures { λ r. ⌜ r ≡ jumpLabel (now (s .entry)) m c ⌝ }
@@ -18,7 +22,7 @@ fn jump_label(s: &[u8], m: u64, c: Cursor) -> Cursor
     let k = code(s, 2, c);
     let kind = k.val;
     match kind {
-        0 => name(s, m, k),
+        statement::JUMP_IDENT => name(s, m, k),
         _ => size(s, skip(s, 8, k)),
     }
 }
@@ -29,7 +33,7 @@ fn branch_dst(s: &[u8], m: u64, c: Cursor) -> Cursor
     let k = code(s, 3, c);
     let kind = k.val;
     match kind {
-        0 => jump_label(s, m, k),
+        statement::DST_DIRECT => jump_label(s, m, k),
         1 => jump_label(s, m, k),
         _ => name(s, m, k),
     }
@@ -41,16 +45,16 @@ pub fn statement(s: &[u8], m: u64, c: Cursor) -> Cursor
     let k = code(s, 11, c);
     let kind = k.val;
     match kind {
-        0 => k,
-        1 => expr(32, s, m, k),
-        2 => size_or(s, name(s, m, k)),
-        3 => expr(32, s, m, size_or(s, name(s, m, k))),
-        4 => name(s, m, k),
-        5 => expr(32, s, m, expr(32, s, m, k)),
-        6 => expr(32, s, m, expr(32, s, m, space(s, m, k))),
-        7 => exprs(32, s, m, call(s, m, k)),
-        8 => code(s, 3, branch_dst(s, m, k)),
-        9 => code(s, 3, branch_dst(s, m, expr(32, s, m, k))),
+        statement::UNIMPLEMENTED => k,
+        statement::EXPORT => expr(DEPTH, s, m, k),
+        statement::LOCAL => size_or(s, name(s, m, k)),
+        statement::LOCAL_ASSIGNMENT => expr(DEPTH, s, m, size_or(s, name(s, m, k))),
+        statement::BUILD => name(s, m, k),
+        statement::COPY => expr(DEPTH, s, m, expr(DEPTH, s, m, k)),
+        statement::STORE => expr(DEPTH, s, m, expr(DEPTH, s, m, space(s, m, k))),
+        statement::CALL => exprs(DEPTH, s, m, call(s, m, k)),
+        statement::BRANCH => code(s, 3, branch_dst(s, m, k)),
+        statement::COND_BRANCH => code(s, 3, branch_dst(s, m, expr(DEPTH, s, m, k))),
         _ => name(s, m, k),
     }
 }

@@ -1,5 +1,10 @@
 // Addresses: the place that a pointer in a space refers to.
 use crate::answers::Expr;
+use codes::NONE;
+use codes::header;
+use codes::refusal;
+use codes::symbol_kind;
+use codes::table;
 use meaning::scope::ExprValue;
 use meaning::scope::global;
 use pcode::sizes::entry;
@@ -12,10 +17,15 @@ ghost use mathlib.Core.Path.{_≡_};
 ghost use Rattle.terms.specs.Answers.{resolved};
 ghost use Rattle.terms.specs.Addresses.{orSize, inConstSpace, kindOfSpace, namedSpace, resolveSpace, reference, addressIn, resolveAddress};
 
+// Two of the three kinds of a space.
+const RAM: u64 = 0;
+
+const REGISTERS: u64 = 1;
+
 fn or_size(size: u64, other: u64) -> u64
     ensures { λ r. ⌜ r ≡ orSize size other ⌝ }
 {
-    if size == 65535 { other } else { size }
+    if size == NONE { other } else { size }
 }
 
 fn in_const_space(x: ExprValue, size: u64, next: usize, st: State) -> Expr
@@ -35,7 +45,7 @@ fn in_const_space(x: ExprValue, size: u64, next: usize, st: State) -> Expr
             next,
             st,
         },
-        _ => Expr::No(38),
+        _ => Expr::No(refusal::CONST_SPACE),
     }
 }
 
@@ -44,35 +54,35 @@ pub enum Space {
     No(u64),
 }
 
-fn kind_of_space(s: &[u8], t: &[u16; 3344], i: u64) -> Space
+fn kind_of_space(s: &[u8], t: &[u16; table::LENGTH], i: u64) -> Space
     ensures { λ r. ⌜ r ≡ kindOfSpace (now (s .entry)) (now (t .entry)) i ⌝ }
 {
-    Space::Kind(cells::byte(s, entry(t, 0, i % 65536 * 5), 2))
+    Space::Kind(cells::byte(s, entry(t, table::SPACES, i % 65536 * 5), 2))
 }
 
-fn named_space(s: &[u8], t: &[u16; 3344], name: u64) -> Space
+fn named_space(s: &[u8], t: &[u16; table::LENGTH], name: u64) -> Space
     ensures { λ r. ⌜ r ≡ namedSpace (now (s .entry)) (now (t .entry)) name ⌝ }
 {
     let g = global(t, name);
     if g == 0 {
-        return Space::No(22);
+        return Space::No(refusal::UNDEFINED);
     }
-    if (g - 1) % 8 != 0 {
-        return Space::No(23);
+    if (g - 1) % 8 != symbol_kind::SPACE {
+        return Space::No(refusal::WRONG_KIND);
     }
     kind_of_space(s, t, (g - 1) / 8)
 }
 
 // The named space, else the default one.
-fn resolve_space(s: &[u8], t: &[u16; 3344], name: u64) -> Space
+fn resolve_space(s: &[u8], t: &[u16; table::LENGTH], name: u64) -> Space
     ensures { λ r. ⌜ r ≡ resolveSpace (now (s .entry)) (now (t .entry)) name ⌝ }
 {
-    if name != 65535 {
+    if name != NONE {
         return named_space(s, t, name);
     }
-    let i = cells::u16_at(s, 24);
-    if i == 65535 {
-        return Space::No(39);
+    let i = cells::u16_at(s, header::DEFAULT_SPACE);
+    if i == NONE {
+        return Space::No(refusal::NO_DEFAULT_SPACE);
     }
     kind_of_space(s, t, i)
 }
@@ -83,7 +93,7 @@ fn reference(r: Read, kind: u64, size: u64, next: usize) -> Expr
     match r {
         Read::No(n) => Expr::No(n),
         Read::Value { v, st } => match kind {
-            0 => Expr::Value {
+            RAM => Expr::Value {
                 x: ExprValue::RamRef {
                     pointer: v,
                     size: or_size(size, 0),
@@ -91,7 +101,7 @@ fn reference(r: Read, kind: u64, size: u64, next: usize) -> Expr
                 next,
                 st,
             },
-            1 => Expr::Value {
+            REGISTERS => Expr::Value {
                 x: ExprValue::RegisterRef {
                     pointer: v,
                     size: or_size(size, 0),
@@ -99,14 +109,14 @@ fn reference(r: Read, kind: u64, size: u64, next: usize) -> Expr
                 next,
                 st,
             },
-            _ => Expr::No(40),
+            _ => Expr::No(refusal::OTHER_SPACE),
         },
     }
 }
 
 fn address_in(
     s: &[u8],
-    t: &[u16; 3344],
+    t: &[u16; table::LENGTH],
     a: &mut [u64],
     m: &mut [u64],
     e: Env,
@@ -127,7 +137,7 @@ fn address_in(
 // In the const space a local or a constant is itself.
 pub fn resolve_address(
     s: &[u8],
-    t: &[u16; 3344],
+    t: &[u16; table::LENGTH],
     a: &mut [u64],
     m: &mut [u64],
     e: Env,
@@ -139,7 +149,7 @@ pub fn resolve_address(
 ) -> Expr
     ensures { λ r. ⌜ resolved r (now (a .exit)) (now (m .exit)) ≡ resolveAddress (now (s .entry)) (now (t .entry)) (now (a .entry)) (now (m .entry)) e space size x next st ⌝ }
 {
-    if space == cells::u16_at(s, 30) {
+    if space == cells::u16_at(s, header::CONST) {
         return in_const_space(x, size, next, st);
     }
     address_in(s, t, a, m, e, space, size, x, next, st)

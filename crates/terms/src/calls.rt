@@ -1,6 +1,11 @@
 // Calls in expressions: built-in functions come before any symbol, then user ops; the rest is a subpiece of a local.
 use crate::answers::Expr;
 use crate::answers::after;
+use codes::expression;
+use codes::operation;
+use codes::refusal;
+use codes::symbol_kind;
+use codes::table;
 use inbuilts::inbuilt::Inbuilt;
 use inbuilts::inbuilt::translate_inbuilt_func;
 use meaning::args::arg_at;
@@ -23,7 +28,22 @@ ghost use Rattle.terms.specs.Answers.{resolved};
 ghost use Rattle.terms.specs.Calls.{symbolOf, inbuiltOr, calleeOf, passArg, passArgs, applied, userOpTwo, userOpSome, callUserOp, onlyInteger, subpieceOf, subpiece};
 ghost use Rattle.meaning.specs.Scopes.{global};
 
-// What a call's name is: 0 a built-in operation, 1 a user op, 2 a refusal, 3 a local.
+// What a call's name is.
+pub const INBUILT: u64 = 0;
+
+pub const USER_OP: u64 = 1;
+
+pub const REFUSED: u64 = 2;
+
+pub const LOCAL: u64 = 3;
+
+// What stands for an argument that is not one integer.
+const NO_INTEGER: u64 = 18446744073709551615;
+
+// The greatest argument of a subpiece.
+const LAST_SUBPIECE: u64 = 255;
+
+// What a call's name is, and the number of the operation, the user op or the refusal.
 pub struct Callee {
     pub kind: u64,
     pub number: u64,
@@ -33,24 +53,30 @@ fn symbol_of(g: u64) -> Callee
     ensures { λ r. ⌜ r ≡ symbolOf g ⌝ }
 {
     if g == 0 {
-        return Callee { kind: 3, number: 0 };
-    }
-    if (g - 1) % 8 == 4 {
         return Callee {
-            kind: 1,
+            kind: LOCAL,
+            number: 0,
+        };
+    }
+    if (g - 1) % 8 == symbol_kind::USER_OP {
+        return Callee {
+            kind: USER_OP,
             number: (g - 1) / 8,
         };
     }
-    if (g - 1) % 8 == 5 {
+    if (g - 1) % 8 == symbol_kind::MACRO {
         return Callee {
-            kind: 2,
-            number: 34,
+            kind: REFUSED,
+            number: refusal::MACRO_IN_EXPRESSION,
         };
     }
-    Callee { kind: 3, number: 0 }
+    Callee {
+        kind: LOCAL,
+        number: 0,
+    }
 }
 
-fn inbuilt_or(f: Inbuilt, t: &[u16; 3344], name: u64, n: u64) -> Callee
+fn inbuilt_or(f: Inbuilt, t: &[u16; table::LENGTH], name: u64, n: u64) -> Callee
     ensures { λ r. ⌜ r ≡ inbuiltOr f (global (now (t .entry)) name) n ⌝ }
 {
     if f.arguments == 0 {
@@ -58,17 +84,17 @@ fn inbuilt_or(f: Inbuilt, t: &[u16; 3344], name: u64, n: u64) -> Callee
     }
     if f.arguments != n {
         return Callee {
-            kind: 2,
-            number: 33,
+            kind: REFUSED,
+            number: refusal::ARGUMENT_COUNT,
         };
     }
     Callee {
-        kind: 0,
+        kind: INBUILT,
         number: f.op,
     }
 }
 
-pub fn callee_of(s: &[u8], t: &[u16; 3344], name: u64, n: u64) -> Callee
+pub fn callee_of(s: &[u8], t: &[u16; table::LENGTH], name: u64, n: u64) -> Callee
     ensures { λ r. ⌜ r ≡ calleeOf (now (s .entry)) (now (t .entry)) name n ⌝ }
 {
     let at = cells::get_u16(t, (name % 1024) as usize) as usize;
@@ -77,7 +103,7 @@ pub fn callee_of(s: &[u8], t: &[u16; 3344], name: u64, n: u64) -> Callee
 
 fn pass_arg(
     s: &[u8],
-    t: &[u16; 3344],
+    t: &[u16; table::LENGTH],
     a: &mut [u64],
     m: &mut [u64],
     x: ExprValue,
@@ -95,7 +121,7 @@ fn pass_arg(
             a,
             m,
             e,
-            64,
+            operation::ARG,
             i,
             1,
             no_output(),
@@ -109,7 +135,7 @@ fn pass_arg(
 // The arguments from the third on, each followed by its Arg.
 fn pass_args(
     s: &[u8],
-    t: &[u16; 3344],
+    t: &[u16; table::LENGTH],
     a: &mut [u64],
     m: &mut [u64],
     args: &[u64],
@@ -150,7 +176,7 @@ pub fn applied(op: u64, number: u64, count: u64, a: Value, b: Value, next: usize
 
 fn user_op_two(
     s: &[u8],
-    t: &[u16; 3344],
+    t: &[u16; table::LENGTH],
     a: &mut [u64],
     m: &mut [u64],
     args: &[u64],
@@ -164,13 +190,13 @@ fn user_op_two(
 {
     match read_operand(s, t, a, m, e, arg_at(args, 1), st) {
         Read::No(k) => Expr::No(k),
-        Read::Value { v: w, st: st1 } => applied(63, id, 2, v, w, next, st1),
+        Read::Value { v: w, st: st1 } => applied(operation::PCODE_OP, id, 2, v, w, next, st1),
     }
 }
 
 fn user_op_some(
     s: &[u8],
-    t: &[u16; 3344],
+    t: &[u16; table::LENGTH],
     a: &mut [u64],
     m: &mut [u64],
     args: &[u64],
@@ -188,7 +214,7 @@ fn user_op_some(
             if 1 < n {
                 return user_op_two(s, t, a, m, args, id, next, v, e, st1);
             }
-            applied(63, id, 1, v, absent(), next, st1)
+            applied(operation::PCODE_OP, id, 1, v, absent(), next, st1)
         }
     }
 }
@@ -196,7 +222,7 @@ fn user_op_some(
 // A user op of n arguments that are resolved.
 pub fn call_user_op(
     s: &[u8],
-    t: &[u16; 3344],
+    t: &[u16; table::LENGTH],
     a: &mut [u64],
     m: &mut [u64],
     args: &[u64],
@@ -212,7 +238,7 @@ pub fn call_user_op(
         Pushed::No(k) => Expr::No(k),
         Pushed::Done(st1) => {
             if n == 0 {
-                return applied(63, id, 0, absent(), absent(), next, st1);
+                return applied(operation::PCODE_OP, id, 0, absent(), absent(), next, st1);
             }
             user_op_some(s, t, a, m, args, n, id, next, e, st1)
         }
@@ -224,10 +250,10 @@ pub fn only_integer(s: &[u8], pos: usize, n: u64) -> u64
     ensures { λ r. ⌜ r ≡ onlyInteger (now (s .entry)) pos n ⌝ }
 {
     if n != 1 {
-        return 18446744073709551615;
+        return NO_INTEGER;
     }
-    if cells::byte(s, pos, 4) != 1 {
-        return 18446744073709551615;
+    if cells::byte(s, pos, 4) != expression::INTEGER {
+        return NO_INTEGER;
     }
     cells::u64_at(s, after(pos, 5))
 }
@@ -239,17 +265,25 @@ fn subpiece_of(s: &[u8], pos: usize, n: u64, r: Read) -> Expr
         Read::No(k) => Expr::No(k),
         Read::Value { v, st } => {
             let offset = only_integer(s, pos, n);
-            if 255 < offset {
-                return Expr::No(35);
+            if LAST_SUBPIECE < offset {
+                return Expr::No(refusal::SUBPIECE_ARGUMENT);
             }
-            applied(66, offset, 1, v, absent(), after(pos, 13), st)
+            applied(
+                operation::SUBPIECE,
+                offset,
+                1,
+                v,
+                absent(),
+                after(pos, 13),
+                st,
+            )
         }
     }
 }
 
 pub fn subpiece(
     s: &[u8],
-    t: &[u16; 3344],
+    t: &[u16; table::LENGTH],
     p: &[u64],
     a: &mut [u64],
     m: &mut [u64],

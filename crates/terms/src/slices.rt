@@ -1,5 +1,8 @@
 // Slices of bits: a local's has no bound, and what cannot be sliced unread is read first.
 use crate::answers::Expr;
+use codes::NONE;
+use codes::refusal;
+use codes::table;
 use meaning::scope::ExprValue;
 use pcode::value::Value;
 use pcode::value::absent;
@@ -37,7 +40,7 @@ fn unbound_then(r: Read, next: usize) -> Expr
 
 fn slice_read(
     s: &[u8],
-    t: &[u16; 3344],
+    t: &[u16; table::LENGTH],
     a: &mut [u64],
     m: &mut [u64],
     e: Env,
@@ -62,17 +65,17 @@ fn slice_read(
 fn const_bytes(size: u64) -> u64
     ensures { λ r. ⌜ r ≡ constBytes size ⌝ }
 {
-    if size == 65535 { 8 } else { size % 65536 }
+    if size == NONE { 8 } else { size % 65536 }
 }
 
 fn slice_const(value: u64, size: u64, from: u64, bits: u64, next: usize, st: State) -> Expr
     ensures { λ r. ⌜ r ≡ sliceConst value size from bits next st ⌝ }
 {
     if 8 * const_bytes(size) < from % 65536 + bits % 65536 {
-        return Expr::No(36);
+        return Expr::No(refusal::SLICE_PAST_END);
     }
     if 64 <= from {
-        return Expr::No(41);
+        return Expr::No(refusal::SHIFT_TOO_FAR);
     }
     Expr::Value {
         x: ExprValue::Const {
@@ -96,7 +99,7 @@ fn slice_range(
     ensures { λ r. ⌜ r ≡ sliceRange v before whole from bits next st ⌝ }
 {
     if whole < from % 65536 + bits % 65536 {
-        return Expr::No(36);
+        return Expr::No(refusal::SLICE_PAST_END);
     }
     Expr::Value {
         x: ExprValue::BitRange {
@@ -111,7 +114,7 @@ fn slice_range(
 
 pub fn slice_bits(
     s: &[u8],
-    t: &[u16; 3344],
+    t: &[u16; table::LENGTH],
     a: &mut [u64],
     m: &mut [u64],
     e: Env,

@@ -1,0 +1,2 @@
+-- The lists of the definition's things that have numbers.
+pub mod Lists
