@@ -10,11 +10,11 @@ use Rattle.definition.specs.Passing.{subtableCount, pointerSizeIn}
 use Rattle.pcode.specs.Base.{if_then_else_}
 use Rattle.framing.specs.Blocks.{refusalOf, joined}
 use Rattle.section.specs.Stream.{answer, readStream}
-use Rattle.section_refinement.specs.FileTheorem.{one-block, checked-room, front, front-room}
+use Rattle.section_refinement.proofs.FileTheorem.{one-block, checked-room, front, front-room}
 use Rattle.resolution.specs.Files.{pointerSize}
 use Rattle.counts.specs.declared.Counts.{Counts}
 use Rattle.counts.specs.Counts.{counts, tableCounts, readCounts, streamCounts}
-use Rattle.counts.specs.Theorem.{file-counts, refused-counts}
+use Rattle.counts.proofs.Theorem.{file-counts, refused-counts}
 
 pub table-law : (s t : List ℕ) (subtables pointer : ℕ) → (subtables ≡ le16 s 20) × (subtables < 65536) → pointer ≡ pointerSize s t → counts subtables pointer ≡ tableCounts s t
 unfolding tableCounts

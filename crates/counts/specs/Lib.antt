@@ -1,3 +1,2 @@
 -- The words: what each function computes on the very lists that it has.
 pub mod Counts
-pub mod Theorem

@@ -8,7 +8,7 @@ use Rattle.definition.specs.SectionFile.{streamOf}
 use Rattle.cells.specs.Le.{le16}
 use Rattle.framing.specs.Blocks.{refusalOf, joined}
 use Rattle.section.specs.Stream.{answer, readStream}
-use Rattle.section_refinement.specs.FileTheorem.{one-block, checked-room, front, front-room}
+use Rattle.section_refinement.proofs.FileTheorem.{one-block, checked-room, front, front-room}
 use Rattle.pushing.specs.declared.push.Env.{Env}
 use Rattle.pcode.specs.declared.value.Value.{Value}
 use Rattle.pcode.specs.Base.{if_then_else_}

@@ -1,5 +1,5 @@
 -- What an accepted stream and its table hold: the definition's section, at the places that the table gives.
-use Prim.Native.Nat.{ℕ, zero, suc, _+_, _*_, _%_, _≤_, _<_}
+use Prim.Native.Nat.{ℕ, suc, _+_, _*_, _≤_, _<_}
 use mathlib.Core.Path.{_≡_}
 use mathlib.Core.List.{List, [], _∷_, map}
 use mathlib.Core.Option.{Option, none, some}
@@ -7,7 +7,7 @@ use lib.ListN.{length, getD, take, drop, getElem?}
 use lib.Dec.{eqb}
 use Rattle.definition.specs.Base.{if_then_else_, position}
 use Rattle.definition.specs.Ast.{SpaceKind, Space, Register, BitRange, Table, Macro, Field, Subtable, Statement, Section}
-use Rattle.definition.specs.SectionFile.{parsed, listOf, Header}
+use Rattle.definition.specs.SectionFile.{parsed, listOf}
 use Rattle.definition.specs.SectionFile as d
 use Rattle.definition.specs.Scope.{Symbol, symbolNumber, find, globals}
 use Rattle.cells.specs.Le.{le16}

@@ -6,7 +6,7 @@ use lib.ListN.{length, take, replicate, length-replicate}
 use lib.Seq.{length-take-le}
 use Rattle.definition.specs.SectionFile.{streamOf}
 use Rattle.framing.specs.Blocks.{refusalOf}
-use Rattle.section_refinement.specs.FileTheorem.{checked-room}
+use Rattle.section_refinement.proofs.FileTheorem.{checked-room}
 
 pub room : (file : List ℕ) (bad : ℕ) → bad ≡ refusalOf (streamOf file) → bad ≡ 0 → length file / 512 * 510 ≤ length {A = ℕ} (replicate 65280 0)
 room file bad e z = rw length-replicate (checked-room file (sym e ∙ z))

@@ -1,1 +1,3 @@
 mod Laws
+pub mod Theorem
+pub mod OperationNames

@@ -1,0 +1,20 @@
+-- The words that the code computes are those of the definition.
+pub mod Framing
+pub mod Operands
+pub mod Settled
+pub mod Focus
+pub mod After
+pub mod Shares
+pub mod RuleKinds
+pub mod Rules
+pub mod Lists
+pub mod Seen
+pub mod Pushes
+pub mod Marks
+pub mod Passes
+pub mod Fixing
+pub mod Finishing
+pub mod Assembling
+pub mod FromSection
+pub mod Named
+pub mod FromWalk
