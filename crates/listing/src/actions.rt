@@ -21,7 +21,13 @@ const NO_OUTPUT: u64 = 255;
 
 fn input(s: &[u8], t: &[u16; table::LENGTH], temporaries: &[u64], a: &[u64], i: usize) {
     let at = action::INPUT_0 + i % 8 * 2;
-    value(s, t, temporaries, cells::get(a, at), cells::get(a, at + 1));
+    value(
+        s,
+        t,
+        temporaries,
+        access::get(a, at),
+        access::get(a, at + 1),
+    );
 }
 
 // The output and an equals sign.
@@ -30,18 +36,18 @@ fn output(s: &[u8], t: &[u16; table::LENGTH], temporaries: &[u64], a: &[u64]) {
         s,
         t,
         temporaries,
-        cells::get(a, action::OUTPUT),
-        cells::get(a, OUTPUT_WORD),
+        access::get(a, action::OUTPUT),
+        access::get(a, OUTPUT_WORD),
     );
     text(b" = ");
 }
 
 // An Op without output has 0 and 255.
 fn output_there(a: &[u64]) -> bool {
-    if cells::get(a, action::OUTPUT) != 0 {
+    if access::get(a, action::OUTPUT) != 0 {
         return true;
     }
-    cells::get(a, OUTPUT_WORD) != NO_OUTPUT
+    access::get(a, OUTPUT_WORD) != NO_OUTPUT
 }
 
 fn maybe_output(s: &[u8], t: &[u16; table::LENGTH], temporaries: &[u64], a: &[u64]) {
@@ -52,7 +58,7 @@ fn maybe_output(s: &[u8], t: &[u16; table::LENGTH], temporaries: &[u64], a: &[u6
 
 fn operation_name(op: u64) {
     let mut out = [0u8; 32];
-    let n = spellings::operations::operation(op, &mut out);
+    let n = listing_names::operations::operation(op, &mut out);
     text(&out[..n]);
 }
 
@@ -66,7 +72,7 @@ fn separator(i: u64, first: &[u8]) {
 }
 
 fn inputs(s: &[u8], t: &[u16; table::LENGTH], temporaries: &[u64], a: &[u64], first: &[u8]) {
-    let n = cells::get(a, action::INPUT_COUNT) % 9;
+    let n = access::get(a, action::INPUT_COUNT) % 9;
     for i in 0..n {
         separator(i, first);
         input(s, t, temporaries, a, i as usize);
@@ -75,7 +81,7 @@ fn inputs(s: &[u8], t: &[u16; table::LENGTH], temporaries: &[u64], a: &[u64], fi
 
 fn plain(s: &[u8], t: &[u16; table::LENGTH], temporaries: &[u64], a: &[u64]) {
     maybe_output(s, t, temporaries, a);
-    operation_name(cells::get(a, action::OPERATION));
+    operation_name(access::get(a, action::OPERATION));
     inputs(s, t, temporaries, a, b" ");
 }
 
@@ -101,10 +107,10 @@ fn store(s: &[u8], t: &[u16; table::LENGTH], temporaries: &[u64], a: &[u64]) {
 
 // The condition of a branch stands in input 0, and is the constant 1 where there is none.
 fn is_conditional(a: &[u64]) -> bool {
-    if cells::get(a, action::INPUT_0) != 1 {
+    if access::get(a, action::INPUT_0) != 1 {
         return true;
     }
-    cells::get(a, INPUT_0_WORD) % 256 != value_kind::CONSTANT
+    access::get(a, INPUT_0_WORD) % 256 != value_kind::CONSTANT
 }
 
 // BRANCH, or CBRANCH with a condition.
@@ -112,7 +118,7 @@ fn branch_name(a: &[u64]) {
     if is_conditional(a) {
         text(b"C");
     }
-    operation_name(cells::get(a, action::OPERATION));
+    operation_name(access::get(a, action::OPERATION));
     text(b" ");
 }
 
@@ -133,7 +139,7 @@ fn hint(n: u64) {
 
 fn branch(s: &[u8], t: &[u16; table::LENGTH], temporaries: &[u64], a: &[u64]) {
     branch_name(a);
-    hint(cells::get(a, action::NUMBER));
+    hint(access::get(a, action::NUMBER));
     input(s, t, temporaries, a, 1);
     condition(s, t, temporaries, a);
 }
@@ -146,7 +152,7 @@ fn label(n: u64) {
 
 fn label_branch(s: &[u8], t: &[u16; table::LENGTH], temporaries: &[u64], a: &[u64]) {
     branch_name(a);
-    label(cells::get(a, action::NUMBER));
+    label(access::get(a, action::NUMBER));
     condition(s, t, temporaries, a);
 }
 
@@ -155,7 +161,7 @@ fn user_op(s: &[u8], t: &[u16; table::LENGTH], temporaries: &[u64], a: &[u64]) {
     maybe_output(s, t, temporaries, a);
     operation_name(operation::PCODE_OP);
     text(b" ");
-    name(spellings::names::user_op(s, t, cells::get(a, action::NUMBER)));
+    name(listing_names::names::user_op(s, t, access::get(a, action::NUMBER)));
     inputs(s, t, temporaries, a, b", ");
 }
 
@@ -163,12 +169,12 @@ fn user_op(s: &[u8], t: &[u16; table::LENGTH], temporaries: &[u64], a: &[u64]) {
 fn arg(s: &[u8], t: &[u16; table::LENGTH], temporaries: &[u64], a: &[u64]) {
     operation_name(operation::ARG);
     text(b" ");
-    number(cells::get(a, action::NUMBER));
+    number(access::get(a, action::NUMBER));
     inputs(s, t, temporaries, a, b", ");
 }
 
 fn operation(s: &[u8], t: &[u16; table::LENGTH], temporaries: &[u64], a: &[u64]) {
-    match cells::get(a, action::OPERATION) {
+    match access::get(a, action::OPERATION) {
         operation::LOAD => load(s, t, temporaries, a),
         operation::STORE => store(s, t, temporaries, a),
         operation::BRANCH => branch(s, t, temporaries, a),
@@ -190,24 +196,24 @@ fn load_register(s: &[u8], t: &[u16; table::LENGTH], temporaries: &[u64], a: &[u
     output(s, t, temporaries, a);
     operation_name(operation::LOAD);
     pointer(s, t, temporaries, a, b" register(");
-    size(cells::get(a, action::NUMBER));
+    size(access::get(a, action::NUMBER));
 }
 
 fn store_register(s: &[u8], t: &[u16; table::LENGTH], temporaries: &[u64], a: &[u64]) {
     operation_name(operation::STORE);
     pointer(s, t, temporaries, a, b" register(");
-    size(cells::get(a, action::NUMBER));
+    size(access::get(a, action::NUMBER));
     text(b", ");
     input(s, t, temporaries, a, 1);
 }
 
 fn build(s: &[u8], t: &[u16; table::LENGTH], a: &[u64]) {
     text(b"BUILD ");
-    subtable(s, t, cells::get(a, action::NUMBER));
+    subtable(s, t, access::get(a, action::NUMBER));
 }
 
 fn kind(s: &[u8], t: &[u16; table::LENGTH], temporaries: &[u64], a: &[u64]) {
-    match cells::get(a, action::KIND) {
+    match access::get(a, action::KIND) {
         action_kind::OP => operation(s, t, temporaries, a),
         action_kind::ADDRESS_OF => address_of(s, t, temporaries, a),
         action_kind::LOAD_REGISTER => load_register(s, t, temporaries, a),
@@ -218,16 +224,16 @@ fn kind(s: &[u8], t: &[u16; table::LENGTH], temporaries: &[u64], a: &[u64]) {
 }
 
 fn is_label(a: &[u64]) -> bool {
-    if cells::get(a, action::KIND) != action_kind::OP {
+    if access::get(a, action::KIND) != action_kind::OP {
         return false;
     }
-    cells::get(a, action::OPERATION) == operation::PCODE_LABEL
+    access::get(a, action::OPERATION) == operation::PCODE_LABEL
 }
 
 // An action of 24 words.
 fn action(s: &[u8], t: &[u16; table::LENGTH], temporaries: &[u64], a: &[u64]) {
     if is_label(a) {
-        label(cells::get(a, action::NUMBER));
+        label(access::get(a, action::NUMBER));
         text(b"\n");
         return;
     }

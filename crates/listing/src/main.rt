@@ -5,11 +5,11 @@ use codes::export_kind;
 use codes::table;
 use libc::STDERR_FILENO;
 use mizgalon::Checked;
-use outcome::answer::Answer;
 use print::count;
 use print::text;
 use refusals::refusal;
 use refusals::refusal_at;
+use resolve_answer::answer::Answer;
 use values::size;
 use values::value;
 
@@ -103,7 +103,7 @@ fn list_table(s: &[u8], t: &[u16; table::LENGTH], list: &[u64], temporaries: &[u
 
 fn list_stream(s: &[u8], list: &[u64], temporaries: &[u64], r: Checked) {
     let mut t = [0u16; table::LENGTH];
-    let bad = section::read_stream(s, &mut t);
+    let bad = file_section::read_stream(s, &mut t);
     if bad != 0 {
         refusal(r.answer);
         return;
@@ -123,13 +123,13 @@ fn list_blocks(file: &[u8], list: &[u64], temporaries: &[u64], r: Checked) {
     let mut buf = [0u8; 65280];
     let n = file.len() / 512 * 510;
     if n <= 65280 {
-        framing::blocks::join(file, &mut buf);
+        file_blocks::blocks::join(file, &mut buf);
         list_front(&buf, n, list, temporaries, r);
     }
 }
 
 fn list_file(file: &[u8], list: &[u64], temporaries: &[u64], r: Checked) {
-    if framing::blocks::check_blocks(file) != 0 {
+    if file_blocks::blocks::check_blocks(file) != 0 {
         refusal(r.answer);
         return;
     }

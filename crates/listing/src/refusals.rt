@@ -6,7 +6,7 @@ use crate::statements::statement;
 use codes::NONE;
 use codes::refusal;
 use codes::table;
-use outcome::answer::Answer;
+use resolve_answer::answer::Answer;
 
 fn of_file(n: u64) {
     match n {

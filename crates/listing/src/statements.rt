@@ -5,7 +5,7 @@ use crate::print::text;
 use codes::header;
 use codes::statement;
 use codes::table;
-use syntax::cursor::Cursor;
+use file_syntax::cursor::Cursor;
 
 fn kind(code: u64) {
     match code {
@@ -26,12 +26,12 @@ fn kind(code: u64) {
 // Where statement n of those that begin at a place stands.
 fn place(s: &[u8], at: usize, n: u64) -> usize {
     let c = Cursor { at, bad: 0, val: 0 };
-    syntax::statements::body(s, cells::u16_at(s, header::NAMES), n, c).at
+    file_syntax::statements::body(s, access::u16_at(s, header::NAMES), n, c).at
 }
 
 // The kind of statement n of those that begin at a place.
 fn kind_at(s: &[u8], at: usize, n: u64) {
-    kind(cells::byte(s, place(s, at, n), 0));
+    kind(access::byte(s, place(s, at, n), 0));
 }
 
 // The ordinals count from first.
@@ -44,7 +44,7 @@ fn since(ordinal: u64, first: u64) -> u64 {
 
 // The last macro whose body begins at the ordinal or before.
 fn macro_of(s: &[u8], t: &[u16; table::LENGTH], ordinal: u64) -> usize {
-    let n = cells::u16_at(s, header::MACROS) as usize;
+    let n = access::u16_at(s, header::MACROS) as usize;
     let mut last: usize = 0;
     for i in 0..n {
         last = later(t, i, ordinal, last);
@@ -53,7 +53,7 @@ fn macro_of(s: &[u8], t: &[u16; table::LENGTH], ordinal: u64) -> usize {
 }
 
 fn later(t: &[u16; table::LENGTH], i: usize, ordinal: u64, last: usize) -> usize {
-    if cells::get_u16(t, table::MACRO_ORDINALS + i % 128) as u64 <= ordinal {
+    if access::get_u16(t, table::MACRO_ORDINALS + i % 128) as u64 <= ordinal {
         return i;
     }
     last
@@ -61,18 +61,18 @@ fn later(t: &[u16; table::LENGTH], i: usize, ordinal: u64, last: usize) -> usize
 
 // Where the statements of a macro begin, whose parameter count stands at a place.
 fn body_at(s: &[u8], at: u16) -> usize {
-    at as usize + 3 + 2 * cells::byte(s, at as usize, 0) as usize
+    at as usize + 3 + 2 * access::byte(s, at as usize, 0) as usize
 }
 
 // The name that stands at a place.
 fn macro_name(s: &[u8], t: &[u16; table::LENGTH], at: usize) {
-    name(spellings::names::name(s, t, cells::u16_at(s, at)));
+    name(listing_names::names::name(s, t, access::u16_at(s, at)));
 }
 
 fn in_macro(s: &[u8], t: &[u16; table::LENGTH], ordinal: u64) {
     let i = macro_of(s, t, ordinal) % 128;
-    let first = cells::get_u16(t, table::MACRO_ORDINALS + i) as u64;
-    let at = cells::get_u16(t, table::MACROS + i);
+    let first = access::get_u16(t, table::MACRO_ORDINALS + i) as u64;
+    let at = access::get_u16(t, table::MACROS + i);
     kind_at(s, body_at(s, at), since(ordinal, first));
     text(b" in macro ");
     if 2 <= at {
@@ -81,12 +81,12 @@ fn in_macro(s: &[u8], t: &[u16; table::LENGTH], ordinal: u64) {
 }
 
 fn described(s: &[u8], t: &[u16; table::LENGTH], ordinal: u64) {
-    let first = cells::get_u16(t, table::FIRST_ORDINAL) as u64;
+    let first = access::get_u16(t, table::FIRST_ORDINAL) as u64;
     if ordinal < first {
         in_macro(s, t, ordinal);
         return;
     }
-    let at = cells::get_u16(t, table::STATEMENTS) as usize;
+    let at = access::get_u16(t, table::STATEMENTS) as usize;
     kind_at(s, at, since(ordinal, first));
 }
 

@@ -25,13 +25,13 @@ fn is_shared(temporaries: &[u64], i: u64, n: u64) -> bool {
 
 // Its name, and its number where another has that name too; t and its number where it has none.
 fn temporary(s: &[u8], t: &[u16; table::LENGTH], temporaries: &[u64], i: u64) {
-    let n = cells::get(temporaries, i as usize) % 65536;
+    let n = access::get(temporaries, i as usize) % 65536;
     if n == NONE {
         text(b"t");
         number(i);
         return;
     }
-    name(spellings::names::name(s, t, n));
+    name(listing_names::names::name(s, t, n));
     if is_shared(temporaries, i, n) {
         text(b"#");
         number(i);
@@ -40,11 +40,11 @@ fn temporary(s: &[u8], t: &[u16; table::LENGTH], temporaries: &[u64], i: u64) {
 
 // The name that stands at a place of the header.
 fn header_name(s: &[u8], t: &[u16; table::LENGTH], at: usize) {
-    name(spellings::names::name(s, t, cells::u16_at(s, at)));
+    name(listing_names::names::name(s, t, access::u16_at(s, at)));
 }
 
 pub(crate) fn subtable(s: &[u8], t: &[u16; table::LENGTH], i: u64) {
-    name(spellings::names::subtable(s, t, i));
+    name(listing_names::names::subtable(s, t, i));
 }
 
 // What a direct jump to a subtable goes to.
@@ -57,8 +57,8 @@ fn base(s: &[u8], t: &[u16; table::LENGTH], temporaries: &[u64], kind: u64, i: u
     match kind {
         value_kind::INST_START => header_name(s, t, header::INST_START),
         value_kind::INST_NEXT => header_name(s, t, header::INST_NEXT),
-        value_kind::REGISTER => name(spellings::names::register(s, t, i)),
-        value_kind::FIELD => name(spellings::names::field(s, t, i)),
+        value_kind::REGISTER => name(listing_names::names::register(s, t, i)),
+        value_kind::FIELD => name(listing_names::names::field(s, t, i)),
         value_kind::SUBTABLE => subtable(s, t, i),
         value_kind::SUBTABLE_REF => reference(s, t, i),
         value_kind::PCODE_TMP => temporary(s, t, temporaries, i),

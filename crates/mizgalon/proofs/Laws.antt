@@ -12,14 +12,14 @@ use Rattle.definition.specs.ActionList.{Answer, resolve}
 use Rattle.definition.specs.Checker.{check}
 use Rattle.definition.specs.Premise.{premise}
 use Rattle.definition.specs.Passing.{subtableCount, pointerSizeIn, refusalIn, actionsIn, temporariesIn, passes, checked}
-use Rattle.guarantee.proofs.Guarantee.{accepted-files-pass}
-use Rattle.counts.specs.declared.Counts.{Counts}
-use Rattle.counts.specs.Counts.{counts}
-use Rattle.outcome.specs.declared.answer.Answer.{Answer as Numbers}
-use Rattle.outcome.specs.Answers.{resolvedTo}
-use Rattle.resolution.specs.Files.{resolveFile}
-use Rattle.resolution_refinement.specs.Answers.{asAnswer}
-use Rattle.resolution_refinement.proofs.Theorem.{answered-is}
+use Rattle.definition_guarantee.proofs.Guarantee.{accepted-files-pass}
+use Rattle.resolve_counts.specs.declared.Counts.{Counts}
+use Rattle.resolve_counts.specs.Counts.{counts}
+use Rattle.resolve_answer.specs.declared.answer.Answer.{Answer as Numbers}
+use Rattle.resolve_answer.specs.Answers.{resolvedTo}
+use Rattle.resolve_file.specs.Files.{resolveFile}
+use Rattle.resolve_refinement.specs.Answers.{asAnswer}
+use Rattle.resolve_refinement.proofs.Theorem.{answered-is}
 use Rattle.mizgalon.specs.Answers.{numbers, answer}
 
 pub resolved : (file a m : List ℕ) (r : Numbers) (b u : List ℕ) → resolvedTo r b u ≡ resolveFile file a m → length a * 8 < 2 ^ 63 → length m * 8 < 2 ^ 63 → length b ≡ length a → length u ≡ length m

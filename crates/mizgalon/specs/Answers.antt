@@ -2,7 +2,7 @@
 use Prim.Native.Nat.{ℕ}
 use mathlib.Core.List.{List, [], _∷_}
 use Rattle.definition.specs.ActionList.{Answer}
-use Rattle.outcome.specs.declared.answer.Answer.{Answer as Numbers}
+use Rattle.resolve_answer.specs.declared.answer.Answer.{Answer as Numbers}
 
 -- the twelve numbers, in the order of the result
 abbrev pub numbers : Numbers → List ℕ

@@ -1,6 +1,6 @@
 // The public face: a section file resolved into lent lists, and the checker of such lists; for Rattle, and as C functions.
-use outcome::answer::Answer;
-use resolution::resolve_words;
+use resolve_answer::answer::Answer;
+use resolve_file::resolve_words;
 ghost use mathlib.Core.Path.{_≡_};
 ghost use lib.ListN.{length};
 ghost use Rattle.definition.specs.ActionList.{resolve};
@@ -69,8 +69,8 @@ pub fn resolve_checked(file: &[u8], actions: &mut [u64], temporaries: &mut [u64]
             passes: false,
         };
     }
-    let c = counts::section_counts(file);
-    let passes = checker::check(
+    let c = resolve_counts::section_counts(file);
+    let passes = list_checker::check(
         actions,
         answer.actions,
         answer.temporaries,
@@ -91,5 +91,5 @@ pub extern "C" fn mizgalon_check(
 ) -> bool
     ensures { λ r. ⌜ r ≡ check (now (list .entry)) actions temporaries subtables «pointer_size» ⌝ }
 {
-    checker::check(list, actions, temporaries, subtables, pointer_size)
+    list_checker::check(list, actions, temporaries, subtables, pointer_size)
 }

@@ -2,7 +2,7 @@
 // line each; after a refusal the first line alone. What cannot be quoted is said in a sentence on standard error.
 use libc::STDERR_FILENO;
 use libc::STDOUT_FILENO;
-use outcome::answer::Answer;
+use resolve_answer::answer::Answer;
 
 fn say(text: &[u8]) {
     io::write_all(STDERR_FILENO, text);

@@ -3,8 +3,8 @@ use Rattle.mizgalon.proofs.resolve_checked.Statement.{statement}
 use Rattle.mizgalon.proofs.resolve_checked.Tie as tie
 use Rattle.mizgalon.proofs.resolve_checked.Reads as reads
 use Rattle.mizgalon.proofs.resolve_checked.Lts as lts
-use Rattle.checker.proofs.check.Reads as check-reads
-use Rattle.counts.proofs.section_counts.Reads as section-counts-reads
+use Rattle.list_checker.proofs.check.Reads as check-reads
+use Rattle.resolve_counts.proofs.section_counts.Reads as section-counts-reads
 use Rattle.mizgalon.proofs.resolve.Reads as resolve-reads
 use Rattle.mizgalon.proofs.Laws.{laws}
 

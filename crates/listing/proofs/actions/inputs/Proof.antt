@@ -2,7 +2,7 @@ use Rattle.listing.proofs.actions.inputs.Statement.{statement}
 use Rattle.listing.proofs.actions.inputs.Tie as tie
 use Rattle.listing.proofs.actions.inputs.Reads as reads
 use Rattle.listing.proofs.actions.inputs.Lts as lts
-use Rattle.cells.proofs.get.Reads as get-reads
+use Rattle.access.proofs.get.Reads as get-reads
 use Rattle.listing.proofs.actions.input.Reads as input-reads
 use Rattle.listing.proofs.actions.separator.Reads as separator-reads
 use borrow.Author.Needs.{needs}

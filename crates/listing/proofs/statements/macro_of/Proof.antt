@@ -2,7 +2,7 @@ use Rattle.listing.proofs.statements.macro_of.Statement.{statement}
 use Rattle.listing.proofs.statements.macro_of.Tie as tie
 use Rattle.listing.proofs.statements.macro_of.Reads as reads
 use Rattle.listing.proofs.statements.macro_of.Lts as lts
-use Rattle.cells.proofs.u16_at.Reads as u16-at-reads
+use Rattle.access.proofs.u16_at.Reads as u16-at-reads
 use Rattle.listing.proofs.statements.later.Reads as later-reads
 use borrow.Author.Needs.{needs}
 use Prim.Native.Nat.{_-_, _≤_}

@@ -1,0 +1,26 @@
+use borrow.Author.Needs.{needs}
+use Rattle.access.proofs.get_u16.Statement.{statement}
+use Rattle.access.proofs.get_u16.Tie as tie
+use Rattle.access.proofs.get_u16.Reads as reads
+use Rattle.access.proofs.get_u16.Lts as lts
+use mathlib.Core.Path.{sym}
+use lib.ListN.{List·getD-eq-default}
+
+-- src/lib.rt:73:22
+mul-result : tie.Need-mul-result
+mul-result c = search needs
+
+-- src/lib.rt:73:22
+shared-slice-read-result : tie.Need-shared-slice-read-result
+shared-slice-read-result c = search needs
+
+-- src/lib.rt:70:1
+returns : tie.Need-returns
+returns c = search needs
+
+-- src/lib.rt:70:1
+returns-2 : tie.Need-returns-2
+returns-2 c = sym (List·getD-eq-default (c .before .args .s .now) 0 (c .if1 .left))
+
+pub get-u16-spec : {M : Type 1} → statement M
+get-u16-spec = tie.close (tie.spec mul-result shared-slice-read-result returns returns-2)

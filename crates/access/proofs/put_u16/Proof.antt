@@ -1,0 +1,30 @@
+use borrow.Author.Needs.{needs}
+use Rattle.access.proofs.put_u16.Statement.{statement}
+use Rattle.access.proofs.put_u16.Tie as tie
+use Rattle.access.proofs.put_u16.Reads as reads
+use Rattle.access.proofs.put_u16.Lts as lts
+use mathlib.Core.Path.{sym}
+use lib.Seq.{set-out}
+
+-- src/lib.rt:80:9
+mul-s : tie.Need-mul-s
+mul-s c = search needs
+
+-- src/lib.rt:80:9
+slice-write-s : tie.Need-slice-write-s
+slice-write-s c = search needs
+
+-- src/lib.rt:76:1
+same-length : tie.Need-same-length
+same-length c = search needs
+
+-- src/lib.rt:76:1
+returns : tie.Need-returns
+returns c = search needs
+
+-- src/lib.rt:76:1
+returns-2 : tie.Need-returns-2
+returns-2 c = sym (set-out _ _ _ (c .if1 .left))
+
+pub put-u16-spec : {M : Type 1} → statement M
+put-u16-spec = tie.close (tie.spec mul-s slice-write-s same-length returns returns-2)

@@ -1,0 +1,283 @@
+-- The limits that every section read from a file keeps, as far as its action list depends on them.
+use Prim.Native.Nat.{ℕ, zero, suc, _≤_}
+use mathlib.Core.Path.{_≡_, refl, ap, subst}
+use mathlib.Core.Bool.{Bool, true, false}
+use mathlib.Core.List.{List, [], _∷_, map}
+use mathlib.Core.Option.{none, some}
+use native.Mathlib.Omega.{arith}
+use lib.Dec.{eqb, leb}
+use lib.ListN.{length, getElem?}
+use Rattle.definition.specs.Base.{if_then_else_, orElse}
+use Rattle.definition.specs.Refusals.{Refusal, malformed, outsideLimit}
+use Rattle.definition.specs.Ast.{PcodeExpr, Args, noArgs, arg, Statement, Space, Register, BitRange, Table, Macro, Field, Section}
+use Rattle.definition.specs.Expressions.{argCount}
+use Rattle.definition.specs.SectionFile.{Parsed, parsed, refused, Read, on, _>>=_, _>>_, pure, refuse, require, upTo, orAbsent, size, sizeOr, bitNumber, choose, code, smallCount, listOf, argsOf, call, exprs, exprWithin, jumpLabel, branchDst, statement, entries, space, register, bitRange, table, macro, field, Header, header, lists, section, streamOf, read}
+use Rattle.definition_guarantee.specs.Tests.{Each}
+use Rattle.definition_guarantee.proofs.Tests.{le-of}
+use Rattle.definition_guarantee.specs.Limits.{SizeWithin, ExprWithin, ArgsWithin, JumpWithin, DestinationWithin, StatementWithin, WithinLimits}
+
+-- reading
+
+abbrev Holds : {A : Type 0} → (A → Type 0) → Parsed A → Type 0
+Holds P (parsed a s) = P a
+Holds P (refused r) = Unit {0}
+
+record Reads {A : Type 0} (P : A → Type 0) (m : Read A) : Type 0 where
+  reads : (s : List ℕ) → Holds P (m s)
+
+holds-on : {A B : Type 0} (P : A → Type 0) (Q : B → Type 0) (x : Parsed A) (f : A → Read B) → Holds P x → ((a : A) → P a → Reads Q (f a))
+    → Holds Q (on x f)
+unfolding on
+holds-on P Q (parsed a s) f h k = k a h .reads s
+holds-on P Q (refused r) f h k = tt
+
+bind : {A B : Type 0} {P : A → Type 0} {Q : B → Type 0} (m : Read A) (f : A → Read B) → Reads P m → ((a : A) → P a → Reads Q (f a))
+    → Reads Q (m >>= f)
+bind {A} {B} {P} {Q} m f h k = record { reads = λ s. holds-on P Q (m s) f (h .reads s) k }
+
+returns : {A : Type 0} {P : A → Type 0} (a : A) → P a → Reads P (pure a)
+returns a h = record { reads = λ s. h }
+
+refuses : {A : Type 0} {P : A → Type 0} (r : Refusal) → Reads P (refuse {A = A} r)
+refuses r = record { reads = λ s. tt }
+
+holds-any : {A : Type 0} (x : Parsed A) → Holds (λ _. Unit {0}) x
+holds-any (parsed a s) = tt
+holds-any (refused r) = tt
+
+anything : {A : Type 0} (m : Read A) → Reads (λ _. Unit {0}) m
+anything m = record { reads = λ s. holds-any (m s) }
+
+-- what is read and then passed over
+passed : {A B : Type 0} {Q : B → Type 0} (m : Read A) (f : A → Read B) → ((a : A) → Reads Q (f a)) → Reads Q (m >>= f)
+passed m f k = bind m f (anything m) (λ a h. k a)
+
+passes : {B : Type 0} {Q : B → Type 0} (m : Read (Unit {0})) (r : Read B) → Reads Q r → Reads Q (m >> r)
+passes {B} {Q} m r k = record { reads = λ s. holds-on (λ _. Unit {0}) Q (m s) (λ _. r) (holds-any (m s)) (λ _ _. k) }
+
+reads-require : (b : Bool) (r : Refusal) → Reads (λ _. b ≡ true) (require b r)
+unfolding require
+reads-require true r = record { reads = λ s. refl }
+reads-require false r = record { reads = λ s. tt }
+
+reads-upTo : (limit v : ℕ) → Reads (λ n. n ≤ limit) (upTo limit v)
+unfolding upTo
+reads-upTo limit v = record {
+  reads = λ s. holds-on (λ _. leb v limit ≡ true) (λ n. n ≤ limit) (require (leb v limit) outsideLimit s)
+      (λ _. pure v) (reads-require (leb v limit) outsideLimit .reads s) (λ _ h. returns v (le-of v limit h));
+}
+
+reads-absent : (limit v : ℕ) (b : Bool) → Reads (λ z. orElse 0 z ≤ limit) (if b then pure none else (upTo limit v >>= λ w. pure (some w)))
+unfolding if_then_else_ orElse
+reads-absent limit v true = returns none (omega arith)
+reads-absent limit v false = bind (upTo limit v) _ (reads-upTo limit v) (λ w h. returns (some w) h)
+
+reads-size : Reads (λ n. n ≤ 1024) size
+reads-size = passed _ _ (λ v. reads-upTo 1024 v)
+
+reads-sizeOr : Reads SizeWithin sizeOr
+unfolding orAbsent
+reads-sizeOr = passed _ _ (λ v. reads-absent 1024 v (eqb v 65535))
+
+reads-bits : Reads (λ n. n ≤ 8192) bitNumber
+reads-bits = passed _ _ (λ v. reads-upTo 8192 v)
+
+reads-count : Reads (λ n. n ≤ 8) smallCount
+reads-count = passed _ _ (λ v. reads-upTo 8 v)
+
+chosen : {A : Type 0} (P : A → Type 0) (xs : List (Read A)) (i : ℕ) → Each (Reads P) xs → Reads P (choose (getElem? xs i))
+unfolding choose
+chosen P [] i h = refuses malformed
+chosen P (x ∷ xs) zero h = h .0
+chosen P (x ∷ xs) (suc i) h = chosen P xs i (h .1)
+
+reads-code : {A : Type 0} (P : A → Type 0) (xs : List (Read A)) → Each (Reads P) xs → Reads P (code xs)
+unfolding code
+reads-code P xs h = passed _ _ (λ b. chosen P xs b h)
+
+reads-list : {A : Type 0} (P : A → Type 0) (m : Read A) (n : ℕ) → Reads P m → Reads (Each P) (listOf m n)
+unfolding listOf
+reads-list P m zero h = returns [] tt
+reads-list P m (suc n) h = bind _ _ h (λ x p. bind _ _ (reads-list P m n h) (λ xs q. returns (x ∷ xs) (p, q)))
+
+-- as many arguments as were counted
+reads-args : (m : Read PcodeExpr) (n : ℕ) → Reads ExprWithin m → Reads (λ xs. (argCount xs ≡ n) × ArgsWithin xs) (argsOf m n)
+unfolding argsOf argCount ArgsWithin
+reads-args m zero h = returns noArgs (refl, tt)
+reads-args m (suc n) h = bind _ _ h (λ x p. bind _ _ (reads-args m n h) (λ xs q. returns (arg x xs) (ap suc (q .0), (p, q .1))))
+
+module _ (names : ℕ) where
+  reads-call : {A : Type 0} (P : A → Type 0) (f : ℕ → Args → A) (m : Read PcodeExpr) → Reads ExprWithin m
+      → ((n : ℕ) (xs : Args) → (argCount xs ≤ 8) × ArgsWithin xs → P (f n xs)) → Reads P (call names f m)
+  unfolding call
+  reads-call P f m h k = passed _ _ (λ n. bind _ _ reads-count
+      (λ c l. bind _ _ (reads-args m c h) (λ xs q. returns (f n xs) (k n xs (rw (q .0) l, q .1)))))
+
+  reads-exprs : (part : Read PcodeExpr) → Reads ExprWithin part → Each (Reads ExprWithin) (exprs names part)
+  unfolding exprs ExprWithin
+  reads-exprs part h = (
+    passed _ _ (λ n. returns _ tt),
+    (
+      passed _ _ (λ v. returns _ tt),
+      (
+        bind _ _ reads-sizeOr (λ z p. passed _ _ (λ n. returns _ p)),
+        (
+          bind _ _ h (λ x p. bind _ _ reads-size (λ z q. returns _ (p, q))),
+          (
+            bind _ _ h (λ x p. passed _ _ (λ from. bind _ _ reads-bits (λ z q. returns _ (p, q)))),
+            (
+              bind _ _ h (λ a p. passed _ _ (λ o. bind _ _ h (λ b q. returns _ (p, q)))),
+              (
+                passed _ _ (λ n. bind _ _ reads-sizeOr (λ z p. bind _ _ h (λ x q. returns _ (p, q)))),
+                (
+                  passed _ _ (λ c. passed _ _ (λ xs. returns _ tt)),
+                  (reads-call ExprWithin PcodeExpr.Call part h (λ n xs p. p), tt),
+                ),
+              ),
+            ),
+          ),
+        ),
+      ),
+    ),
+  )
+
+  reads-expr : (depth : ℕ) → Reads ExprWithin (exprWithin names depth)
+  unfolding exprWithin exprs
+  reads-expr zero = record {
+    reads = λ s. reads-code ExprWithin (map (λ (_ : Read PcodeExpr). refuse outsideLimit) (exprs names (refuse outsideLimit)))
+        (refuses _, (refuses _, (refuses _, (refuses _, (refuses _, (refuses _, (refuses _, (refuses _, (refuses _, tt))))))))) .reads s;
+  }
+  reads-expr (suc depth) = record {
+    reads = λ s. reads-code ExprWithin (exprs names (exprWithin names depth))
+        (reads-exprs (exprWithin names depth) (reads-expr depth)) .reads s;
+  }
+
+  reads-jump : Reads JumpWithin (jumpLabel names)
+  unfolding jumpLabel JumpWithin
+  reads-jump = reads-code JumpWithin _ (passed _ _ (λ n. returns _ tt), (passed _ _ (λ v. bind _ _ reads-size (λ z p. returns _ p)), tt))
+
+  reads-dst : Reads DestinationWithin (branchDst names)
+  unfolding branchDst DestinationWithin
+  reads-dst = reads-code DestinationWithin _ (
+    bind _ _ reads-jump (λ l p. returns _ p),
+    (bind _ _ reads-jump (λ l p. returns _ p), (passed _ _ (λ n. returns _ tt), tt)),
+  )
+
+  reads-statement : Reads StatementWithin (statement names)
+  unfolding statement StatementWithin
+  reads-statement =
+      let e = reads-expr 32 in
+      reads-code StatementWithin _ (
+        returns _ tt,
+        (
+          bind _ _ e (λ x p. returns _ p),
+          (
+            passed _ _ (λ n. bind _ _ reads-sizeOr (λ z p. returns _ p)),
+            (
+              passed _ _ (λ n. bind _ _ reads-sizeOr (λ z p. bind _ _ e (λ x q. returns _ (p, q)))),
+              (
+                passed _ _ (λ n. returns _ tt),
+                (
+                  bind _ _ e (λ x p. bind _ _ e (λ y q. returns _ (p, q))),
+                  (
+                    passed _ _ (λ n. bind _ _ reads-sizeOr (λ z p. bind _ _ e (λ x q. bind _ _ e (λ y r. returns _ (p, q, r))))),
+                    (
+                      reads-call StatementWithin Statement.Call _ e (λ n xs p. p),
+                      (
+                        bind _ _ reads-dst (λ d p. passed _ _ (λ h. returns _ p)),
+                        (
+                          bind _ _ e (λ c p. bind _ _ reads-dst (λ d q. passed _ _ (λ h. returns _ (p, q)))),
+                          (passed _ _ (λ n. returns _ tt), tt),
+                        ),
+                      ),
+                    ),
+                  ),
+                ),
+              ),
+            ),
+          ),
+        ),
+      )
+
+  reads-entries : {A : Type 0} (P : A → Type 0) (entry : ℕ → Read A) (taken : List ℕ) (n : ℕ) → ((own : ℕ) → Reads P (entry own))
+      → Reads (λ xs. Each P xs × (length xs ≡ n)) (entries names entry taken n)
+  unfolding entries
+  reads-entries P entry taken zero h = returns [] (tt, refl)
+  reads-entries P entry taken (suc n) h =
+      passed _ _ (λ own. passes _ _ (bind _ _ (h own)
+      (λ x p. bind _ _ (reads-entries P entry (own ∷ taken) n h) (λ xs q. returns (x ∷ xs) ((p, q .0), ap suc (q .1))))))
+
+  reads-space : (own : ℕ) → Reads (λ (x : Space). x .addressSize ≤ 1024) (space names own)
+  unfolding space
+  reads-space own = passed _ _ (λ k. bind _ _ reads-size (λ z p. returns _ p))
+
+  reads-register : (own : ℕ) → Reads (λ (x : Register). x .size ≤ 1024) (register names own)
+  unfolding register
+  reads-register own = bind _ _ reads-size (λ z p. returns _ p)
+
+  reads-bitRange : (count own : ℕ) → Reads (λ (x : BitRange). x .bitCount ≤ 8192) (bitRange names count own)
+  unfolding bitRange
+  reads-bitRange count own = passed _ _ (λ r. passed _ _ (λ from. bind _ _ reads-bits (λ z p. returns _ p)))
+
+  reads-table : (own : ℕ) → Reads (λ (x : Table). SizeWithin (x .exportSize)) (table names own)
+  unfolding table
+  reads-table own = bind _ _ reads-sizeOr (λ z p. returns _ p)
+
+  reads-macro : (own : ℕ) → Reads (λ (x : Macro). Each StatementWithin (x .body)) (macro names own)
+  unfolding macro
+  reads-macro own = passed _ _ (λ c. passed _ _ (λ params. passed _ _
+      (λ n. bind _ _ (reads-list StatementWithin _ n reads-statement) (λ body p. returns _ p))))
+
+  reads-field : (own : ℕ) → Reads (λ (x : Field). SizeWithin (x .size)) (field names own)
+  unfolding field
+  reads-field own = bind _ _ reads-sizeOr (λ z p. returns _ p)
+
+reads-header : Reads (λ (h : Header). h .userOps ≤ 256) header
+unfolding header
+reads-header =
+    passed _ _ λ ruleSet. passed _ _ λ names. passed _ _ λ spaces. passed _ _ λ registers. passed _ _ λ bitRanges. passed _ _ λ tables.
+    bind _ _ (passed _ _ (λ v. reads-upTo 256 v)) λ userOps p.
+    passed _ _ λ macros. passed _ _ λ others. passed _ _ λ fields. passed _ _ λ subtables. passed _ _ λ statements.
+    passed _ _ λ defaultSpace. passed _ _ λ instStart. passed _ _ λ instNext. passed _ _ λ const. passed _ _ λ delaySlot. returns _ p
+
+reads-lists : (h : Header) → h .userOps ≤ 256 → Reads WithinLimits (lists h)
+unfolding lists
+reads-lists h u =
+    let n = h .names in
+    passed _ _ λ spelt.
+    bind _ _ (reads-entries n _ _ _ _ (reads-space n)) λ spaces p₁.
+    bind _ _ (reads-entries n _ _ _ _ (reads-register n)) λ registers p₂.
+    bind _ _ (reads-entries n _ _ _ _ (reads-bitRange n (h .registers))) λ bitRanges p₃.
+    bind _ _ (reads-entries n _ _ _ _ (reads-table n)) λ tables p₄.
+    bind _ _ (reads-entries n (λ _. Unit {0}) pure _ (h .userOps) (λ own. returns own tt)) λ userOps p₅.
+    bind _ _ (reads-entries n _ _ _ _ (reads-macro n)) λ macros p₆.
+    passed _ _ λ others.
+    bind _ _ (reads-entries n _ _ _ _ (reads-field n)) λ fields p₇.
+    passed _ _ λ subtables.
+    bind _ _ (reads-list StatementWithin _ _ (reads-statement n)) λ statements p₈.
+    passes _ _ (returns _ (record {
+      spaces = p₁ .0;
+      registers = p₂ .0;
+      bitRanges = p₃ .0;
+      tables = p₄ .0;
+      userOps = rw (p₅ .1) u;
+      macros = p₆ .0;
+      fields = p₇ .0;
+      statements = p₈;
+    }))
+
+reads-section : Reads WithinLimits section
+unfolding section
+reads-section = bind header lists reads-header (λ h u. reads-lists h u)
+
+pub read-within : (bytes rest : List ℕ) (sec : Section) → read bytes ≡ parsed sec rest → WithinLimits sec
+unfolding read on
+read-within bytes rest sec h = go (streamOf bytes) h
+  where
+    held : (x : Parsed Section) → Holds WithinLimits x → x ≡ parsed sec rest → WithinLimits sec
+    held (parsed a s) w e = let d : a ≡ sec = cc in subst WithinLimits d w
+    held (refused r) w e = let z : _≡_ {A = ℕ} 0 1 = cc in absurd (omega arith)
+
+    go : (x : Parsed (List ℕ)) → on x (λ stream _. section stream) ≡ parsed sec rest → WithinLimits sec
+    go (parsed stream s) e = held (section stream) (reads-section .reads stream) e
+    go (refused r) e = let z : _≡_ {A = ℕ} 0 1 = cc in absurd (omega arith)

@@ -1,0 +1,97 @@
+-- The spellings, and a name as a part of the stream.
+use mathlib.Core.Path.{_≡_, refl, sym, _∙_, ap}
+use mathlib.Core.Bool.{Bool, true, false}
+use mathlib.Core.List.{List, [], _∷_}
+use mathlib.Core.Option.{Option, none, some}
+use Prim.Native.Nat.{ℕ, _+_, _-_, _≤_, _<_}
+use native.Mathlib.Omega.{arith}
+use lib.ListN.{length, getD, take, drop, length-drop, List·getD-eq-default}
+use lib.Seq.{take-all}
+use lib.Dec.{eqb}
+use borrow.Author.Tests.{eqb-true, eq-eqb}
+use Rattle.definition.specs.Base.{if_then_else_, first, _or_, sameBytes}
+use Rattle.definition.specs.Operations.{operationNumber}
+use Rattle.definition.specs.Spellings.{bytesOf, inbuilt, inbuilts, translateInbuiltFunc}
+use Rattle.definition.specs.Spellings as definition
+use Rattle.expr_inbuilts.specs.declared.inbuilt.Inbuilt.{Inbuilt}
+use Rattle.expr_inbuilts.specs.Inbuilts.{inbuiltWords, attempt, logical, carries, extensions, roundings, conversions, inbuiltOf, inbuiltAt}
+
+same-refl : (a : List ℕ) → sameBytes a a ≡ true
+unfolding sameBytes if_then_else_
+same-refl [] = refl
+same-refl (x ∷ xs) = rw (eq-eqb x x refl) (same-refl xs)
+
+if-first : (a b : Bool) → (if a then b else false) ≡ true → a ≡ true
+unfolding if_then_else_
+if-first true b e = refl
+if-first false b e = e
+
+if-second : (a b : Bool) → (if a then b else false) ≡ true → b ≡ true
+unfolding if_then_else_
+if-second true b e = e
+if-second false b e = absurd (let z : _≡_ {A = ℕ} 0 1 = cc in omega arith)
+
+same-eq : (a b : List ℕ) → sameBytes a b ≡ true → a ≡ b
+unfolding sameBytes
+same-eq [] [] e = refl
+same-eq [] (y ∷ ys) e = absurd (let z : _≡_ {A = ℕ} 0 1 = cc in omega arith)
+same-eq (x ∷ xs) [] e = absurd (let z : _≡_ {A = ℕ} 0 1 = cc in omega arith)
+same-eq (x ∷ xs) (y ∷ ys) e =
+    let p : x ≡ y = eqb-true x y (if-first (eqb x y) (sameBytes xs ys) e) in
+    let q : xs ≡ ys = same-eq xs ys (if-second (eqb x y) (sameBytes xs ys) e) in
+    λ i. p i ∷ q i
+
+pub same-law : (a b : List ℕ) (r : Bool) → (r ≡ true → a ≡ b) → (a ≡ b → r ≡ true) → r ≡ sameBytes a b
+same-law a b true f g = let e = f refl in rw (← e) (sym (same-refl a))
+same-law a b false f g = go (sameBytes a b) refl
+  where
+    go : (t : Bool) → sameBytes a b ≡ t → false ≡ sameBytes a b
+    go true e = absurd (let h : false ≡ true = g (same-eq a b e) in let z : _≡_ {A = ℕ} 0 1 = cc in omega arith)
+    go false e = sym e
+
+pub attempt-hit : (w x : List ℕ) (o n : ℕ) (r : Inbuilt) (h : Bool) → h ≡ sameBytes w x → h ≡ true → _≡_ {A = Inbuilt} (record { op = o; arguments = n }) (attempt w x o n r)
+unfolding attempt if_then_else_
+attempt-hit w x o n r h e k = rw (← e, k)
+
+pub attempt-miss : (w x : List ℕ) (o n : ℕ) (r : Inbuilt) (h : Bool) → h ≡ sameBytes w x → h ≡ false → r ≡ attempt w x o n r
+unfolding attempt if_then_else_
+attempt-miss w x o n r h e k = rw (← e, k)
+
+-- the definition's search, one attempt for each spelling
+attempts : List ℕ → List definition.Inbuilt → Inbuilt
+attempts w [] = record { op = 0; arguments = 0 }
+attempts w (x ∷ xs) = attempt w (x .spelling) (operationNumber (x .op)) (x .arguments) (attempts w xs)
+
+words-or : (w : List ℕ) (x : definition.Inbuilt) (y : Option definition.Inbuilt) (b : Bool) → sameBytes w (x .spelling) ≡ b → inbuiltWords ((if b then some x else none) or y) ≡ attempt w (x .spelling) (operationNumber (x .op)) (x .arguments) (inbuiltWords y)
+unfolding inbuiltWords attempt if_then_else_ _or_
+words-or w x y true e = rw e
+words-or w x y false e = rw e
+
+searched : (w : List ℕ) (xs : List definition.Inbuilt) → inbuiltWords (first (λ (x : definition.Inbuilt). if sameBytes w (x .spelling) then some x else none) xs) ≡ attempts w xs
+unfolding attempts first inbuiltWords
+searched w [] = refl
+searched w (x ∷ xs) = words-or w x (first (λ (x : definition.Inbuilt). if sameBytes w (x .spelling) then some x else none) xs) (sameBytes w (x .spelling)) refl ∙ ap (attempt w (x .spelling) (operationNumber (x .op)) (x .arguments)) (searched w xs)
+
+in-groups : (w : List ℕ) → logical w (carries w (extensions w (roundings w (conversions w (record { op = 0; arguments = 0 }))))) ≡ attempts w inbuilts
+unfolding attempts logical carries extensions roundings conversions inbuilts inbuilt bytesOf operationNumber
+in-groups w = refl
+
+pub inbuilt-law : (w : List ℕ) (a b c d e : Inbuilt) → a ≡ conversions w (record { op = 0; arguments = 0 }) → b ≡ roundings w a → c ≡ extensions w b → d ≡ carries w c → e ≡ logical w d → e ≡ inbuiltOf w
+unfolding inbuiltOf translateInbuiltFunc
+inbuilt-law w a b c d e pa pb pc pd pe = rw (pd, pc, pb, pa) at pe ∙ in-groups w ∙ sym (searched w inbuilts)
+
+pub at-whole : (s : List ℕ) (at n : ℕ) (r : Inbuilt) → n ≡ getD s at 0 → r ≡ inbuiltOf (take (at + 1 + n - (at + 1)) (drop (at + 1) s)) → r ≡ inbuiltAt s at
+unfolding inbuiltAt
+at-whole s at n r e h = let z : at + 1 + n - (at + 1) ≡ n = omega arith in rw (← e) (rw z at h)
+
+pub at-cut : (s : List ℕ) (at n : ℕ) (r : Inbuilt) → n ≡ getD s at 0 → length s - (at + 1) < n → r ≡ inbuiltOf (take (length s - (at + 1)) (drop (at + 1) s)) → r ≡ inbuiltAt s at
+unfolding inbuiltAt
+at-cut s at n r e l h =
+    let p : length (drop (at + 1) s) ≡ length s - (at + 1) = length-drop (at + 1) s in
+    rw (← e, take-all n (drop (at + 1) s) (omega arith)) (rw (take-all (length s - (at + 1)) (drop (at + 1) s) (omega arith)) at h)
+
+pub at-none : (s : List ℕ) (at : ℕ) (r : Inbuilt) → length s ≤ at → r ≡ inbuiltOf [] → r ≡ inbuiltAt s at
+unfolding inbuiltAt
+at-none s at r l h = rw (List·getD-eq-default s 0 {n = at} l) h
+
+pub ruleset inbuilt-laws = (attempt-hit, attempt-miss, inbuilt-law, at-whole, at-cut, at-none)

@@ -1,0 +1,68 @@
+-- The built-in functions by the bytes of their names, and the words of the definition's answer.
+use Prim.Native.Nat.{ℕ, _+_}
+use mathlib.Core.List.{List, [], _∷_}
+use mathlib.Core.Option.{Option, none, some}
+use lib.ListN.{getD, take, drop}
+use Rattle.definition.specs.Base.{if_then_else_, sameBytes}
+use Rattle.definition.specs.Operations.{operationNumber}
+use Rattle.definition.specs.Spellings.{bytesOf, translateInbuiltFunc}
+use Rattle.definition.specs.Spellings as definition
+use Rattle.expr_inbuilts.specs.declared.inbuilt.Inbuilt.{Inbuilt}
+
+-- the operation's number and the count of arguments; both 0 where there is none
+unfoldable pub inbuiltWords : Option definition.Inbuilt → Inbuilt
+inbuiltWords none = record { op = 0; arguments = 0 }
+inbuiltWords (some x) = record { op = operationNumber (x .op); arguments = x .arguments }
+
+unfoldable pub attempt : List ℕ → List ℕ → ℕ → ℕ → Inbuilt → Inbuilt
+attempt w spelling op arguments other = if sameBytes w spelling then record { op = op; arguments = arguments } else other
+
+unfoldable pub logical : List ℕ → Inbuilt → Inbuilt
+logical w r =
+    attempt w (33 ∷ []) 39 1
+    (attempt w (126 ∷ []) 40 1
+    (attempt w (45 ∷ []) 41 1
+    (attempt w (110 ∷ 97 ∷ 110 ∷ []) 42 1
+    r)))
+
+unfoldable pub carries : List ℕ → Inbuilt → Inbuilt
+carries w r =
+    attempt w (99 ∷ 97 ∷ 114 ∷ 114 ∷ 121 ∷ []) 30 2
+    (attempt w (115 ∷ 99 ∷ 97 ∷ 114 ∷ 114 ∷ 121 ∷ []) 31 2
+    (attempt w (115 ∷ 98 ∷ 111 ∷ 114 ∷ 114 ∷ 111 ∷ 119 ∷ []) 32 2
+    r))
+
+unfoldable pub extensions : List ℕ → Inbuilt → Inbuilt
+extensions w r =
+    attempt w (122 ∷ 101 ∷ 120 ∷ 116 ∷ []) 43 1
+    (attempt w (122 ∷ 120 ∷ 116 ∷ []) 43 1
+    (attempt w (115 ∷ 101 ∷ 120 ∷ 116 ∷ []) 44 1
+    (attempt w (102 ∷ 45 ∷ []) 45 1
+    (attempt w (97 ∷ 98 ∷ 115 ∷ []) 46 1
+    r))))
+
+unfoldable pub roundings : List ℕ → Inbuilt → Inbuilt
+roundings w r =
+    attempt w (115 ∷ 113 ∷ 114 ∷ 116 ∷ []) 47 1
+    (attempt w (99 ∷ 101 ∷ 105 ∷ 108 ∷ []) 48 1
+    (attempt w (102 ∷ 108 ∷ 111 ∷ 111 ∷ 114 ∷ []) 49 1
+    (attempt w (114 ∷ 111 ∷ 117 ∷ 110 ∷ 100 ∷ []) 50 1
+    (attempt w (116 ∷ 114 ∷ 117 ∷ 110 ∷ 99 ∷ []) 51 1
+    r))))
+
+unfoldable pub conversions : List ℕ → Inbuilt → Inbuilt
+conversions w r =
+    attempt w (105 ∷ 110 ∷ 116 ∷ 50 ∷ 102 ∷ 108 ∷ 111 ∷ 97 ∷ 116 ∷ []) 52 1
+    (attempt w (117 ∷ 105 ∷ 110 ∷ 116 ∷ 50 ∷ 102 ∷ 108 ∷ 111 ∷ 97 ∷ 116 ∷ []) 53 1
+    (attempt w (102 ∷ 108 ∷ 111 ∷ 97 ∷ 116 ∷ 50 ∷ 102 ∷ 108 ∷ 111 ∷ 97 ∷ 116 ∷ []) 54 1
+    (attempt w (112 ∷ 111 ∷ 112 ∷ 99 ∷ 111 ∷ 117 ∷ 110 ∷ 116 ∷ []) 55 1
+    (attempt w (108 ∷ 122 ∷ 99 ∷ 111 ∷ 117 ∷ 110 ∷ 116 ∷ []) 56 1
+    r))))
+
+-- the built-in function of a name, as the definition finds it
+unfoldable pub inbuiltOf : List ℕ → Inbuilt
+inbuiltOf w = inbuiltWords (translateInbuiltFunc w)
+
+-- the built-in function of the name whose length byte stands at a position
+unfoldable pub inbuiltAt : List ℕ → ℕ → Inbuilt
+inbuiltAt s at = inbuiltOf (take (getD s at 0) (drop (at + 1) s))

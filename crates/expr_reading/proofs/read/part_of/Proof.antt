@@ -1,0 +1,49 @@
+use borrow.Author.Needs.{needs}
+use Rattle.expr_reading.proofs.read.part_of.Statement.{statement}
+use Rattle.expr_reading.proofs.read.part_of.Tie as tie
+use Rattle.expr_reading.proofs.read.part_of.Reads as reads
+use Rattle.expr_reading.proofs.read.part_of.Lts as lts
+use Rattle.expr_reading.proofs.read.byte_aligned.Reads as byte-aligned-reads
+use Rattle.expr_reading.proofs.read.shift_and_mask.Reads as shift-and-mask-reads
+use Rattle.expr_reading.proofs.read.sliced.Reads as sliced-reads
+use Rattle.expr_reading.proofs.ReadLaws.{read-laws}
+
+-- src/read.rt:152:8
+byte-aligned-requires : tie.Need-byte-aligned-requires
+byte-aligned-requires c κs = search (read-laws, needs)
+
+-- src/read.rt:153:9
+sliced-requires : tie.Need-sliced-requires
+sliced-requires c κs = search (read-laws, needs)
+
+-- src/read.rt:153:9
+returns : tie.Need-returns
+returns c = search (read-laws, needs)
+
+-- src/read.rt:155:5
+shift-and-mask-requires : tie.Need-shift-and-mask-requires
+shift-and-mask-requires c κs = search (read-laws, needs)
+
+-- src/read.rt:149:1
+same-length : tie.Need-same-length
+same-length c = search (read-laws, needs)
+
+-- src/read.rt:149:1
+same-length-2 : tie.Need-same-length-2
+same-length-2 c = search (read-laws, needs)
+
+-- src/read.rt:149:1
+returns-2 : tie.Need-returns-2
+returns-2 c = search (read-laws, needs)
+
+pub part-of-spec : {M : Type 1} → statement M
+part-of-spec =
+    tie.close
+    (tie.spec
+    byte-aligned-requires
+    sliced-requires
+    returns
+    shift-and-mask-requires
+    same-length
+    same-length-2
+    returns-2)

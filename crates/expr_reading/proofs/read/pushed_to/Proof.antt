@@ -1,0 +1,25 @@
+use borrow.Author.Needs.{needs}
+use Rattle.expr_reading.proofs.read.pushed_to.Statement.{statement}
+use Rattle.expr_reading.proofs.read.pushed_to.Tie as tie
+use Rattle.expr_reading.proofs.read.pushed_to.Reads as reads
+use Rattle.expr_reading.proofs.read.pushed_to.Lts as lts
+use Rattle.expr_reading.proofs.ReadLaws.{read-laws}
+
+-- src/read.rt:171:20
+enum-known-r : tie.Need-enum-known-r
+enum-known-r c = search (read-laws, needs)
+
+-- src/read.rt:172:22
+enum-known-r-2 : tie.Need-enum-known-r-2
+enum-known-r-2 c = search (read-laws, needs)
+
+-- src/read.rt:167:1
+returns : tie.Need-returns
+returns c = search (read-laws, needs)
+
+-- src/read.rt:167:1
+returns-2 : tie.Need-returns-2
+returns-2 c = search (read-laws, needs)
+
+pub pushed-to-spec : {M : Type 1} → statement M
+pushed-to-spec = tie.close (tie.spec enum-known-r enum-known-r-2 returns returns-2)

@@ -1,0 +1,229 @@
+use borrow.Author.Needs.{needs}
+use Rattle.expr_reading.proofs.read.read_value.Statement.{statement}
+use Rattle.expr_reading.proofs.read.read_value.Tie as tie
+use Rattle.expr_reading.proofs.read.read_value.Reads as reads
+use Rattle.expr_reading.proofs.read.read_value.Lts as lts
+use Rattle.expr_reading.proofs.read.constant.Reads as constant-reads
+use Rattle.expr_reading.proofs.read.copy_to.Reads as copy-to-reads
+use Rattle.expr_reading.proofs.read.load.Reads as load-reads
+use Rattle.expr_reading.proofs.read.load_register.Reads as load-register-reads
+use Rattle.expr_reading.proofs.read.read_address.Reads as read-address-reads
+use Rattle.expr_reading.proofs.read.read_slice.Reads as read-slice-reads
+use Rattle.list_values.proofs.value.with_size.Reads as with-size-reads
+use Rattle.list_pushes.proofs.push.op.Reads as op-reads
+use Rattle.expr_reading.proofs.ReadLaws.{read-laws}
+
+-- src/read.rt:364:26
+enum-known-x : tie.Need-enum-known-x
+enum-known-x c = search (read-laws, needs)
+
+-- src/read.rt:364:32
+copy-to-requires : tie.Need-copy-to-requires
+copy-to-requires c κs = search (read-laws, needs)
+
+-- src/read.rt:365:28
+enum-known-x-2 : tie.Need-enum-known-x-2
+enum-known-x-2 c = search (read-laws, needs)
+
+-- src/read.rt:365:34
+copy-to-requires-2 : tie.Need-copy-to-requires-2
+copy-to-requires-2 c κs = search (read-laws, needs)
+
+-- src/read.rt:366:28
+enum-known-x-3 : tie.Need-enum-known-x-3
+enum-known-x-3 c = search (read-laws, needs)
+
+-- src/read.rt:367:31
+constant-requires : tie.Need-constant-requires
+constant-requires c κs = search (read-laws, needs)
+
+-- src/read.rt:367:17
+with-size-requires : tie.Need-with-size-requires
+with-size-requires c κs = search (read-laws, needs)
+
+-- src/read.rt:368:13
+copy-to-requires-3 : tie.Need-copy-to-requires-3
+copy-to-requires-3 c κs = search (read-laws, needs)
+
+-- src/read.rt:371:17
+enum-known-x-4 : tie.Need-enum-known-x-4
+enum-known-x-4 c = search (read-laws, needs)
+
+-- src/read.rt:376:14
+op-requires : tie.Need-op-requires
+op-requires c κs = search (read-laws, needs)
+
+-- src/read.rt:377:29
+enum-known-x-5 : tie.Need-enum-known-x-5
+enum-known-x-5 c = search (read-laws, needs)
+
+-- src/read.rt:377:48
+load-requires : tie.Need-load-requires
+load-requires c κs = search (read-laws, needs)
+
+-- src/read.rt:378:34
+enum-known-x-6 : tie.Need-enum-known-x-6
+enum-known-x-6 c = search (read-laws, needs)
+
+-- src/read.rt:379:13
+load-register-requires : tie.Need-load-register-requires
+load-register-requires c κs = search (read-laws, needs)
+
+-- src/read.rt:381:32
+enum-known-x-7 : tie.Need-enum-known-x-7
+enum-known-x-7 c = search (read-laws, needs)
+
+-- src/read.rt:381:48
+read-address-requires : tie.Need-read-address-requires
+read-address-requires c κs = search (read-laws, needs)
+
+-- src/read.rt:382:31
+enum-known-x-8 : tie.Need-enum-known-x-8
+enum-known-x-8 c = search (read-laws, needs)
+
+-- src/read.rt:384:17
+read-slice-requires : tie.Need-read-slice-requires
+read-slice-requires c κs = search (read-laws, needs)
+
+-- src/read.rt:350:1
+same-length : tie.Need-same-length
+same-length c = search (read-laws, needs)
+
+-- src/read.rt:350:1
+same-length-2 : tie.Need-same-length-2
+same-length-2 c = search (read-laws, needs)
+
+-- src/read.rt:350:1
+returns : tie.Need-returns
+returns c = search (read-laws, needs)
+
+-- src/read.rt:350:1
+same-length-3 : tie.Need-same-length-3
+same-length-3 c = search (read-laws, needs)
+
+-- src/read.rt:350:1
+same-length-4 : tie.Need-same-length-4
+same-length-4 c = search (read-laws, needs)
+
+-- src/read.rt:350:1
+returns-2 : tie.Need-returns-2
+returns-2 c = search (read-laws, needs)
+
+-- src/read.rt:350:1
+same-length-5 : tie.Need-same-length-5
+same-length-5 c = search (read-laws, needs)
+
+-- src/read.rt:350:1
+same-length-6 : tie.Need-same-length-6
+same-length-6 c = search (read-laws, needs)
+
+-- src/read.rt:350:1
+returns-3 : tie.Need-returns-3
+returns-3 c = search (read-laws, needs)
+
+-- src/read.rt:350:1
+same-length-7 : tie.Need-same-length-7
+same-length-7 c = search (read-laws, needs)
+
+-- src/read.rt:350:1
+same-length-8 : tie.Need-same-length-8
+same-length-8 c = search (read-laws, needs)
+
+-- src/read.rt:350:1
+returns-4 : tie.Need-returns-4
+returns-4 c = search (read-laws, needs)
+
+-- src/read.rt:350:1
+same-length-9 : tie.Need-same-length-9
+same-length-9 c = search (read-laws, needs)
+
+-- src/read.rt:350:1
+same-length-10 : tie.Need-same-length-10
+same-length-10 c = search (read-laws, needs)
+
+-- src/read.rt:350:1
+returns-5 : tie.Need-returns-5
+returns-5 c = search (read-laws, needs)
+
+-- src/read.rt:350:1
+same-length-11 : tie.Need-same-length-11
+same-length-11 c = search (read-laws, needs)
+
+-- src/read.rt:350:1
+same-length-12 : tie.Need-same-length-12
+same-length-12 c = search (read-laws, needs)
+
+-- src/read.rt:350:1
+returns-6 : tie.Need-returns-6
+returns-6 c = search (read-laws, needs)
+
+-- src/read.rt:350:1
+same-length-13 : tie.Need-same-length-13
+same-length-13 c = search (read-laws, needs)
+
+-- src/read.rt:350:1
+same-length-14 : tie.Need-same-length-14
+same-length-14 c = search (read-laws, needs)
+
+-- src/read.rt:350:1
+returns-7 : tie.Need-returns-7
+returns-7 c = search (read-laws, needs)
+
+-- src/read.rt:350:1
+same-length-15 : tie.Need-same-length-15
+same-length-15 c = search (read-laws, needs)
+
+-- src/read.rt:350:1
+same-length-16 : tie.Need-same-length-16
+same-length-16 c = search (read-laws, needs)
+
+-- src/read.rt:350:1
+returns-8 : tie.Need-returns-8
+returns-8 c = search (read-laws, needs)
+
+pub read-value-spec : {M : Type 1} → statement M
+read-value-spec =
+    tie.close
+    (tie.spec
+    enum-known-x
+    copy-to-requires
+    enum-known-x-2
+    copy-to-requires-2
+    enum-known-x-3
+    constant-requires
+    with-size-requires
+    copy-to-requires-3
+    enum-known-x-4
+    op-requires
+    enum-known-x-5
+    load-requires
+    enum-known-x-6
+    load-register-requires
+    enum-known-x-7
+    read-address-requires
+    enum-known-x-8
+    read-slice-requires
+    same-length
+    same-length-2
+    returns
+    same-length-3
+    same-length-4
+    returns-2
+    same-length-5
+    same-length-6
+    returns-3
+    same-length-7
+    same-length-8
+    returns-4
+    same-length-9
+    same-length-10
+    returns-5
+    same-length-11
+    same-length-12
+    returns-6
+    same-length-13
+    same-length-14
+    returns-7
+    same-length-15
+    same-length-16
+    returns-8)

@@ -1,0 +1,160 @@
+-- How the code's values of expressions hold the definition's, and what has to be true of a state and of what an
+-- expression means for that.
+use Prim.Native.Nat.{ℕ, _+_, _*_, _≤_, _<_}
+use mathlib.Core.Path.{_≡_, refl, _∙_}
+use mathlib.Core.Bool.{false}
+use mathlib.Core.List.{List, [], _∷_, _++_}
+use mathlib.Core.Option.{Option, none, some}
+use native.Mathlib.Omega.{arith}
+use lib.ListN.{length, getElem?}
+use Rattle.definition.specs.Base.{if_then_else_, orElse, andThen, sum}
+use Rattle.definition.specs.Operations.{Operation, operationNumber, isOp}
+use Rattle.definition.specs.Value.{Kind, Value, ActionKind, SemanticAction, Temporary}
+use Rattle.definition.specs.Ast.{Section}
+use Rattle.definition.specs.Walk.{ExprValue, State}
+use Rattle.definition.specs.ActionList.{orNone, placesLabel, labelsPlaced}
+use Rattle.list_refinement.specs.Encoding.{encV, Within, Sound, SoundTmp, Each, EachOption, SoundAction}
+use Rattle.list_refinement.proofs.Lists.{firstOf, secondOf}
+use Rattle.list_refinement.proofs.RuleKinds.{kindOf, Operands}
+use Rattle.expr_scope.specs.declared.scope.ExprValue.{ExprValue as WordExpr}
+
+-- what an expression means; Apply has its inputs, none, one or two, with absent ones behind them
+unfoldable pub encX : ExprValue → WordExpr
+encX (ExprValue.Local v) = WordExpr.Local (encV v)
+encX (ExprValue.Unbound v) = WordExpr.Unbound (encV v)
+encX (ExprValue.Const n size) = WordExpr.Const n (orNone size)
+encX (ExprValue.Apply op n vs) = WordExpr.Apply (operationNumber op) n (length vs) (firstOf vs) (secondOf vs)
+encX (ExprValue.RamRef v size) = WordExpr.RamRef (encV v) size
+encX (ExprValue.RegisterRef v size) = WordExpr.RegisterRef (encV v) size
+encX (ExprValue.AddressOf v size) = WordExpr.AddressOf (encV v) (orNone size)
+encX (ExprValue.BitRange v from bits) = WordExpr.BitRange (encV v) from bits
+
+-- an action that an operation makes
+abbrev pub opAction : Operation → ℕ → List Value → Option Value → SemanticAction
+opAction op n vs to = record { kind = ActionKind.Op op; number = n; inputs = vs; output = to }
+
+-- with any output, the inputs are those that the operation's rule needs; and no label is placed
+abbrev pub Applies : Operation → List Value → Type 0
+Applies op vs = (n : ℕ) (to : Value) → Operands (kindOf op) (opAction op n vs (some to)) × (isOp Operation.PcodeLabel op ≡ false)
+
+abbrev pub Small : Option ℕ → Type 0
+Small z = orElse 0 z < 65535
+
+-- an expression's value that its words hold
+abbrev pub SoundX : Section → ℕ → ExprValue → Type 0
+SoundX sec n (ExprValue.Local v) = Sound sec n v
+SoundX sec n (ExprValue.Unbound v) = Sound sec n v
+SoundX sec n (ExprValue.Const c z) = Small z
+SoundX sec n (ExprValue.Apply op c vs) = (length vs ≤ 2) × Applies op vs × Each (Sound sec n) vs
+SoundX sec n (ExprValue.RamRef v z) = Sound sec n v × (z < 65535)
+SoundX sec n (ExprValue.RegisterRef v z) = Sound sec n v × (z < 65535)
+SoundX sec n (ExprValue.AddressOf v z) = Sound sec n v × Small z
+SoundX sec n (ExprValue.BitRange v from bits) = Sound sec n v × (from + bits ≤ 16384)
+
+-- more temporaries
+
+pub each-more : {A : Type 0} (P Q : A → Type 0) → ((a : A) → P a → Q a) → (xs : List A) → Each P xs → Each Q xs
+each-more P Q f [] h = tt
+each-more P Q f (x ∷ xs) h = (f x (h .0), each-more P Q f xs (h .1))
+
+within-more : (sec : Section) (n k : ℕ) → n ≤ k → (kind : Kind) (i : ℕ) → Within sec n kind i → Within sec k kind i
+within-more sec n k l Kind.InstStart i h = h
+within-more sec n k l Kind.InstNext i h = h
+within-more sec n k l Kind.Register i h = h
+within-more sec n k l Kind.Field i h = h
+within-more sec n k l Kind.Subtable i h = h
+within-more sec n k l Kind.SubtableRef i h = h
+within-more sec n k l Kind.PcodeTmp i h = omega arith
+within-more sec n k l Kind.Constant i h = h
+
+pub sound-more : (sec : Section) (n k : ℕ) → n ≤ k → (v : Value) → Sound sec n v → Sound sec k v
+sound-more sec n k l v h = record { number = within-more sec n k l (v .kind) (v .number) (h .number); offset = h .offset; size = h .size }
+
+pub x-more : (sec : Section) (n k : ℕ) → n ≤ k → (x : ExprValue) → SoundX sec n x → SoundX sec k x
+x-more sec n k l (ExprValue.Local v) h = sound-more sec n k l v h
+x-more sec n k l (ExprValue.Unbound v) h = sound-more sec n k l v h
+x-more sec n k l (ExprValue.Const c z) h = h
+x-more sec n k l (ExprValue.Apply op c vs) h = (h .0, h .1, each-more (Sound sec n) (Sound sec k) (sound-more sec n k l) vs (h .2))
+x-more sec n k l (ExprValue.RamRef v z) h = (sound-more sec n k l v (h .0), h .1)
+x-more sec n k l (ExprValue.RegisterRef v z) h = (sound-more sec n k l v (h .0), h .1)
+x-more sec n k l (ExprValue.AddressOf v z) h = (sound-more sec n k l v (h .0), h .1)
+x-more sec n k l (ExprValue.BitRange v from bits) h = (sound-more sec n k l v (h .0), h .1)
+
+-- states
+
+abbrev pub tmps : State → List Temporary
+tmps st = st .sizing .temporaries
+
+abbrev pub count : State → ℕ
+count st = length (tmps st)
+
+-- the name of a temporary that has one
+unfoldable pub nameAt : List Temporary → ℕ → Option ℕ
+nameAt ts i = andThen (getElem? ts i) λ (t : Temporary). t .name
+
+-- A state that the lent words hold: the actions and temporaries have room there, their values and those of the scope are
+-- sound, and there are at most four errors for each action, and so many to spare.
+pub record Stood (sec : Section) (tail marks rest : List ℕ) (spare : ℕ) (st : State) : Type 0 where
+  pub actions : 24 * length (st .actions) ≤ length tail
+  pub temporaries : count st ≤ length rest
+  pub marked : length marks ≤ count st
+  pub sizes : Each SoundTmp (tmps st)
+  pub errors : length (st .sizing .errors) ≤ spare + 4 * length (st .actions)
+  pub sound : Each (SoundAction sec (count st)) (st .actions)
+  pub params : Each (λ (p : ℕ × ExprValue). SoundX sec (count st) (p .1)) (st .scope .params)
+  pub mapping : Each (λ (p : ℕ × Value). Sound sec (count st) (p .1)) (st .scope .mapping)
+
+pub stood-more : {sec : Section} {tail marks rest : List ℕ} {spare : ℕ} (more : ℕ) {st : State} → spare ≤ more → Stood sec tail marks rest spare st → Stood sec tail marks rest more st
+stood-more more h f = record { actions = f .actions; temporaries = f .temporaries; marked = f .marked; sizes = f .sizes; errors = omega (arith, f .errors); sound = f .sound; params = f .params; mapping = f .mapping }
+
+-- From one state to a later one an expression changes only actions, temporaries and errors; no temporary gets a name.
+pub record Later (from st : State) : Type 0 where
+  pub temporaries : count from ≤ count st
+  pub names : (i : ℕ) → nameAt (tmps st) i ≡ nameAt (tmps from) i
+  pub statements : st .statements ≡ from .statements
+  pub scope : st .scope ≡ from .scope
+  pub nextLabel : st .nextLabel ≡ from .nextLabel
+  pub export : st .export ≡ from .export
+  pub begun : st .sizing .begun ≡ from .sizing .begun
+  pub actions : length (from .actions) ≤ length (st .actions)
+  pub placed : labelsPlaced (st .actions) ≡ labelsPlaced (from .actions)
+
+pub later-refl : (st : State) → Later st st
+later-refl st = record { temporaries = omega arith; names = λ i. refl; statements = refl; scope = refl; nextLabel = refl; export = refl; begun = refl; actions = omega arith; placed = refl }
+
+pub later-trans : {a b c : State} → Later a b → Later b c → Later a c
+later-trans p q = record {
+  temporaries = omega (arith, p .temporaries, q .temporaries);
+  names = λ i. q .names i ∙ p .names i;
+  statements = q .statements ∙ p .statements;
+  scope = q .scope ∙ p .scope;
+  nextLabel = q .nextLabel ∙ p .nextLabel;
+  export = q .export ∙ p .export;
+  begun = q .begun ∙ p .begun;
+  actions = omega (arith, p .actions, q .actions);
+  placed = q .placed ∙ p .placed;
+}
+
+pub params-more : (sec : Section) (n k : ℕ) → n ≤ k → (ps : List (ℕ × ExprValue)) → Each (λ (p : ℕ × ExprValue). SoundX sec n (p .1)) ps → Each (λ (p : ℕ × ExprValue). SoundX sec k (p .1)) ps
+params-more sec n k l ps h = each-more _ _ (λ (p : ℕ × ExprValue) f. x-more sec n k l (p .1) f) ps h
+
+pub mapping-more : (sec : Section) (n k : ℕ) → n ≤ k → (ps : List (ℕ × Value)) → Each (λ (p : ℕ × Value). Sound sec n (p .1)) ps → Each (λ (p : ℕ × Value). Sound sec k (p .1)) ps
+mapping-more sec n k l ps h = each-more _ _ (λ (p : ℕ × Value) f. sound-more sec n k l (p .1) f) ps h
+
+-- more actions
+
+pub actions-more : (sec : Section) (n k : ℕ) → n ≤ k → (xs : List SemanticAction) → Each (SoundAction sec n) xs → Each (SoundAction sec k) xs
+actions-more sec n k l xs h = each-more _ _ (λ (x : SemanticAction) f. record { inputs = each-more (Sound sec n) (Sound sec k) (sound-more sec n k l) (x .inputs) (f .inputs); output = option-more (x .output) (f .output) }) xs h
+  where
+    option-more : (y : Option Value) → EachOption (Sound sec n) y → EachOption (Sound sec k) y
+    option-more none f = tt
+    option-more (some v) f = sound-more sec n k l v f
+
+pub each-last : {A : Type 0} (P : A → Type 0) (xs : List A) (x : A) → Each P xs → P x → Each P (xs ++ (x ∷ []))
+each-last P [] x h g = (g, tt)
+each-last P (y ∷ xs) x h g = (h .0, each-last P xs x (h .1) g)
+
+pub placed-last : (xs : List SemanticAction) (x : SemanticAction) → labelsPlaced (xs ++ (x ∷ [])) ≡ labelsPlaced xs + (if placesLabel x then 1 else 0)
+unfolding labelsPlaced sum
+placed-last [] x = omega arith
+placed-last (y ∷ xs) x = let h = placed-last xs x in omega arith

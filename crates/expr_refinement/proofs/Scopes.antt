@@ -1,0 +1,338 @@
+-- What a name means: a parameter's slot, the two instruction addresses, a local among the temporaries or in the table, a
+-- global register or bit range, each as the definition has it.
+use Prim.Native.Nat.{ℕ, zero, suc, _+_, _-_, _*_, _/_, _%_, _≤_, _<_}
+use mathlib.Core.Path.{_≡_, refl, sym, _∙_, ap, subst}
+use mathlib.Core.Logic.{_≢_, _⊎_, inl, inr}
+use mathlib.Core.Bool.{Bool, true, false}
+use mathlib.Core.List.{List, [], _∷_, _++_, map}
+use mathlib.Core.Option.{Option, none, some}
+use native.Mathlib.Omega.{arith}
+use lib.ListN.{length, getD, getElem?, length-map}
+use lib.Dec.{eqb, ltb}
+use borrow.Author.Tests.{eqb-true, eqb-false, ne-eqb, eq-eqb, lt-ltb}
+use Rattle.definition.specs.Base as definition
+use Rattle.definition.specs.Base.{_or_, andThen, orElse, first, base-opens}
+use Rattle.definition.specs.Refusals.{refusalNumber}
+use Rattle.definition.specs.Value.{Kind, kindNumber, Value, local, Temporary}
+use Rattle.definition.specs.Ast.{Space as SpaceEntry, Register as RegisterEntry, BitRange as BitRangeEntry, Table as TableEntry, Macro as MacroEntry, Section}
+use Rattle.definition.specs.Walk.{ExprValue, State, Env, on}
+use Rattle.definition.specs.Scope as d
+use Rattle.definition.specs.Scope.{find, SymbolKind, symbolNumber, Symbol, isSymbol, symbols, globals, Meaning, means, wrong, registerBits, globalMeaning, innerMeaning, meaningOf}
+use Rattle.definition.specs.ActionList.{orNone}
+use Rattle.list_pushes.specs.declared.push.Env.{Env as WordEnv}
+use Rattle.list_values.specs.Base.{if_then_else_}
+use Rattle.list_values.specs.Sizes.{entry}
+use Rattle.file_refinement.specs.Holds.{Holds, bitRangeAt, symbolWord}
+use Rattle.list_refinement.specs.Encoding.{encV, temporariesIn, Sound, SoundTmp, Each}
+use Rattle.list_refinement.proofs.Marks.{tmp-at, tmp-name, tmp-mark}
+use Rattle.expr_scope.specs.declared.scope.ExprValue.{ExprValue as WordExpr}
+use Rattle.expr_scope.specs.declared.scope.Meaning.{Meaning as WordMeaning}
+use Rattle.expr_terms.specs.Answers.{resolved}
+use Rattle.expr_resolver.specs.Expressions.{meansAt}
+use Rattle.expr_scope.specs.Slots.{ofSlot, slotAt, paramPlace}
+use Rattle.expr_scope.specs.Scopes as words
+use Rattle.expr_scope.specs.Scopes.{Found, findParam, isLocal, ownLocal, tmpLocal, orTmp, lookupLocal, global, bitsAt, bitRange, foundOr, paramOr}
+use Rattle.expr_refinement.proofs.Encodings.{encX, SoundX, nameAt, tmps, count, Stood, Later}
+use Rattle.expr_refinement.proofs.Tree.{grown-plain}
+use Rattle.expr_refinement.proofs.Answers.{acts, temps, word, Refines, refines-done, refines-stopped, seenExpr}
+
+pub eqb-swap : (a b : ℕ) → eqb a b ≡ eqb b a
+eqb-swap a b = go (eqb b a) refl
+  where
+    go : (c : Bool) → eqb b a ≡ c → eqb a b ≡ c
+    go true h = eq-eqb a b (sym (eqb-true b a h))
+    go false h = ne-eqb a b (λ q. eqb-false b a h (sym q))
+
+unfoldable pub encM : Meaning → WordMeaning
+encM (means x) = WordMeaning.Means (encX x)
+encM (wrong r) = WordMeaning.Wrong (refusalNumber r)
+
+unfoldable pub encF : Option Value → Found
+encF none = Found.Nothing
+encF (some v) = Found.Is (encV v)
+
+-- Parameters: the last one is in front. The slot of each has its name and what it means.
+abbrev pub ParamsIn : List ℕ → List (ℕ × ExprValue) → Type 0
+ParamsIn p [] = Unit {0}
+ParamsIn p (x ∷ xs) = (getD p (paramPlace (length xs) + 0) 0 ≡ x .0) × (ofSlot (slotAt p (paramPlace (length xs))) ≡ encX (x .1)) × ParamsIn p xs
+
+-- what an option holds, as a meaning
+unfoldable pub meansOr : Option ExprValue → WordMeaning → WordMeaning
+meansOr (some x) other = WordMeaning.Means (encX x)
+meansOr none other = other
+
+-- the search, with the meaning that it finds
+found : ℕ → List ℕ → WordMeaning → WordMeaning
+unfolding if_then_else_
+found i p other = if ltb 0 i then WordMeaning.Means (ofSlot (slotAt p (paramPlace (i - 1)))) else other
+
+param-is : (ps : List (ℕ × ExprValue)) (p : List ℕ) (name : ℕ) (other : WordMeaning) → ParamsIn p ps → found (findParam (length ps) p name) p other ≡ meansOr (find name ps) other
+unfolding found findParam find first meansOr base-opens if_then_else_
+param-is [] p name other h = refl
+param-is (x ∷ xs) p name other h = rw (h .0, eqb-swap (x .0) name) (go (eqb name (x .0)) (param-is xs p name other (h .2)))
+  where
+    go : (b : Bool) → found (findParam (length xs) p name) p other ≡ meansOr (find name xs) other
+        → found (if b then suc (length xs) else findParam (length xs) p name) p other ≡ meansOr ((definition.if_then_else_ b (some (x .1)) none) or (find name xs)) other
+    go true q =
+        let i : ltb 0 (suc (length xs)) ≡ true = lt-ltb 0 (suc (length xs)) (omega arith) in
+        let j : suc (length xs) - 1 ≡ length xs = omega arith in
+        rw (i, j, h .1)
+    go false q = q
+
+-- Temporaries by their names and marks.
+
+tmp-in : (ts : List Temporary) (i : ℕ) → i < length ts → Each SoundTmp ts → (t : Temporary) × (getElem? ts i ≡ some t) × SoundTmp t
+tmp-in [] i h f = absurd (omega arith)
+tmp-in (t ∷ ts) zero h f = (t, refl, f .0)
+tmp-in (t ∷ ts) (suc i) h f = tmp-in ts i (omega arith) (f .1)
+
+pub name-at : (marks rest : List ℕ) (ts : List Temporary) (i : ℕ) → i < length ts → Each SoundTmp ts → getD (temporariesIn marks rest ts) i 0 % 65536 ≡ orNone (nameAt ts i)
+unfolding nameAt andThen
+name-at marks rest ts i h f = let k = tmp-in ts i h f in rw (tmp-at marks rest ts i (k .0) (k .1), tmp-name (getD marks i 0) (k .0) (k .2), k .1)
+
+pub mark-at : (marks rest : List ℕ) (ts : List Temporary) (i : ℕ) → i < length ts → Each SoundTmp ts → getD (temporariesIn marks rest ts) i 0 / 4294967296 ≡ getD marks i 0
+mark-at marks rest ts i h f = let k = tmp-in ts i h f in rw (tmp-at marks rest ts i (k .0) (k .1)) (tmp-mark (getD marks i 0) (k .0) (k .2))
+
+-- one with no name, or of another scope, is not found
+pub local-not : (marks rest : List ℕ) (ts : List Temporary) (i name scope : ℕ) → i < length ts → Each SoundTmp ts → name < 1024 → (nameAt ts i ≡ none) ⊎ (getD marks i 0 / 262144 ≢ scope)
+    → isLocal (getD (temporariesIn marks rest ts) i 0) name scope ≡ false
+unfolding isLocal if_then_else_
+local-not marks rest ts i name scope h f k (inl z) = rw (name-at marks rest ts i h f, z) (unfold orNone orElse in rw (ne-eqb 65535 name (λ q. omega arith)))
+local-not marks rest ts i name scope h f k (inr z) =
+    let a = mark-at marks rest ts i h f in
+    let b : getD (temporariesIn marks rest ts) i 0 / 1125899906842624 ≡ getD marks i 0 / 262144 = omega arith in
+    rw (b, ne-eqb (getD marks i 0 / 262144) scope z) (go (eqb (getD (temporariesIn marks rest ts) i 0 % 65536) name))
+  where
+    go : (b : Bool) → (if b then false else false) ≡ false
+    go true = unfold if_then_else_ in refl
+    go false = unfold if_then_else_ in refl
+
+pub past-end : (xs : List ℕ) (i : ℕ) → length xs ≤ i → getD xs i 0 ≡ 0
+past-end [] i h = refl
+past-end (x ∷ xs) zero h = absurd (omega arith)
+past-end (x ∷ xs) (suc i) h = past-end xs i (omega arith)
+
+pub nameless : (ts : List Temporary) (i : ℕ) → length ts ≤ i → nameAt ts i ≡ none
+unfolding nameAt andThen
+nameless [] i h = refl
+nameless (t ∷ ts) zero h = absurd (omega arith)
+nameless (t ∷ ts) (suc i) h = nameless ts i (omega arith)
+
+-- locals are found where the temporaries are
+pub lookup-as : (t m w : List ℕ) (scope n k name : ℕ) → tmpLocal w k name scope ≡ tmpLocal m n name scope → lookupLocal t w scope k name ≡ lookupLocal t m scope n name
+unfolding lookupLocal
+lookup-as t m w scope n k name h = go (eqb scope 0) (ownLocal t name)
+  where
+    go : (b : Bool) (x : Found) → (if b then orTmp x w k name scope else tmpLocal w k name scope) ≡ (if b then orTmp x m n name scope else tmpLocal m n name scope)
+    go true (Found.Is v) = unfold if_then_else_ orTmp in refl
+    go true Found.Nothing = unfold if_then_else_ orTmp in h
+    go false x = unfold if_then_else_ in h
+
+module _ (s t : List ℕ) (e : Env) (p front tail marks rest : List ℕ) (we : WordEnv) where
+  -- The words hold the scope: its parameters stand in their slots, and the table and the temporaries give
+  -- its locals.
+  pub record Scoped (st : State) : Type 0 where
+    pub params : ParamsIn p (st .scope .params)
+    pub counted : we .count ≡ length (st .scope .params)
+    pub locals : (name : ℕ) → name < 1024 → lookupLocal t (temps (e .section) front tail marks rest st) (we .scope) (count st) name ≡ encF (find name (st .scope .mapping))
+
+  -- a temporary is found where it was
+  pub tmp-later : (spare more : ℕ) (from st : State) → Stood (e .section) tail marks rest spare from → Stood (e .section) tail marks rest more st → Later from st → (name scope : ℕ) → name < 1024
+      → tmpLocal (temps (e .section) front tail marks rest st) (count st) name scope ≡ tmpLocal (temps (e .section) front tail marks rest from) (count from) name scope
+  tmp-later spare more from st f g l name scope h = grown-plain (temps (e .section) front tail marks rest from) (temps (e .section) front tail marks rest st) (count from) (count st) name scope (l .temporaries)
+      (λ i k. name-at marks rest (tmps st) i (omega (arith, l .temporaries)) (g .sizes) ∙ ap orNone (l .names i) ∙ sym (name-at marks rest (tmps from) i k (f .sizes)))
+      (λ i k. mark-at marks rest (tmps st) i (omega (arith, l .temporaries)) (g .sizes) ∙ sym (mark-at marks rest (tmps from) i k (f .sizes)))
+      (λ i k j. local-not marks rest (tmps st) i name scope j (g .sizes) h (inl (l .names i ∙ nameless (tmps from) i k)))
+      (λ i k j. let a = mark-at marks rest (tmps st) i j (g .sizes) in let b = past-end marks i (omega (arith, f .marked)) in omega arith)
+
+  pub scoped-later : (spare more : ℕ) (from st : State) → Stood (e .section) tail marks rest spare from → Stood (e .section) tail marks rest more st → Later from st → Scoped from → Scoped st
+  scoped-later spare more from st f g l h = record {
+    params = rw (l .scope) (h .params);
+    counted = rw (l .scope) (h .counted);
+    locals = λ name k. rw (l .scope)
+        (lookup-as t (temps (e .section) front tail marks rest from) (temps (e .section) front tail marks rest st) (we .scope) (count from) (count st) name (tmp-later spare more from st f g l name (we .scope) k) ∙ h .locals name k);
+  }
+
+-- Globals.
+
+-- a symbol's place is within its kind's list
+abbrev pub Placed : Section → SymbolKind → ℕ → Type 0
+Placed sec SymbolKind.Space i = i < length (sec .spaces)
+Placed sec SymbolKind.Register i = i < length (sec .registers)
+Placed sec SymbolKind.BitRange i = i < length (sec .bitRanges)
+Placed sec SymbolKind.Table i = Unit {0}
+Placed sec SymbolKind.UserOp i = Unit {0}
+Placed sec SymbolKind.Macro i = Unit {0}
+Placed sec SymbolKind.Other i = Unit {0}
+
+pub find-each : {A : Type 0} (P : A → Type 0) (n : ℕ) (xs : List (ℕ × A)) (a : A) → Each (λ (x : ℕ × A). P (x .1)) xs → find n xs ≡ some a → P a
+unfolding find first base-opens
+find-each P n [] a h q = let z : _≡_ {A = ℕ} 0 1 = cc in absurd (omega arith)
+find-each {A} P n (x ∷ xs) a h q = go (eqb n (x .0)) (find-each P n xs a (h .1)) q
+  where
+    go : (b : Bool) → (find n xs ≡ some a → P a) → (definition.if_then_else_ b (some (x .1)) none) or (find n xs) ≡ some a → P a
+    go true f q = let r : x .1 ≡ a = cc in subst P r (h .0)
+    go false f q = f q
+
+each-both : {A : Type 0} (P : A → Type 0) (xs ys : List A) → Each P xs → Each P ys → Each P (xs ++ ys)
+each-both P [] ys h g = g
+each-both P (x ∷ xs) ys h g = (h .0, each-both P xs ys (h .1) g)
+
+module _ (sec : Section) where
+  record Fits (xs : List (ℕ × Symbol)) : Type 0 where
+    fit : Each (λ (x : ℕ × Symbol). Placed sec (x .1 .kind) (x .1 .id)) xs
+
+  join : (xs ys : List (ℕ × Symbol)) → Fits xs → Fits ys → Fits (xs ++ ys)
+  join xs ys f g = record { fit = each-both _ xs ys (f .fit) (g .fit) }
+
+  of-kind : (k : SymbolKind) (i : ℕ) (ns : List ℕ) → ((j : ℕ) → j < i + length ns → Placed sec k j) → Fits (symbols k i ns)
+  unfolding symbols
+  of-kind k i [] h = record { fit = tt }
+  of-kind k i (n ∷ ns) h = record { fit = (h i (omega arith), of-kind k (suc i) ns (λ j l. h j (omega arith)) .fit) }
+
+  globals-fit : Fits (globals sec)
+  unfolding globals
+  globals-fit =
+      join _ _ (join _ _ (join _ _ (join _ _ (join _ _ (join _ _
+      (of-kind SymbolKind.Space 0 (map (λ (x : SpaceEntry). x .name) (sec .spaces)) (λ j l. omega (arith, length-map (sec .spaces) (λ (x : SpaceEntry). x .name))))
+      (of-kind SymbolKind.Register 0 (map (λ (x : RegisterEntry). x .name) (sec .registers)) (λ j l. omega (arith, length-map (sec .registers) (λ (x : RegisterEntry). x .name)))))
+      (of-kind SymbolKind.BitRange 0 (map (λ (x : BitRangeEntry). x .name) (sec .bitRanges)) (λ j l. omega (arith, length-map (sec .bitRanges) (λ (x : BitRangeEntry). x .name)))))
+      (of-kind SymbolKind.Table 0 (map (λ (x : TableEntry). x .name) (sec .tables)) (λ j l. tt)))
+      (of-kind SymbolKind.UserOp 0 (sec .userOps) (λ j l. tt)))
+      (of-kind SymbolKind.Macro 0 (map (λ (x : MacroEntry). x .name) (sec .macros)) (λ j l. tt)))
+      (of-kind SymbolKind.Other 0 (sec .others) (λ j l. tt))
+
+  pub symbol-placed : (n : ℕ) (y : Symbol) → find n (globals sec) ≡ some y → Placed sec (y .kind) (y .id)
+  symbol-placed n y h = find-each (λ (y : Symbol). Placed sec (y .kind) (y .id)) n (globals sec) y (globals-fit .fit) h
+
+-- the word of a symbol
+pub word-nonzero : (k i : ℕ) → eqb (1 + k + 8 * i) 0 ≡ false
+word-nonzero k i = ne-eqb (1 + k + 8 * i) 0 (λ q. omega arith)
+
+pub word-kind : (k i : ℕ) → k < 8 → (1 + k + 8 * i - 1) % 8 ≡ k
+word-kind k i h = let p : 1 + k + 8 * i - 1 ≡ k + 8 * i = omega arith in rw p (omega arith)
+
+pub word-place : (k i : ℕ) → k < 8 → (1 + k + 8 * i - 1) / 8 ≡ i
+word-place k i h = let p : 1 + k + 8 * i - 1 ≡ k + 8 * i = omega arith in rw p (omega arith)
+
+-- the bit ranges name registers, and their bits are within limits
+pub record BitRangesFit (sec : Section) : Type 0 where
+  pub register : (i : ℕ) (b : BitRangeEntry) → getElem? (sec .bitRanges) i ≡ some b → b .register < length (sec .registers)
+  pub bits : (i : ℕ) (b : BitRangeEntry) → getElem? (sec .bitRanges) i ≡ some b → b .firstBit + b .bitCount ≤ 16384
+
+module _ (s t : List ℕ) (sec : Section) (holds : Holds s t sec) where
+  pub global-is : (name : ℕ) → name < 1024 → global t name ≡ symbolWord (find name (globals sec))
+  unfolding global
+  global-is name h = let p : name % 1024 ≡ name = omega arith in rw p (holds .globals name h)
+
+  range-place : (i : ℕ) → i < length (sec .bitRanges) → entry t 2 (i % 65536 * 8) ≡ getD t 3330 0 + 8 * i
+  unfolding entry
+  range-place i h =
+      let l : length (sec .bitRanges) ≤ 1024 = rw (holds .bitRanges .count) (holds .limits .bitRanges) in
+      let p : i % 65536 ≡ i = omega arith in
+      let q : i * 8 % 1048576 ≡ 8 * i = omega arith in
+      rw (p, q)
+
+  range-is : (i : ℕ) → i < length (sec .bitRanges) → WordMeaning.Means (bitRange s t i) ≡ encM (registerBits (getElem? (sec .bitRanges) i))
+  unfolding bitRange bitsAt encM encX registerBits kindNumber orNone orElse bitRangeAt
+  range-is i h =
+      let z : getD t 3330 0 + (2 + 6) * i ≡ getD t 3330 0 + 8 * i = omega arith in
+      let a : getD t 3330 0 + 8 * i + 2 + 2 ≡ getD t 3330 0 + 8 * i + 4 = omega arith in
+      let b : getD t 3330 0 + 8 * i + 2 + 4 ≡ getD t 3330 0 + 8 * i + 6 = omega arith in
+      rw (range-place i h, holds .bitRanges .element i h, a, b)
+
+  module _ (name : ℕ) (y : Option Symbol) (is : find name (globals sec) ≡ y) where
+    pub global-means : words.globalMeaning s t (symbolWord y) ≡ encM (globalMeaning sec y)
+    unfolding words.globalMeaning symbolWord globalMeaning
+    global-means = go y is
+      where
+        kind : (k : SymbolKind) (i : ℕ) → Placed sec k i → words.globalMeaning s t (1 + symbolNumber k + 8 * i) ≡ encM (globalMeaning sec (some (record { kind = k; id = i })))
+        kind SymbolKind.Space i h = unfold if_then_else_ symbolNumber isSymbol base-opens encM refusalNumber in rw (word-nonzero 0 i, word-kind 0 i (omega arith))
+        kind SymbolKind.Register i h = unfold if_then_else_ symbolNumber isSymbol base-opens encM encX kindNumber orNone orElse in rw (word-nonzero 1 i, word-kind 1 i (omega arith), word-place 1 i (omega arith))
+        kind SymbolKind.BitRange i h = unfold if_then_else_ symbolNumber isSymbol base-opens in rw (word-nonzero 2 i, word-kind 2 i (omega arith), word-place 2 i (omega arith)) (range-is i h)
+        kind SymbolKind.Table i h = unfold if_then_else_ symbolNumber isSymbol base-opens encM refusalNumber in rw (word-nonzero 3 i, word-kind 3 i (omega arith))
+        kind SymbolKind.UserOp i h = unfold if_then_else_ symbolNumber isSymbol base-opens encM refusalNumber in rw (word-nonzero 4 i, word-kind 4 i (omega arith))
+        kind SymbolKind.Macro i h = unfold if_then_else_ symbolNumber isSymbol base-opens encM refusalNumber in rw (word-nonzero 5 i, word-kind 5 i (omega arith))
+        kind SymbolKind.Other i h = unfold if_then_else_ symbolNumber isSymbol base-opens encM refusalNumber in rw (word-nonzero 6 i, word-kind 6 i (omega arith))
+
+        go : (y : Option Symbol) → find name (globals sec) ≡ y → words.globalMeaning s t (symbolWord y) ≡ encM (globalMeaning sec y)
+        go none q = unfold if_then_else_ encM refusalNumber in refl
+        go (some y) q = kind (y .kind) (y .id) (symbol-placed sec name y q)
+
+module _ (s t : List ℕ) (e : Env) (p front tail marks rest : List ℕ) (we : WordEnv) (holds : Holds s t (e .section)) (spare : ℕ) (st : State) (scoped : Scoped s t e p front tail marks rest we st) (name : ℕ) (known : name < 1024) where
+  inner-is : words.innerMeaning s t (temps (e .section) front tail marks rest st) we (word (e .section) front tail marks rest st) name
+      ≡ encM (meaningOf (e .section) ((definition.if_then_else_ (eqb name (e .section .instNext)) (some (ExprValue.Local (local Kind.InstNext 0))) none) or (definition.if_then_else_ (eqb name (e .section .instStart)) (some (ExprValue.Local (local Kind.InstStart 0))) none)
+      or (andThen (find name (st .scope .mapping)) λ v. some (ExprValue.Local v))) name)
+  unfolding words.innerMeaning
+  inner-is =
+      rw (scoped .locals name known, global-is s t (e .section) holds name known, ← holds .instNext, ← holds .instStart)
+      (go (eqb name (e .section .instNext)) (eqb name (e .section .instStart)) (find name (st .scope .mapping)))
+    where
+      go : (a b : Bool) (v : Option Value)
+          → (if a then WordMeaning.Means (WordExpr.Local (record { kind = 1; number = 0; offset = 0; size = 65535 })) else if b then WordMeaning.Means (WordExpr.Local (record { kind = 0; number = 0; offset = 0; size = 65535 })) else foundOr (encF v) (words.globalMeaning s t (symbolWord (find name (globals (e .section))))))
+          ≡ encM (meaningOf (e .section) ((definition.if_then_else_ a (some (ExprValue.Local (local Kind.InstNext 0))) none) or (definition.if_then_else_ b (some (ExprValue.Local (local Kind.InstStart 0))) none) or (andThen v λ v. some (ExprValue.Local v))) name)
+      go true b v = unfold if_then_else_ base-opens meaningOf encM encX kindNumber orNone orElse in refl
+      go false true v = unfold if_then_else_ base-opens meaningOf encM encX kindNumber orNone orElse in refl
+      go false false (some v) = unfold if_then_else_ base-opens meaningOf encM encX foundOr encF in refl
+      go false false none = unfold if_then_else_ base-opens meaningOf foundOr encF in global-means s t (e .section) holds name (find name (globals (e .section))) refl
+
+  pub ident-is : words.resolveIdent s t p (temps (e .section) front tail marks rest st) we (word (e .section) front tail marks rest st) name ≡ encM (meaningOf (e .section) (innerMeaning (e .section) (st .scope) name) name)
+  unfolding words.resolveIdent paramOr found innerMeaning words.innerMeaning
+  ident-is =
+      rw (scoped .counted)
+      (param-is (st .scope .params) p name _ (scoped .params) ∙ go (find name (st .scope .params)))
+    where
+      go : (x : Option ExprValue) → meansOr x (words.innerMeaning s t (temps (e .section) front tail marks rest st) we (word (e .section) front tail marks rest st) name)
+          ≡ encM (meaningOf (e .section) (x or (definition.if_then_else_ (eqb name (e .section .instNext)) (some (ExprValue.Local (local Kind.InstNext 0))) none) or (definition.if_then_else_ (eqb name (e .section .instStart)) (some (ExprValue.Local (local Kind.InstStart 0))) none)
+          or (andThen (find name (st .scope .mapping)) λ v. some (ExprValue.Local v))) name)
+      go (some x) = unfold meansOr _or_ meaningOf encM in refl
+      go none = unfold meansOr _or_ in inner-is
+
+  -- what it means is sound
+  abbrev pub SoundM : Meaning → Type 0
+  SoundM (means x) = SoundX (e .section) (count st) x
+  SoundM (wrong r) = Unit {0}
+
+  module _ (ranges : BitRangesFit (e .section)) (stood : Stood (e .section) tail marks rest spare st) where
+    bits-sound : (i : ℕ) (b : Option BitRangeEntry) → getElem? (e .section .bitRanges) i ≡ b → SoundM (registerBits b)
+    unfolding registerBits
+    bits-sound i none q = tt
+    bits-sound i (some b) q = (record { number = ranges .register i b q; offset = omega arith; size = unfold orElse in omega arith }, ranges .bits i b q)
+
+    global-sound : (y : Option Symbol) → find name (globals (e .section)) ≡ y → SoundM (globalMeaning (e .section) y)
+    unfolding globalMeaning
+    global-sound none q = tt
+    global-sound (some y) q = kind (y .kind) (y .id) (symbol-placed (e .section) name y q)
+      where
+        kind : (k : SymbolKind) (i : ℕ) → Placed (e .section) k i → SoundM (globalMeaning (e .section) (some (record { kind = k; id = i })))
+        kind SymbolKind.Space i h = unfold symbolNumber isSymbol base-opens in tt
+        kind SymbolKind.Register i h = unfold symbolNumber isSymbol base-opens in record { number = h; offset = omega arith; size = omega arith }
+        kind SymbolKind.BitRange i h = unfold symbolNumber isSymbol base-opens in bits-sound i (getElem? (e .section .bitRanges) i) refl
+        kind SymbolKind.Table i h = unfold symbolNumber isSymbol base-opens in tt
+        kind SymbolKind.UserOp i h = unfold symbolNumber isSymbol base-opens in tt
+        kind SymbolKind.Macro i h = unfold symbolNumber isSymbol base-opens in tt
+        kind SymbolKind.Other i h = unfold symbolNumber isSymbol base-opens in tt
+
+    pub meaning-sound : SoundM (meaningOf (e .section) (innerMeaning (e .section) (st .scope) name) name)
+    unfolding innerMeaning
+    meaning-sound = go (find name (st .scope .params)) refl (eqb name (e .section .instNext)) (eqb name (e .section .instStart)) (find name (st .scope .mapping)) refl
+      where
+        go : (x : Option ExprValue) → find name (st .scope .params) ≡ x → (a b : Bool) (v : Option Value) → find name (st .scope .mapping) ≡ v
+            → SoundM (meaningOf (e .section) (x or (definition.if_then_else_ a (some (ExprValue.Local (local Kind.InstNext 0))) none) or (definition.if_then_else_ b (some (ExprValue.Local (local Kind.InstStart 0))) none) or (andThen v λ v. some (ExprValue.Local v))) name)
+        go (some x) h a b v k = unfold base-opens meaningOf in find-each (SoundX (e .section) (count st)) name (st .scope .params) x (stood .params) h
+        go none h true b v k = unfold base-opens meaningOf in record { number = tt; offset = omega arith; size = omega arith }
+        go none h false true v k = unfold base-opens meaningOf in record { number = tt; offset = omega arith; size = omega arith }
+        go none h false false (some v) k = unfold base-opens meaningOf in find-each (Sound (e .section) (count st)) name (st .scope .mapping) v (stood .mapping) k
+        go none h false false none k = unfold base-opens meaningOf in global-sound (find name (globals (e .section))) refl
+
+    meant-refines : (next : ℕ) (x : Meaning) → SoundM x
+        → Refines (e .section) front tail marks rest spare st (λ (x : ExprValue). (encX x, next)) (SoundX (e .section)) (seenExpr (resolved (meansAt (encM x) next (word (e .section) front tail marks rest st)) (acts (e .section) front tail marks rest st) (temps (e .section) front tail marks rest st))) (d.meant x e st)
+    unfolding meansAt encM seenExpr d.meant
+    meant-refines next (means x) h = refines-done (e .section) front tail marks rest spare st _ (SoundX (e .section)) x (encX x, next) stood h refl
+    meant-refines next (wrong r) h = refines-stopped (e .section) front tail marks rest spare st _ (SoundX (e .section)) (refusalNumber r) r refl
+
+    -- a name as an expression
+    pub ident : (next : ℕ)
+        → Refines (e .section) front tail marks rest spare st (λ (x : ExprValue). (encX x, next)) (SoundX (e .section)) (seenExpr (resolved (meansAt (words.resolveIdent s t p (temps (e .section) front tail marks rest st) we (word (e .section) front tail marks rest st) name) next (word (e .section) front tail marks rest st)) (acts (e .section) front tail marks rest st) (temps (e .section) front tail marks rest st))) (d.resolveIdent name e st)
+    unfolding d.resolveIdent d.meaning on
+    ident next = rw ident-is (meant-refines next (meaningOf (e .section) (innerMeaning (e .section) (st .scope) name) name) meaning-sound)

@@ -1,0 +1,21 @@
+use borrow.Author.Needs.{needs}
+use Rattle.expr_resolver.proofs.expr.local_address.Statement.{statement}
+use Rattle.expr_resolver.proofs.expr.local_address.Tie as tie
+use Rattle.expr_resolver.proofs.expr.local_address.Reads as reads
+use Rattle.expr_resolver.proofs.expr.local_address.Lts as lts
+use Rattle.expr_resolver.proofs.ExprLaws.{expr-laws}
+
+-- src/expr.rt:76:26
+enum-known-x : tie.Need-enum-known-x
+enum-known-x c = search (expr-laws, needs)
+
+-- src/expr.rt:72:1
+returns : tie.Need-returns
+returns c = search (expr-laws, needs)
+
+-- src/expr.rt:72:1
+returns-2 : tie.Need-returns-2
+returns-2 c = search (expr-laws, needs)
+
+pub local-address-spec : {M : Type 1} → statement M
+local-address-spec = tie.close (tie.spec enum-known-x returns returns-2)

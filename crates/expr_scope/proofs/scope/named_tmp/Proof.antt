@@ -1,0 +1,69 @@
+use borrow.Author.Needs.{needs}
+use Rattle.expr_scope.proofs.scope.named_tmp.Statement.{statement}
+use Rattle.expr_scope.proofs.scope.named_tmp.Tie as tie
+use Rattle.expr_scope.proofs.scope.named_tmp.Reads as reads
+use Rattle.expr_scope.proofs.scope.named_tmp.Lts as lts
+use Rattle.expr_scope.proofs.scope.attach.Reads as attach-reads
+use Rattle.expr_scope.proofs.scope.plain_found.Reads as plain-found-reads
+use Rattle.list_pushes.proofs.push.add_tmp.Reads as add-tmp-reads
+use Rattle.expr_scope.proofs.ScopeLaws.{scope-laws}
+
+-- src/scope.rt:423:11
+add-tmp-requires : tie.Need-add-tmp-requires
+add-tmp-requires c κs = search (scope-laws, needs)
+
+-- src/scope.rt:424:18
+enum-known-n : tie.Need-enum-known-n
+enum-known-n c = search (scope-laws, needs)
+
+-- src/scope.rt:425:23
+enum-known-v : tie.Need-enum-known-v
+enum-known-v c = search (scope-laws, needs)
+
+-- src/scope.rt:426:16
+plain-found-requires : tie.Need-plain-found-requires
+plain-found-requires c κs = search (scope-laws, needs)
+
+-- src/scope.rt:427:17
+same-length : tie.Need-same-length
+same-length c = search (scope-laws, needs)
+
+-- src/scope.rt:427:17
+returns : tie.Need-returns
+returns c = search (scope-laws, needs)
+
+-- src/scope.rt:429:13
+attach-requires : tie.Need-attach-requires
+attach-requires c κs = search (scope-laws, needs)
+
+-- src/scope.rt:420:1
+same-length-2 : tie.Need-same-length-2
+same-length-2 c = search (scope-laws, needs)
+
+-- src/scope.rt:420:1
+returns-2 : tie.Need-returns-2
+returns-2 c = search (scope-laws, needs)
+
+-- src/scope.rt:420:1
+same-length-3 : tie.Need-same-length-3
+same-length-3 c = search (scope-laws, needs)
+
+-- src/scope.rt:420:1
+returns-3 : tie.Need-returns-3
+returns-3 c = search (scope-laws, needs)
+
+pub named-tmp-spec : {M : Type 1} → statement M
+named-tmp-spec =
+    tie.close
+    (tie.spec
+    add-tmp-requires
+    enum-known-n
+    enum-known-v
+    plain-found-requires
+    same-length
+    returns
+    attach-requires
+    same-length-2
+    returns-2
+    same-length-3
+    returns-3)

@@ -1,0 +1,53 @@
+use borrow.Author.Needs.{needs}
+use Rattle.expr_terms.proofs.address.in_const_space.Statement.{statement}
+use Rattle.expr_terms.proofs.address.in_const_space.Tie as tie
+use Rattle.expr_terms.proofs.address.in_const_space.Reads as reads
+use Rattle.expr_terms.proofs.address.in_const_space.Lts as lts
+use Rattle.expr_terms.proofs.address.or_size.Reads as or-size-reads
+use Rattle.list_values.proofs.value.with_size.Reads as with-size-reads
+use Rattle.expr_terms.proofs.SliceLaws.{address-laws}
+
+-- src/address.rt:25:26
+enum-known-x : tie.Need-enum-known-x
+enum-known-x c = search (address-laws, needs)
+
+-- src/address.rt:26:46
+or-size-requires : tie.Need-or-size-requires
+or-size-requires c κs = search (address-laws, needs)
+
+-- src/address.rt:26:33
+with-size-requires : tie.Need-with-size-requires
+with-size-requires c κs = search (address-laws, needs)
+
+-- src/address.rt:30:28
+enum-known-x-2 : tie.Need-enum-known-x-2
+enum-known-x-2 c = search (address-laws, needs)
+
+-- src/address.rt:33:23
+or-size-requires-2 : tie.Need-or-size-requires-2
+or-size-requires-2 c κs = search (address-laws, needs)
+
+-- src/address.rt:21:1
+returns : tie.Need-returns
+returns c = search (address-laws, needs)
+
+-- src/address.rt:21:1
+returns-2 : tie.Need-returns-2
+returns-2 c = search (address-laws, needs)
+
+-- src/address.rt:21:1
+returns-3 : tie.Need-returns-3
+returns-3 c = search (address-laws, needs)
+
+pub in-const-space-spec : {M : Type 1} → statement M
+in-const-space-spec =
+    tie.close
+    (tie.spec
+    enum-known-x
+    or-size-requires
+    with-size-requires
+    enum-known-x-2
+    or-size-requires-2
+    returns
+    returns-2
+    returns-3)

@@ -1,0 +1,48 @@
+use borrow.Author.Needs.{needs}
+use Rattle.expr_terms.proofs.address.named_space.Statement.{statement}
+use Rattle.expr_terms.proofs.address.named_space.Tie as tie
+use Rattle.expr_terms.proofs.address.named_space.Reads as reads
+use Rattle.expr_terms.proofs.address.named_space.Lts as lts
+use Rattle.expr_terms.proofs.address.kind_of_space.Reads as kind-of-space-reads
+use Rattle.expr_scope.proofs.scope.global.Reads as global-reads
+use Rattle.expr_terms.proofs.SliceLaws.{address-laws}
+
+-- src/address.rt:56:9
+global-requires : tie.Need-global-requires
+global-requires c κs = search (address-laws, needs)
+
+-- src/address.rt:58:9
+returns : tie.Need-returns
+returns c = search (address-laws, needs)
+
+-- src/address.rt:60:9
+sub-if2 : tie.Need-sub-if2
+sub-if2 c = search (address-laws, needs)
+
+-- src/address.rt:61:9
+returns-2 : tie.Need-returns-2
+returns-2 c = search (address-laws, needs)
+
+-- src/address.rt:63:26
+sub-kind-of-space : tie.Need-sub-kind-of-space
+sub-kind-of-space c = search (address-laws, needs)
+
+-- src/address.rt:63:5
+kind-of-space-requires : tie.Need-kind-of-space-requires
+kind-of-space-requires c κs = search (address-laws, needs)
+
+-- src/address.rt:53:1
+returns-3 : tie.Need-returns-3
+returns-3 c = search (address-laws, needs)
+
+pub named-space-spec : {M : Type 1} → statement M
+named-space-spec =
+    tie.close
+    (tie.spec
+    global-requires
+    returns
+    sub-if2
+    returns-2
+    sub-kind-of-space
+    kind-of-space-requires
+    returns-3)

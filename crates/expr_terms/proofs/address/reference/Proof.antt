@@ -1,0 +1,52 @@
+use borrow.Author.Needs.{needs}
+use Rattle.expr_terms.proofs.address.reference.Statement.{statement}
+use Rattle.expr_terms.proofs.address.reference.Tie as tie
+use Rattle.expr_terms.proofs.address.reference.Reads as reads
+use Rattle.expr_terms.proofs.address.reference.Lts as lts
+use Rattle.expr_terms.proofs.address.or_size.Reads as or-size-reads
+use Rattle.expr_terms.proofs.SliceLaws.{address-laws}
+
+-- src/address.rt:84:18
+enum-known-r : tie.Need-enum-known-r
+enum-known-r c = search (address-laws, needs)
+
+-- src/address.rt:85:23
+enum-known-r-2 : tie.Need-enum-known-r-2
+enum-known-r-2 c = search (address-laws, needs)
+
+-- src/address.rt:89:27
+or-size-requires : tie.Need-or-size-requires
+or-size-requires c κs = search (address-laws, needs)
+
+-- src/address.rt:97:27
+or-size-requires-2 : tie.Need-or-size-requires-2
+or-size-requires-2 c κs = search (address-laws, needs)
+
+-- src/address.rt:80:1
+returns : tie.Need-returns
+returns c = search (address-laws, needs)
+
+-- src/address.rt:80:1
+returns-2 : tie.Need-returns-2
+returns-2 c = search (address-laws, needs)
+
+-- src/address.rt:80:1
+returns-3 : tie.Need-returns-3
+returns-3 c = search (address-laws, needs)
+
+-- src/address.rt:80:1
+returns-4 : tie.Need-returns-4
+returns-4 c = search (address-laws, needs)
+
+pub reference-spec : {M : Type 1} → statement M
+reference-spec =
+    tie.close
+    (tie.spec
+    enum-known-r
+    enum-known-r-2
+    or-size-requires
+    or-size-requires-2
+    returns
+    returns-2
+    returns-3
+    returns-4)

@@ -1,0 +1,41 @@
+// The stream after its statements is zero, which is tested by eight bytes at a time.
+use access::inside::eight;
+use codes::refusal;
+use file_syntax::cursor::Cursor;
+use file_syntax::cursor::refuse;
+ghost use mathlib.Core.Path.{_≡_};
+ghost use Prim.Native.Nat.{_-_};
+ghost use lib.ListN.{length};
+ghost use Rattle.file_section.specs.Stream.{zeros, tail};
+
+// From a place on: the place of the first eight bytes that are not all zero, or of the last seven.
+fn past_zeros(s: &[u8], from: usize) -> usize
+    ensures { λ r. ⌜ zeros (length (now (s .entry)) - r) r (now (s .entry)) ≡ zeros (length (now (s .entry)) - from) from (now (s .entry)) ⌝ }
+{
+    let n = s.len();
+    if n < 8 {
+        return from;
+    }
+    let mut i = from;
+    while i < n - 7 {
+        if eight(s, i) != 0 {
+            return i;
+        }
+        i += 8;
+    }
+    i
+}
+
+// The stream after the cursor is zero.
+pub fn tail(s: &[u8], c: Cursor) -> Cursor
+    ensures { λ r. ⌜ r ≡ tail (now (s .entry)) c ⌝ }
+{
+    let mut i = past_zeros(s, c.at);
+    while i < s.len() {
+        if s[i] != 0 {
+            return refuse(refusal::MALFORMED, c);
+        }
+        i += 1;
+    }
+    c
+}

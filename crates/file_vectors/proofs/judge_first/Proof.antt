@@ -1,0 +1,27 @@
+use borrow.Author.Needs.{needs}
+use Rattle.file_vectors.proofs.judge_first.Statement.{statement}
+use Rattle.file_vectors.proofs.judge_first.Tie as tie
+use Rattle.file_vectors.proofs.judge_first.Reads as reads
+use Rattle.file_vectors.proofs.judge_first.Lts as lts
+use Rattle.file_vectors.proofs.judge.Reads as judge-reads
+use mathlib.Core.Path.{sym}
+use lib.Seq.{length-take-le}
+
+-- src/main.rt:102:22
+slice-aggregate-judge : tie.Need-slice-aggregate-judge
+slice-aggregate-judge c = sym (length-take-le _ _ (c .before .if1 .taken))
+
+-- src/main.rt:102:9
+judge-requires : tie.Need-judge-requires
+judge-requires c κs = search needs
+
+-- src/main.rt:102:9
+returns : tie.Need-returns
+returns c = search needs
+
+-- src/main.rt:100:1
+returns-2 : tie.Need-returns-2
+returns-2 c = search needs
+
+pub judge-first-spec : {M : Type 1} → statement M
+judge-first-spec = tie.close (tie.spec slice-aggregate-judge judge-requires returns returns-2)

@@ -1,0 +1,63 @@
+use Rattle.list_checker.proofs.zeros.Statement.{statement}
+use Rattle.list_checker.proofs.zeros.Tie as tie
+use Rattle.list_checker.proofs.zeros.Reads as reads
+use Rattle.list_checker.proofs.zeros.Lts as lts
+use Prim.Native.Nat.{_-_, _*_, _+_, _≤_}
+use mathlib.Core.Path.{_≡_}
+use lib.ListN.{length, getD, drop}
+use Rattle.list_checker.specs.Action.{zeros}
+use Rattle.list_checker.proofs.FitLaws.{loop-laws}
+use borrow.Author.Needs.{needs}
+
+abbrev Inv-loop : tie.InvT-loop
+Inv-loop words i₀ i-end i = (i ≤ length words) × ((i-end ≡ length words) × (zeros (drop i words) ≡ zeros words))
+
+abbrev μ-loop : tie.MeasureT-loop
+μ-loop words i₀ i-end i = i-end - i
+
+-- src/lib.rt:14:5
+loop-holds : tie.Need-loop-holds Inv-loop μ-loop
+loop-holds c = search (loop-laws, needs)
+
+-- src/lib.rt:15:12
+mul-if1 : tie.Need-mul-if1 Inv-loop μ-loop
+mul-if1 c = search (loop-laws, needs)
+
+-- src/lib.rt:15:12
+shared-slice-read-if1 : tie.Need-shared-slice-read-if1 Inv-loop μ-loop
+shared-slice-read-if1 c = search (loop-laws, needs)
+
+-- src/lib.rt:16:13
+returns : tie.Need-returns Inv-loop μ-loop
+returns c = search (loop-laws, needs)
+
+-- src/lib.rt:14:9
+add-i : tie.Need-add-i Inv-loop μ-loop
+add-i c = search (loop-laws, needs)
+
+-- src/lib.rt:14:5
+loop-less : tie.Need-loop-less Inv-loop μ-loop
+loop-less c = search (loop-laws, needs)
+
+-- src/lib.rt:14:5
+loop-again : tie.Need-loop-again Inv-loop μ-loop
+loop-again c = search (loop-laws, needs)
+
+-- src/lib.rt:11:1
+returns-2 : tie.Need-returns-2 Inv-loop μ-loop
+returns-2 c = search (loop-laws, needs)
+
+pub zeros-spec : {M : Type 1} → statement M
+zeros-spec =
+    tie.close
+    (tie.spec
+    Inv-loop
+    μ-loop
+    loop-holds
+    mul-if1
+    shared-slice-read-if1
+    returns
+    add-i
+    loop-less
+    loop-again
+    returns-2)

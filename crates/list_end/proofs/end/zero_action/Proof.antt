@@ -1,0 +1,62 @@
+use Rattle.list_end.proofs.end.zero_action.Statement.{statement}
+use Rattle.list_end.proofs.end.zero_action.Tie as tie
+use Rattle.list_end.proofs.end.zero_action.Reads as reads
+use Rattle.list_end.proofs.end.zero_action.Lts as lts
+use Rattle.list_values.proofs.value.put.Reads as put-reads
+use borrow.Author.Needs.{needs}
+use Prim.Native.Nat.{_-_, _≤_}
+use native.Mathlib.Omega.{arith}
+use mathlib.Core.Path.{_≡_, refl}
+use lib.ListN.{length}
+use Rattle.list_values.specs.Base.{run}
+use Rattle.list_values.specs.Values.{zeroWord}
+use Rattle.list_values.proofs.LoopLaws.{run-again}
+use Rattle.list_end.proofs.EndLaws.{zero-action-law}
+
+abbrev Inv-loop : tie.InvT-loop
+Inv-loop a₀ at i₀ a i = (i ≤ 24) × (length a ≡ length a₀) × (run (24 - i) i (zeroWord at) a ≡ run 24 0 (zeroWord at) a₀)
+
+abbrev μ-loop : tie.MeasureT-loop
+μ-loop a₀ at i₀ a i = 24 - i
+
+-- src/end.rt:223:5
+loop-holds : tie.Need-loop-holds Inv-loop μ-loop
+loop-holds c = (search needs, refl, refl)
+
+-- src/end.rt:224:9
+put-requires : tie.Need-put-requires Inv-loop μ-loop
+put-requires c κs = search needs
+
+-- src/end.rt:223:9
+add-i : tie.Need-add-i Inv-loop μ-loop
+add-i c = search needs
+
+-- src/end.rt:223:5
+loop-less : tie.Need-loop-less Inv-loop μ-loop
+loop-less c = search needs
+
+-- src/end.rt:223:5
+loop-again : tie.Need-loop-again Inv-loop μ-loop
+loop-again c = (search needs, search needs, run-again _ _ _ _ _ _ (omega arith) (c .before .before .before .before .before .loop .inv .2) (c .before .before .put .ensures))
+
+-- src/end.rt:220:1
+same-length : tie.Need-same-length Inv-loop μ-loop
+same-length c = search needs
+
+-- src/end.rt:220:1
+returns : tie.Need-returns Inv-loop μ-loop
+returns c = zero-action-law _ _ _ _ (omega arith) (c .before .loop .inv .2)
+
+pub zero-action-spec : {M : Type 1} → statement M
+zero-action-spec =
+    tie.close
+    (tie.spec
+    Inv-loop
+    μ-loop
+    loop-holds
+    put-requires
+    add-i
+    loop-less
+    loop-again
+    same-length
+    returns)

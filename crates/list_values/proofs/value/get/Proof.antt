@@ -1,0 +1,42 @@
+use borrow.Author.Needs.{needs}
+use Rattle.list_values.proofs.value.get.Statement.{statement}
+use Rattle.list_values.proofs.value.get.Tie as tie
+use Rattle.list_values.proofs.value.get.Reads as reads
+use Rattle.list_values.proofs.value.get.Lts as lts
+use mathlib.Core.Path.{sym}
+use Prim.Native.Nat.{_+_}
+use native.Mathlib.Omega.{arith}
+use lib.ListN.{List·getD-eq-default}
+
+-- src/value.rt:75:16
+sub-if2 : tie.Need-sub-if2
+sub-if2 c = search needs
+
+-- src/value.rt:76:25
+add-result : tie.Need-add-result
+add-result c = search needs
+
+-- src/value.rt:76:20
+mul-result : tie.Need-mul-result
+mul-result c = search needs
+
+-- src/value.rt:76:20
+shared-slice-read-result : tie.Need-shared-slice-read-result
+shared-slice-read-result c = search needs
+
+-- src/value.rt:76:13
+returns : tie.Need-returns
+returns c = search needs
+
+-- src/value.rt:71:1
+returns-2 : tie.Need-returns-2
+returns-2 c = let a = c .before .before .args in sym (List·getD-eq-default (a .list .now) 0 {n = a .at + a .i} (omega arith))
+
+-- src/value.rt:71:1
+returns-3 : tie.Need-returns-3
+returns-3 c = let a = c .before .args in sym (List·getD-eq-default (a .list .now) 0 {n = a .at + a .i} (omega arith))
+
+pub get-spec : {M : Type 1} → statement M
+get-spec =
+    tie.close
+    (tie.spec sub-if2 add-result mul-result shared-slice-read-result returns returns-2 returns-3)

@@ -1,0 +1,31 @@
+use borrow.Author.Needs.{needs}
+use Rattle.listing_names.proofs.operations.operation.Statement.{statement}
+use Rattle.listing_names.proofs.operations.operation.Tie as tie
+use Rattle.listing_names.proofs.operations.operation.Reads as reads
+use Rattle.listing_names.proofs.operations.operation.Lts as lts
+use Rattle.listing_names.proofs.operations.put.Reads as put-reads
+use Rattle.listing_names.proofs.operations.word.Reads as word-reads
+use Rattle.listing_names.proofs.Laws.{word-fits}
+use native.Mathlib.Omega.{arith}
+use mathlib.Core.Path.{_∙_, refl}
+use Rattle.listing_names.specs.Operations.{operationText, operationNames}
+use Rattle.definition.specs.Spellings.{bytesOf}
+use Rattle.definition.specs.Base.{if_then_else_}
+use Rattle.listing_names.specs.Words.{first, widest}
+
+-- src/operations.rt:78:9
+word-requires : tie.Need-word-requires
+word-requires c κs = search needs
+
+-- src/operations.rt:78:5
+put-requires : tie.Need-put-requires
+unfolding widest first if_then_else_
+put-requires c κs = rw (c .before .word .ensures) (word-fits _ _ _ refl (omega arith))
+
+-- src/operations.rt:74:1
+returns : tie.Need-returns
+unfolding operationText operationNames bytesOf
+returns c = (c .put .ensures .0, c .put .ensures .1 ∙ c .before .before .word .ensures, c .put .ensures .2)
+
+pub operation-spec : {M : Type 1} → statement M
+operation-spec = tie.close (tie.spec word-requires put-requires returns)

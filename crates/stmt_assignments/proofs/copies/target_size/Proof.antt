@@ -1,0 +1,29 @@
+use borrow.Author.Needs.{needs}
+use Rattle.stmt_assignments.proofs.copies.target_size.Statement.{statement}
+use Rattle.stmt_assignments.proofs.copies.target_size.Tie as tie
+use Rattle.stmt_assignments.proofs.copies.target_size.Reads as reads
+use Rattle.stmt_assignments.proofs.copies.target_size.Lts as lts
+use Rattle.access.proofs.byte.Reads as byte-reads
+use Rattle.access.proofs.u16_in.Reads as u16-in-reads
+use Rattle.stmt_assignments.proofs.CopyLaws.{bit-laws}
+use Rattle.stmt_assignments.proofs.CopyLaws.{copy-laws}
+use Rattle.stmt_assignments.proofs.CopyLaws.{size-cut}
+
+-- src/copies.rt:166:8
+byte-requires : tie.Need-byte-requires
+byte-requires c κs = search needs
+
+-- src/copies.rt:167:9
+returns : tie.Need-returns
+returns c = search (bit-laws, copy-laws, needs)
+
+-- src/copies.rt:169:5
+u16-in-requires : tie.Need-u16-in-requires
+u16-in-requires c κs = search needs
+
+-- src/copies.rt:163:1
+returns-2 : tie.Need-returns-2
+returns-2 c = size-cut _ _ _ (c .before .before .byte .ensures) _ (c .before .if1 .left) (c .u16-in .ensures)
+
+pub target-size-spec : {M : Type 1} → statement M
+target-size-spec = tie.close (tie.spec byte-requires returns u16-in-requires returns-2)

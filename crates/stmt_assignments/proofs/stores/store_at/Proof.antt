@@ -1,0 +1,74 @@
+use borrow.Author.Needs.{needs}
+use Rattle.stmt_assignments.proofs.stores.store_at.Statement.{statement}
+use Rattle.stmt_assignments.proofs.stores.store_at.Tie as tie
+use Rattle.stmt_assignments.proofs.stores.store_at.Reads as reads
+use Rattle.stmt_assignments.proofs.stores.store_at.Lts as lts
+use Rattle.stmt_assignments.proofs.stores.store.Reads as store-reads
+use Rattle.stmt_assignments.proofs.stores.store_register.Reads as store-register-reads
+use Rattle.stmt_walk.proofs.walk.stop.Reads as stop-reads
+use Rattle.stmt_assignments.proofs.StoreLaws.{store-laws}
+
+-- src/stores.rt:46:29
+enum-known-x : tie.Need-enum-known-x
+enum-known-x c = search needs
+
+-- src/stores.rt:46:48
+store-requires : tie.Need-store-requires
+store-requires c κs = search needs
+
+-- src/stores.rt:47:34
+enum-known-x-2 : tie.Need-enum-known-x-2
+enum-known-x-2 c = search needs
+
+-- src/stores.rt:47:53
+store-register-requires : tie.Need-store-register-requires
+store-register-requires c κs = search needs
+
+-- src/stores.rt:48:14
+stop-requires : tie.Need-stop-requires
+stop-requires c κs = search needs
+
+-- src/stores.rt:42:1
+same-length : tie.Need-same-length
+same-length c = search needs
+
+-- src/stores.rt:42:1
+same-length-2 : tie.Need-same-length-2
+same-length-2 c = search needs
+
+-- src/stores.rt:42:1
+returns : tie.Need-returns
+returns c = search (store-laws, needs)
+
+-- src/stores.rt:42:1
+same-length-3 : tie.Need-same-length-3
+same-length-3 c = search needs
+
+-- src/stores.rt:42:1
+same-length-4 : tie.Need-same-length-4
+same-length-4 c = search needs
+
+-- src/stores.rt:42:1
+returns-2 : tie.Need-returns-2
+returns-2 c = search (store-laws, needs)
+
+-- src/stores.rt:42:1
+returns-3 : tie.Need-returns-3
+returns-3 c = search (store-laws, needs)
+
+pub store-at-spec : {M : Type 1} → statement M
+store-at-spec =
+    tie.close
+    (tie.spec
+    enum-known-x
+    store-requires
+    enum-known-x-2
+    store-register-requires
+    stop-requires
+    same-length
+    same-length-2
+    returns
+    same-length-3
+    same-length-4
+    returns-2
+    returns-3)

@@ -1,0 +1,1551 @@
+use Prim.Native.Nat.{ℕ, _<_, _+_, _*_, _-_}
+use borrow.Fn.Kinds.{In}
+use borrow.Fn.PlainCycle.{Measures, is, falls, and}
+use Rattle.stmt_bodies.proofs.statements.body.Reads as body
+use Rattle.stmt_bodies.proofs.statements.body.Kinds as body-kinds
+use Rattle.stmt_bodies.proofs.statements.+body+call_statement+enter+macro_statement+statement.Lts-body as body-lts
+use Rattle.stmt_bodies.proofs.statements.call_statement.Reads as call-statement
+use Rattle.stmt_bodies.proofs.statements.call_statement.Kinds as call-statement-kinds
+use Rattle.stmt_bodies.proofs.statements.+body+call_statement+enter+macro_statement+statement.Lts-call_statement as call-statement-lts
+use Rattle.stmt_bodies.proofs.statements.enter.Reads as enter
+use Rattle.stmt_bodies.proofs.statements.enter.Kinds as enter-kinds
+use Rattle.stmt_bodies.proofs.statements.+body+call_statement+enter+macro_statement+statement.Lts-enter as enter-lts
+use Rattle.stmt_bodies.proofs.statements.macro_statement.Reads as macro-statement
+use Rattle.stmt_bodies.proofs.statements.macro_statement.Kinds as macro-statement-kinds
+use Rattle.stmt_bodies.proofs.statements.+body+call_statement+enter+macro_statement+statement.Lts-macro_statement as macro-statement-lts
+use Rattle.stmt_bodies.proofs.statements.statement.Reads as statement′
+use Rattle.stmt_bodies.proofs.statements.statement.Kinds as statement-kinds
+use Rattle.stmt_bodies.proofs.statements.+body+call_statement+enter+macro_statement+statement.Lts-statement as statement-lts
+use Rattle.stmt_bodies.proofs.statements.begin.Reads as begin-reads
+use Rattle.stmt_bodies.proofs.statements.body_at.Reads as body-at-reads
+use Rattle.stmt_bodies.proofs.statements.entered.Reads as entered-reads
+use Rattle.stmt_bodies.proofs.statements.first_ordinal.Reads as first-ordinal-reads
+use Rattle.stmt_bodies.proofs.statements.forward.Reads as forward-reads
+use Rattle.stmt_bodies.proofs.statements.macro_env.Reads as macro-env-reads
+use Rattle.stmt_bodies.proofs.statements.other_statement.Reads as other-statement-reads
+use Rattle.stmt_bodies.proofs.statements.returned.Reads as returned-reads
+use Rattle.access.proofs.byte.Reads as byte-reads
+use Rattle.access.proofs.u16_in.Reads as u16-in-reads
+use Rattle.stmt_simple.proofs.calls.called_of.Reads as called-of-reads
+use Rattle.stmt_simple.proofs.calls.macro_args.Reads as macro-args-reads
+use Rattle.stmt_simple.proofs.calls.macro_at.Reads as macro-at-reads
+use Rattle.stmt_simple.proofs.calls.other_call.Reads as other-call-reads
+use Rattle.std.proofs.num.wrapping_add_u64.Reads as wrapping-add-u64-reads
+use Rattle.expr_terms.proofs.answers.after.Reads as after-reads
+use Rattle.stmt_walk.proofs.walk.stop.Reads as stop-reads
+use Rattle.stmt_bodies.proofs.statements.+body+call_statement+enter+macro_statement+statement.{statement}
+use Rattle.stmt_bodies.proofs.statements.+body+call_statement+enter+macro_statement+statement.Tie.{close}
+use borrow.Author.Needs.{needs}
+use mathlib.Core.Path.{_≡_}
+use lib.ListN.{length}
+use Rattle.stmt_bodies.specs.Statements.{enterMacro, resolveStatement, resolveAll, resolveBody}
+use Rattle.stmt_bodies.proofs.StatementLaws.{statement-laws, enter-body, bytes-fall, body-cut, body-next}
+use native.Mathlib.Omega.{arith}
+
+abbrev μ-body : Measures 6 body-kinds.ps ℕ
+μ-body κs a = 5 * a .0 + 4
+
+abbrev μ-call-statement : Measures 6 call-statement-kinds.ps ℕ
+μ-call-statement κs a = 5 * a .0 + 2
+
+abbrev μ-enter : Measures 6 enter-kinds.ps ℕ
+μ-enter κs a = 5 * a .0
+
+abbrev μ-macro-statement : Measures 6 macro-statement-kinds.ps ℕ
+μ-macro-statement κs a = 5 * a .0 + 1
+
+abbrev μ-statement : Measures 6 statement-kinds.ps ℕ
+μ-statement κs a = 5 * a .0 + 3
+
+abbrev body-at : ℕ → In 6 body-kinds.ps
+body-at t = and 6 body-kinds.ps (is 6 body-kinds.ps μ-body t) body.Pre
+
+abbrev body-below : ℕ → In 6 body-kinds.ps
+body-below t = and 6 body-kinds.ps (falls 6 body-kinds.ps _<_ μ-body t) body.Pre
+
+abbrev call-statement-at : ℕ → In 6 call-statement-kinds.ps
+call-statement-at t =
+    and
+    6
+    call-statement-kinds.ps
+    (is 6 call-statement-kinds.ps μ-call-statement t)
+    call-statement.Pre
+
+abbrev call-statement-below : ℕ → In 6 call-statement-kinds.ps
+call-statement-below t =
+    and
+    6
+    call-statement-kinds.ps
+    (falls 6 call-statement-kinds.ps _<_ μ-call-statement t)
+    call-statement.Pre
+
+abbrev enter-at : ℕ → In 6 enter-kinds.ps
+enter-at t = and 6 enter-kinds.ps (is 6 enter-kinds.ps μ-enter t) enter.Pre
+
+abbrev enter-below : ℕ → In 6 enter-kinds.ps
+enter-below t = and 6 enter-kinds.ps (falls 6 enter-kinds.ps _<_ μ-enter t) enter.Pre
+
+abbrev macro-statement-at : ℕ → In 6 macro-statement-kinds.ps
+macro-statement-at t =
+    and
+    6
+    macro-statement-kinds.ps
+    (is 6 macro-statement-kinds.ps μ-macro-statement t)
+    macro-statement.Pre
+
+abbrev macro-statement-below : ℕ → In 6 macro-statement-kinds.ps
+macro-statement-below t =
+    and
+    6
+    macro-statement-kinds.ps
+    (falls 6 macro-statement-kinds.ps _<_ μ-macro-statement t)
+    macro-statement.Pre
+
+abbrev statement-at : ℕ → In 6 statement-kinds.ps
+statement-at t = and 6 statement-kinds.ps (is 6 statement-kinds.ps μ-statement t) statement′.Pre
+
+abbrev statement-below : ℕ → In 6 statement-kinds.ps
+statement-below t =
+    and 6 statement-kinds.ps (falls 6 statement-kinds.ps _<_ μ-statement t) statement′.Pre
+
+abbrev body-Inv-loop : body-lts.InvT-loop
+body-Inv-loop deep s t p l₀ a₀ m₀ e pos n ordinal at₀ w₀ i₀ l a m at w i = (length l ≡ length l₀) × (length a ≡ length a₀) × (length m ≡ length m₀)
+    × (resolveAll (resolveStatement (enterMacro deep s t) s t p e) (length s) (n - i) i ordinal at l a m w ≡ resolveBody deep s t p l₀ a₀ m₀ e pos n ordinal w₀)
+
+abbrev body-μ-loop : body-lts.MeasureT-loop
+body-μ-loop deep s t p l₀ a₀ m₀ e pos n ordinal at₀ w₀ i₀ l a m at w i = length s - at
+
+-- src/statements.rt:310:5
+body-loop-holds : (t : ℕ) → body-lts.Need-loop-holds (
+  wrapping-add-u64-reads.Asked,
+  wrapping-add-u64-reads.Learnt,
+  statement-below t,
+  statement′.Post,
+  forward-reads.Asked,
+  forward-reads.Learnt,
+  stop-reads.Asked,
+  stop-reads.Learnt,
+) (body-at t) body.Post body-Inv-loop body-μ-loop
+body-loop-holds t c = search (statement-laws, needs)
+
+-- src/statements.rt:311:13
+body-wrapping-add-u64-requires : (t : ℕ) → body-lts.Need-wrapping-add-u64-requires (
+  wrapping-add-u64-reads.Asked,
+  wrapping-add-u64-reads.Learnt,
+  statement-below t,
+  statement′.Post,
+  forward-reads.Asked,
+  forward-reads.Learnt,
+  stop-reads.Asked,
+  stop-reads.Learnt,
+) (body-at t) body.Post body-Inv-loop body-μ-loop
+body-wrapping-add-u64-requires t c κs = search (statement-laws, needs)
+
+-- src/statements.rt:312:15
+body-statement-requires : (t : ℕ) → body-lts.Need-statement-requires (
+  wrapping-add-u64-reads.Asked,
+  wrapping-add-u64-reads.Learnt,
+  statement-below t,
+  statement′.Post,
+  forward-reads.Asked,
+  forward-reads.Learnt,
+  stop-reads.Asked,
+  stop-reads.Learnt,
+) (body-at t) body.Post body-Inv-loop body-μ-loop
+body-statement-requires t c κs = search (statement-laws, needs)
+
+-- src/statements.rt:314:17
+body-enum-known-refusal : (t : ℕ) → body-lts.Need-enum-known-refusal (
+  wrapping-add-u64-reads.Asked,
+  wrapping-add-u64-reads.Learnt,
+  statement-below t,
+  statement′.Post,
+  forward-reads.Asked,
+  forward-reads.Learnt,
+  stop-reads.Asked,
+  stop-reads.Learnt,
+) (body-at t) body.Post body-Inv-loop body-μ-loop
+body-enum-known-refusal t c = search (statement-laws, needs)
+
+-- src/statements.rt:316:18
+body-same-length : (t : ℕ) → body-lts.Need-same-length (
+  wrapping-add-u64-reads.Asked,
+  wrapping-add-u64-reads.Learnt,
+  statement-below t,
+  statement′.Post,
+  forward-reads.Asked,
+  forward-reads.Learnt,
+  stop-reads.Asked,
+  stop-reads.Learnt,
+) (body-at t) body.Post body-Inv-loop body-μ-loop
+body-same-length t c = search (statement-laws, needs)
+
+-- src/statements.rt:316:18
+body-same-length-2 : (t : ℕ) → body-lts.Need-same-length-2 (
+  wrapping-add-u64-reads.Asked,
+  wrapping-add-u64-reads.Learnt,
+  statement-below t,
+  statement′.Post,
+  forward-reads.Asked,
+  forward-reads.Learnt,
+  stop-reads.Asked,
+  stop-reads.Learnt,
+) (body-at t) body.Post body-Inv-loop body-μ-loop
+body-same-length-2 t c = search (statement-laws, needs)
+
+-- src/statements.rt:316:18
+body-same-length-3 : (t : ℕ) → body-lts.Need-same-length-3 (
+  wrapping-add-u64-reads.Asked,
+  wrapping-add-u64-reads.Learnt,
+  statement-below t,
+  statement′.Post,
+  forward-reads.Asked,
+  forward-reads.Learnt,
+  stop-reads.Asked,
+  stop-reads.Learnt,
+) (body-at t) body.Post body-Inv-loop body-μ-loop
+body-same-length-3 t c = search (statement-laws, needs)
+
+-- src/statements.rt:316:18
+body-returns : (t : ℕ) → body-lts.Need-returns (
+  wrapping-add-u64-reads.Asked,
+  wrapping-add-u64-reads.Learnt,
+  statement-below t,
+  statement′.Post,
+  forward-reads.Asked,
+  forward-reads.Learnt,
+  stop-reads.Asked,
+  stop-reads.Learnt,
+) (body-at t) body.Post body-Inv-loop body-μ-loop
+body-returns t c = search (statement-laws, needs)
+
+-- src/statements.rt:320:26
+body-enum-known-next : (t : ℕ) → body-lts.Need-enum-known-next (
+  wrapping-add-u64-reads.Asked,
+  wrapping-add-u64-reads.Learnt,
+  statement-below t,
+  statement′.Post,
+  forward-reads.Asked,
+  forward-reads.Learnt,
+  stop-reads.Asked,
+  stop-reads.Learnt,
+) (body-at t) body.Post body-Inv-loop body-μ-loop
+body-enum-known-next t c = search (statement-laws, needs)
+
+-- src/statements.rt:321:21
+body-forward-requires : (t : ℕ) → body-lts.Need-forward-requires (
+  wrapping-add-u64-reads.Asked,
+  wrapping-add-u64-reads.Learnt,
+  statement-below t,
+  statement′.Post,
+  forward-reads.Asked,
+  forward-reads.Learnt,
+  stop-reads.Asked,
+  stop-reads.Learnt,
+) (body-at t) body.Post body-Inv-loop body-μ-loop
+body-forward-requires t c κs = search (statement-laws, needs)
+
+-- src/statements.rt:322:21
+body-stop-requires : (t : ℕ) → body-lts.Need-stop-requires (
+  wrapping-add-u64-reads.Asked,
+  wrapping-add-u64-reads.Learnt,
+  statement-below t,
+  statement′.Post,
+  forward-reads.Asked,
+  forward-reads.Learnt,
+  stop-reads.Asked,
+  stop-reads.Learnt,
+) (body-at t) body.Post body-Inv-loop body-μ-loop
+body-stop-requires t c κs = search (statement-laws, needs)
+
+-- src/statements.rt:322:21
+body-same-length-4 : (t : ℕ) → body-lts.Need-same-length-4 (
+  wrapping-add-u64-reads.Asked,
+  wrapping-add-u64-reads.Learnt,
+  statement-below t,
+  statement′.Post,
+  forward-reads.Asked,
+  forward-reads.Learnt,
+  stop-reads.Asked,
+  stop-reads.Learnt,
+) (body-at t) body.Post body-Inv-loop body-μ-loop
+body-same-length-4 t c = search (c .before .before .before .before .before .before .before .before .before .before .before .l .given, c .before .before .before .before .before .before .before .before .before .before .before .before .before .before .before .before .before .before .loop .inv .0, needs)
+
+-- src/statements.rt:322:21
+body-same-length-5 : (t : ℕ) → body-lts.Need-same-length-5 (
+  wrapping-add-u64-reads.Asked,
+  wrapping-add-u64-reads.Learnt,
+  statement-below t,
+  statement′.Post,
+  forward-reads.Asked,
+  forward-reads.Learnt,
+  stop-reads.Asked,
+  stop-reads.Learnt,
+) (body-at t) body.Post body-Inv-loop body-μ-loop
+body-same-length-5 t c = search (c .before .before .before .before .before .before .before .before .before .a .given, c .before .before .before .before .before .before .before .before .before .before .before .before .before .before .before .before .before .before .loop .inv .1, needs)
+
+-- src/statements.rt:322:21
+body-same-length-6 : (t : ℕ) → body-lts.Need-same-length-6 (
+  wrapping-add-u64-reads.Asked,
+  wrapping-add-u64-reads.Learnt,
+  statement-below t,
+  statement′.Post,
+  forward-reads.Asked,
+  forward-reads.Learnt,
+  stop-reads.Asked,
+  stop-reads.Learnt,
+) (body-at t) body.Post body-Inv-loop body-μ-loop
+body-same-length-6 t c = search (c .before .before .before .before .before .before .before .m .given, c .before .before .before .before .before .before .before .before .before .before .before .before .before .before .before .before .before .before .loop .inv .2, needs)
+
+-- src/statements.rt:322:21
+body-returns-2 : (t : ℕ) → body-lts.Need-returns-2 (
+  wrapping-add-u64-reads.Asked,
+  wrapping-add-u64-reads.Learnt,
+  statement-below t,
+  statement′.Post,
+  forward-reads.Asked,
+  forward-reads.Learnt,
+  stop-reads.Asked,
+  stop-reads.Learnt,
+) (body-at t) body.Post body-Inv-loop body-μ-loop
+body-returns-2 t c = body-cut _ _ _ _ _ _ _ _ _ _ _ (c .before .before .before .before .before .before .before .before .before .before .before .before .before .before .before .before .before .before .loop .inv .3) (c .before .before .before .before .before .before .before .before .before .before .before .before .before .before .before .before .before .loop-test .taken) _ (c .before .before .before .before .before .before .before .before .before .before .before .before .before .before .before .before .wrapping-add-u64 .ensures) _ _ _ _ (c .before .before .before .before .before .before .before .before .before .before .before .before .statement .ensures) (c .before .before .before .before .next .given .0 .0) (c .before .before .before .before .next .given .0 .1 .0) (search needs) _ (c .before .before .forward .ensures) _ (c .before .if1 .taken) (c .stop .ensures)
+
+-- src/statements.rt:326:17
+body-add-i : (t : ℕ) → body-lts.Need-add-i (
+  wrapping-add-u64-reads.Asked,
+  wrapping-add-u64-reads.Learnt,
+  statement-below t,
+  statement′.Post,
+  forward-reads.Asked,
+  forward-reads.Learnt,
+  stop-reads.Asked,
+  stop-reads.Learnt,
+) (body-at t) body.Post body-Inv-loop body-μ-loop
+body-add-i t c = omega (arith, c .before .before .before .before .before .before .before .before .before .before .before .before .before .before .before .before .loop-test .taken, c .before .before .before .before .before .before .before .before .before .before .before .before .before .before .before .before .before .before .before .before .before .before .before .fits)
+
+-- src/statements.rt:310:5
+body-loop-less : (t : ℕ) → body-lts.Need-loop-less (
+  wrapping-add-u64-reads.Asked,
+  wrapping-add-u64-reads.Learnt,
+  statement-below t,
+  statement′.Post,
+  forward-reads.Asked,
+  forward-reads.Learnt,
+  stop-reads.Asked,
+  stop-reads.Learnt,
+) (body-at t) body.Post body-Inv-loop body-μ-loop
+body-loop-less t c = bytes-fall _ _ _ _ (c .before .forward .ensures) (c .if1 .left)
+
+-- src/statements.rt:310:5
+body-loop-again : (t : ℕ) → body-lts.Need-loop-again (
+  wrapping-add-u64-reads.Asked,
+  wrapping-add-u64-reads.Learnt,
+  statement-below t,
+  statement′.Post,
+  forward-reads.Asked,
+  forward-reads.Learnt,
+  stop-reads.Asked,
+  stop-reads.Learnt,
+) (body-at t) body.Post body-Inv-loop body-μ-loop
+body-loop-again t c = (search (c .before .before .before .before .before .before .before .before .before .before .l .given, c .before .before .before .before .before .before .before .before .before .before .before .before .before .before .before .before .before .loop .inv .0, needs), search (c .before .before .before .before .before .before .before .before .a .given, c .before .before .before .before .before .before .before .before .before .before .before .before .before .before .before .before .before .loop .inv .1, needs), search (c .before .before .before .before .before .before .m .given, c .before .before .before .before .before .before .before .before .before .before .before .before .before .before .before .before .before .loop .inv .2, needs), body-next _ _ _ _ _ _ _ _ _ _ _ (c .before .before .before .before .before .before .before .before .before .before .before .before .before .before .before .before .before .loop .inv .3) (c .before .before .before .before .before .before .before .before .before .before .before .before .before .before .before .before .loop-test .taken) _ (c .before .before .before .before .before .before .before .before .before .before .before .before .before .before .before .wrapping-add-u64 .ensures) _ _ _ _ (c .before .before .before .before .before .before .before .before .before .before .before .statement .ensures) _ _ (search needs) _ (c .before .forward .ensures) (c .if1 .left))
+
+-- src/statements.rt:291:1
+body-same-length-7 : (t : ℕ) → body-lts.Need-same-length-7 (
+  wrapping-add-u64-reads.Asked,
+  wrapping-add-u64-reads.Learnt,
+  statement-below t,
+  statement′.Post,
+  forward-reads.Asked,
+  forward-reads.Learnt,
+  stop-reads.Asked,
+  stop-reads.Learnt,
+) (body-at t) body.Post body-Inv-loop body-μ-loop
+body-same-length-7 t c = search (statement-laws, needs)
+
+-- src/statements.rt:291:1
+body-same-length-8 : (t : ℕ) → body-lts.Need-same-length-8 (
+  wrapping-add-u64-reads.Asked,
+  wrapping-add-u64-reads.Learnt,
+  statement-below t,
+  statement′.Post,
+  forward-reads.Asked,
+  forward-reads.Learnt,
+  stop-reads.Asked,
+  stop-reads.Learnt,
+) (body-at t) body.Post body-Inv-loop body-μ-loop
+body-same-length-8 t c = search (statement-laws, needs)
+
+-- src/statements.rt:291:1
+body-same-length-9 : (t : ℕ) → body-lts.Need-same-length-9 (
+  wrapping-add-u64-reads.Asked,
+  wrapping-add-u64-reads.Learnt,
+  statement-below t,
+  statement′.Post,
+  forward-reads.Asked,
+  forward-reads.Learnt,
+  stop-reads.Asked,
+  stop-reads.Learnt,
+) (body-at t) body.Post body-Inv-loop body-μ-loop
+body-same-length-9 t c = search (statement-laws, needs)
+
+-- src/statements.rt:291:1
+body-returns-3 : (t : ℕ) → body-lts.Need-returns-3 (
+  wrapping-add-u64-reads.Asked,
+  wrapping-add-u64-reads.Learnt,
+  statement-below t,
+  statement′.Post,
+  forward-reads.Asked,
+  forward-reads.Learnt,
+  stop-reads.Asked,
+  stop-reads.Learnt,
+) (body-at t) body.Post body-Inv-loop body-μ-loop
+body-returns-3 t c = search (statement-laws, needs)
+
+-- src/statements.rt:241:9
+call-statement-byte-requires : (t : ℕ) → call-statement-lts.Need-byte-requires (
+  byte-reads.Asked,
+  byte-reads.Learnt,
+  u16-in-reads.Asked,
+  u16-in-reads.Learnt,
+  called-of-reads.Asked,
+  called-of-reads.Learnt,
+  macro-statement-below t,
+  macro-statement.Post,
+  other-call-reads.Asked,
+  other-call-reads.Learnt,
+) (call-statement-at t) call-statement.Post
+call-statement-byte-requires t c κs = search (statement-laws, needs)
+
+-- src/statements.rt:242:29
+call-statement-u16-in-requires : (t : ℕ) → call-statement-lts.Need-u16-in-requires (
+  byte-reads.Asked,
+  byte-reads.Learnt,
+  u16-in-reads.Asked,
+  u16-in-reads.Learnt,
+  called-of-reads.Asked,
+  called-of-reads.Learnt,
+  macro-statement-below t,
+  macro-statement.Post,
+  other-call-reads.Asked,
+  other-call-reads.Learnt,
+) (call-statement-at t) call-statement.Post
+call-statement-u16-in-requires t c κs = search (statement-laws, needs)
+
+-- src/statements.rt:242:9
+call-statement-called-of-requires : (t : ℕ) → call-statement-lts.Need-called-of-requires (
+  byte-reads.Asked,
+  byte-reads.Learnt,
+  u16-in-reads.Asked,
+  u16-in-reads.Learnt,
+  called-of-reads.Asked,
+  called-of-reads.Learnt,
+  macro-statement-below t,
+  macro-statement.Post,
+  other-call-reads.Asked,
+  other-call-reads.Learnt,
+) (call-statement-at t) call-statement.Post
+call-statement-called-of-requires t c κs = search (statement-laws, needs)
+
+-- src/statements.rt:244:9
+call-statement-macro-statement-requires :
+    (t : ℕ) → call-statement-lts.Need-macro-statement-requires (
+      byte-reads.Asked,
+      byte-reads.Learnt,
+      u16-in-reads.Asked,
+      u16-in-reads.Learnt,
+      called-of-reads.Asked,
+      called-of-reads.Learnt,
+      macro-statement-below t,
+      macro-statement.Post,
+      other-call-reads.Asked,
+      other-call-reads.Learnt,
+    ) (call-statement-at t) call-statement.Post
+call-statement-macro-statement-requires t c κs = search (statement-laws, needs)
+
+-- src/statements.rt:244:9
+call-statement-same-length : (t : ℕ) → call-statement-lts.Need-same-length (
+  byte-reads.Asked,
+  byte-reads.Learnt,
+  u16-in-reads.Asked,
+  u16-in-reads.Learnt,
+  called-of-reads.Asked,
+  called-of-reads.Learnt,
+  macro-statement-below t,
+  macro-statement.Post,
+  other-call-reads.Asked,
+  other-call-reads.Learnt,
+) (call-statement-at t) call-statement.Post
+call-statement-same-length t c = search (statement-laws, needs)
+
+-- src/statements.rt:244:9
+call-statement-same-length-2 : (t : ℕ) → call-statement-lts.Need-same-length-2 (
+  byte-reads.Asked,
+  byte-reads.Learnt,
+  u16-in-reads.Asked,
+  u16-in-reads.Learnt,
+  called-of-reads.Asked,
+  called-of-reads.Learnt,
+  macro-statement-below t,
+  macro-statement.Post,
+  other-call-reads.Asked,
+  other-call-reads.Learnt,
+) (call-statement-at t) call-statement.Post
+call-statement-same-length-2 t c = search (statement-laws, needs)
+
+-- src/statements.rt:244:9
+call-statement-same-length-3 : (t : ℕ) → call-statement-lts.Need-same-length-3 (
+  byte-reads.Asked,
+  byte-reads.Learnt,
+  u16-in-reads.Asked,
+  u16-in-reads.Learnt,
+  called-of-reads.Asked,
+  called-of-reads.Learnt,
+  macro-statement-below t,
+  macro-statement.Post,
+  other-call-reads.Asked,
+  other-call-reads.Learnt,
+) (call-statement-at t) call-statement.Post
+call-statement-same-length-3 t c = search (statement-laws, needs)
+
+-- src/statements.rt:244:9
+call-statement-returns : (t : ℕ) → call-statement-lts.Need-returns (
+  byte-reads.Asked,
+  byte-reads.Learnt,
+  u16-in-reads.Asked,
+  u16-in-reads.Learnt,
+  called-of-reads.Asked,
+  called-of-reads.Learnt,
+  macro-statement-below t,
+  macro-statement.Post,
+  other-call-reads.Asked,
+  other-call-reads.Learnt,
+) (call-statement-at t) call-statement.Post
+call-statement-returns t c = search (statement-laws, needs)
+
+-- src/statements.rt:246:5
+call-statement-other-call-requires : (t : ℕ) → call-statement-lts.Need-other-call-requires (
+  byte-reads.Asked,
+  byte-reads.Learnt,
+  u16-in-reads.Asked,
+  u16-in-reads.Learnt,
+  called-of-reads.Asked,
+  called-of-reads.Learnt,
+  macro-statement-below t,
+  macro-statement.Post,
+  other-call-reads.Asked,
+  other-call-reads.Learnt,
+) (call-statement-at t) call-statement.Post
+call-statement-other-call-requires t c κs = search (statement-laws, needs)
+
+-- src/statements.rt:227:1
+call-statement-same-length-4 : (t : ℕ) → call-statement-lts.Need-same-length-4 (
+  byte-reads.Asked,
+  byte-reads.Learnt,
+  u16-in-reads.Asked,
+  u16-in-reads.Learnt,
+  called-of-reads.Asked,
+  called-of-reads.Learnt,
+  macro-statement-below t,
+  macro-statement.Post,
+  other-call-reads.Asked,
+  other-call-reads.Learnt,
+) (call-statement-at t) call-statement.Post
+call-statement-same-length-4 t c = search (statement-laws, needs)
+
+-- src/statements.rt:227:1
+call-statement-same-length-5 : (t : ℕ) → call-statement-lts.Need-same-length-5 (
+  byte-reads.Asked,
+  byte-reads.Learnt,
+  u16-in-reads.Asked,
+  u16-in-reads.Learnt,
+  called-of-reads.Asked,
+  called-of-reads.Learnt,
+  macro-statement-below t,
+  macro-statement.Post,
+  other-call-reads.Asked,
+  other-call-reads.Learnt,
+) (call-statement-at t) call-statement.Post
+call-statement-same-length-5 t c = search (statement-laws, needs)
+
+-- src/statements.rt:227:1
+call-statement-returns-2 : (t : ℕ) → call-statement-lts.Need-returns-2 (
+  byte-reads.Asked,
+  byte-reads.Learnt,
+  u16-in-reads.Asked,
+  u16-in-reads.Learnt,
+  called-of-reads.Asked,
+  called-of-reads.Learnt,
+  macro-statement-below t,
+  macro-statement.Post,
+  other-call-reads.Asked,
+  other-call-reads.Learnt,
+) (call-statement-at t) call-statement.Post
+call-statement-returns-2 t c = search (statement-laws, needs)
+
+-- src/statements.rt:189:9
+enter-stop-requires : (t : ℕ) → enter-lts.Need-stop-requires (
+  stop-reads.Asked,
+  stop-reads.Learnt,
+  macro-at-reads.Asked,
+  macro-at-reads.Learnt,
+  wrapping-add-u64-reads.Asked,
+  wrapping-add-u64-reads.Learnt,
+  body-at-reads.Asked,
+  body-at-reads.Learnt,
+  u16-in-reads.Asked,
+  u16-in-reads.Learnt,
+  macro-env-reads.Asked,
+  macro-env-reads.Learnt,
+  first-ordinal-reads.Asked,
+  first-ordinal-reads.Learnt,
+  after-reads.Asked,
+  after-reads.Learnt,
+  entered-reads.Asked,
+  entered-reads.Learnt,
+  body-below t,
+  body.Post,
+  returned-reads.Asked,
+  returned-reads.Learnt,
+) (enter-at t) enter.Post
+enter-stop-requires t c κs = search (statement-laws, needs)
+
+-- src/statements.rt:189:9
+enter-returns : (t : ℕ) → enter-lts.Need-returns (
+  stop-reads.Asked,
+  stop-reads.Learnt,
+  macro-at-reads.Asked,
+  macro-at-reads.Learnt,
+  wrapping-add-u64-reads.Asked,
+  wrapping-add-u64-reads.Learnt,
+  body-at-reads.Asked,
+  body-at-reads.Learnt,
+  u16-in-reads.Asked,
+  u16-in-reads.Learnt,
+  macro-env-reads.Asked,
+  macro-env-reads.Learnt,
+  first-ordinal-reads.Asked,
+  first-ordinal-reads.Learnt,
+  after-reads.Asked,
+  after-reads.Learnt,
+  entered-reads.Asked,
+  entered-reads.Learnt,
+  body-below t,
+  body.Post,
+  returned-reads.Asked,
+  returned-reads.Learnt,
+) (enter-at t) enter.Post
+enter-returns t c = search (statement-laws, needs)
+
+-- src/statements.rt:191:9
+enter-macro-at-requires : (t : ℕ) → enter-lts.Need-macro-at-requires (
+  stop-reads.Asked,
+  stop-reads.Learnt,
+  macro-at-reads.Asked,
+  macro-at-reads.Learnt,
+  wrapping-add-u64-reads.Asked,
+  wrapping-add-u64-reads.Learnt,
+  body-at-reads.Asked,
+  body-at-reads.Learnt,
+  u16-in-reads.Asked,
+  u16-in-reads.Learnt,
+  macro-env-reads.Asked,
+  macro-env-reads.Learnt,
+  first-ordinal-reads.Asked,
+  first-ordinal-reads.Learnt,
+  after-reads.Asked,
+  after-reads.Learnt,
+  entered-reads.Asked,
+  entered-reads.Learnt,
+  body-below t,
+  body.Post,
+  returned-reads.Asked,
+  returned-reads.Learnt,
+) (enter-at t) enter.Post
+enter-macro-at-requires t c κs = search (statement-laws, needs)
+
+-- src/statements.rt:192:9
+enter-wrapping-add-u64-requires : (t : ℕ) → enter-lts.Need-wrapping-add-u64-requires (
+  stop-reads.Asked,
+  stop-reads.Learnt,
+  macro-at-reads.Asked,
+  macro-at-reads.Learnt,
+  wrapping-add-u64-reads.Asked,
+  wrapping-add-u64-reads.Learnt,
+  body-at-reads.Asked,
+  body-at-reads.Learnt,
+  u16-in-reads.Asked,
+  u16-in-reads.Learnt,
+  macro-env-reads.Asked,
+  macro-env-reads.Learnt,
+  first-ordinal-reads.Asked,
+  first-ordinal-reads.Learnt,
+  after-reads.Asked,
+  after-reads.Learnt,
+  entered-reads.Asked,
+  entered-reads.Learnt,
+  body-below t,
+  body.Post,
+  returned-reads.Asked,
+  returned-reads.Learnt,
+) (enter-at t) enter.Post
+enter-wrapping-add-u64-requires t c κs = search (statement-laws, needs)
+
+-- src/statements.rt:193:9
+enter-body-at-requires : (t : ℕ) → enter-lts.Need-body-at-requires (
+  stop-reads.Asked,
+  stop-reads.Learnt,
+  macro-at-reads.Asked,
+  macro-at-reads.Learnt,
+  wrapping-add-u64-reads.Asked,
+  wrapping-add-u64-reads.Learnt,
+  body-at-reads.Asked,
+  body-at-reads.Learnt,
+  u16-in-reads.Asked,
+  u16-in-reads.Learnt,
+  macro-env-reads.Asked,
+  macro-env-reads.Learnt,
+  first-ordinal-reads.Asked,
+  first-ordinal-reads.Learnt,
+  after-reads.Asked,
+  after-reads.Learnt,
+  entered-reads.Asked,
+  entered-reads.Learnt,
+  body-below t,
+  body.Post,
+  returned-reads.Asked,
+  returned-reads.Learnt,
+) (enter-at t) enter.Post
+enter-body-at-requires t c κs = search (statement-laws, needs)
+
+-- src/statements.rt:194:9
+enter-u16-in-requires : (t : ℕ) → enter-lts.Need-u16-in-requires (
+  stop-reads.Asked,
+  stop-reads.Learnt,
+  macro-at-reads.Asked,
+  macro-at-reads.Learnt,
+  wrapping-add-u64-reads.Asked,
+  wrapping-add-u64-reads.Learnt,
+  body-at-reads.Asked,
+  body-at-reads.Learnt,
+  u16-in-reads.Asked,
+  u16-in-reads.Learnt,
+  macro-env-reads.Asked,
+  macro-env-reads.Learnt,
+  first-ordinal-reads.Asked,
+  first-ordinal-reads.Learnt,
+  after-reads.Asked,
+  after-reads.Learnt,
+  entered-reads.Asked,
+  entered-reads.Learnt,
+  body-below t,
+  body.Post,
+  returned-reads.Asked,
+  returned-reads.Learnt,
+) (enter-at t) enter.Post
+enter-u16-in-requires t c κs = search (statement-laws, needs)
+
+-- src/statements.rt:195:9
+enter-macro-env-requires : (t : ℕ) → enter-lts.Need-macro-env-requires (
+  stop-reads.Asked,
+  stop-reads.Learnt,
+  macro-at-reads.Asked,
+  macro-at-reads.Learnt,
+  wrapping-add-u64-reads.Asked,
+  wrapping-add-u64-reads.Learnt,
+  body-at-reads.Asked,
+  body-at-reads.Learnt,
+  u16-in-reads.Asked,
+  u16-in-reads.Learnt,
+  macro-env-reads.Asked,
+  macro-env-reads.Learnt,
+  first-ordinal-reads.Asked,
+  first-ordinal-reads.Learnt,
+  after-reads.Asked,
+  after-reads.Learnt,
+  entered-reads.Asked,
+  entered-reads.Learnt,
+  body-below t,
+  body.Post,
+  returned-reads.Asked,
+  returned-reads.Learnt,
+) (enter-at t) enter.Post
+enter-macro-env-requires t c κs = search (statement-laws, needs)
+
+-- src/statements.rt:196:9
+enter-first-ordinal-requires : (t : ℕ) → enter-lts.Need-first-ordinal-requires (
+  stop-reads.Asked,
+  stop-reads.Learnt,
+  macro-at-reads.Asked,
+  macro-at-reads.Learnt,
+  wrapping-add-u64-reads.Asked,
+  wrapping-add-u64-reads.Learnt,
+  body-at-reads.Asked,
+  body-at-reads.Learnt,
+  u16-in-reads.Asked,
+  u16-in-reads.Learnt,
+  macro-env-reads.Asked,
+  macro-env-reads.Learnt,
+  first-ordinal-reads.Asked,
+  first-ordinal-reads.Learnt,
+  after-reads.Asked,
+  after-reads.Learnt,
+  entered-reads.Asked,
+  entered-reads.Learnt,
+  body-below t,
+  body.Post,
+  returned-reads.Asked,
+  returned-reads.Learnt,
+) (enter-at t) enter.Post
+enter-first-ordinal-requires t c κs = search (statement-laws, needs)
+
+-- src/statements.rt:197:17
+enter-sub-below : (t : ℕ) → enter-lts.Need-sub-below (
+  stop-reads.Asked,
+  stop-reads.Learnt,
+  macro-at-reads.Asked,
+  macro-at-reads.Learnt,
+  wrapping-add-u64-reads.Asked,
+  wrapping-add-u64-reads.Learnt,
+  body-at-reads.Asked,
+  body-at-reads.Learnt,
+  u16-in-reads.Asked,
+  u16-in-reads.Learnt,
+  macro-env-reads.Asked,
+  macro-env-reads.Learnt,
+  first-ordinal-reads.Asked,
+  first-ordinal-reads.Learnt,
+  after-reads.Asked,
+  after-reads.Learnt,
+  entered-reads.Asked,
+  entered-reads.Learnt,
+  body-below t,
+  body.Post,
+  returned-reads.Asked,
+  returned-reads.Learnt,
+) (enter-at t) enter.Post
+enter-sub-below t c = search (statement-laws, needs)
+
+-- src/statements.rt:198:9
+enter-after-requires : (t : ℕ) → enter-lts.Need-after-requires (
+  stop-reads.Asked,
+  stop-reads.Learnt,
+  macro-at-reads.Asked,
+  macro-at-reads.Learnt,
+  wrapping-add-u64-reads.Asked,
+  wrapping-add-u64-reads.Learnt,
+  body-at-reads.Asked,
+  body-at-reads.Learnt,
+  u16-in-reads.Asked,
+  u16-in-reads.Learnt,
+  macro-env-reads.Asked,
+  macro-env-reads.Learnt,
+  first-ordinal-reads.Asked,
+  first-ordinal-reads.Learnt,
+  after-reads.Asked,
+  after-reads.Learnt,
+  entered-reads.Asked,
+  entered-reads.Learnt,
+  body-below t,
+  body.Post,
+  returned-reads.Asked,
+  returned-reads.Learnt,
+) (enter-at t) enter.Post
+enter-after-requires t c κs = search (statement-laws, needs)
+
+-- src/statements.rt:199:9
+enter-entered-requires : (t : ℕ) → enter-lts.Need-entered-requires (
+  stop-reads.Asked,
+  stop-reads.Learnt,
+  macro-at-reads.Asked,
+  macro-at-reads.Learnt,
+  wrapping-add-u64-reads.Asked,
+  wrapping-add-u64-reads.Learnt,
+  body-at-reads.Asked,
+  body-at-reads.Learnt,
+  u16-in-reads.Asked,
+  u16-in-reads.Learnt,
+  macro-env-reads.Asked,
+  macro-env-reads.Learnt,
+  first-ordinal-reads.Asked,
+  first-ordinal-reads.Learnt,
+  after-reads.Asked,
+  after-reads.Learnt,
+  entered-reads.Asked,
+  entered-reads.Learnt,
+  body-below t,
+  body.Post,
+  returned-reads.Asked,
+  returned-reads.Learnt,
+) (enter-at t) enter.Post
+enter-entered-requires t c κs = search (statement-laws, needs)
+
+-- src/statements.rt:200:9
+enter-body-requires : (t : ℕ) → enter-lts.Need-body-requires (
+  stop-reads.Asked,
+  stop-reads.Learnt,
+  macro-at-reads.Asked,
+  macro-at-reads.Learnt,
+  wrapping-add-u64-reads.Asked,
+  wrapping-add-u64-reads.Learnt,
+  body-at-reads.Asked,
+  body-at-reads.Learnt,
+  u16-in-reads.Asked,
+  u16-in-reads.Learnt,
+  macro-env-reads.Asked,
+  macro-env-reads.Learnt,
+  first-ordinal-reads.Asked,
+  first-ordinal-reads.Learnt,
+  after-reads.Asked,
+  after-reads.Learnt,
+  entered-reads.Asked,
+  entered-reads.Learnt,
+  body-below t,
+  body.Post,
+  returned-reads.Asked,
+  returned-reads.Learnt,
+) (enter-at t) enter.Post
+enter-body-requires t c κs = search (c .before .before .before .before .before .before .before .before .before .before .before .if1 .left, c .before .before .before .before .before .before .before .before .before .before .before .before .before .before .before .before .before .pre, needs)
+
+-- src/statements.rt:201:5
+enter-returned-requires : (t : ℕ) → enter-lts.Need-returned-requires (
+  stop-reads.Asked,
+  stop-reads.Learnt,
+  macro-at-reads.Asked,
+  macro-at-reads.Learnt,
+  wrapping-add-u64-reads.Asked,
+  wrapping-add-u64-reads.Learnt,
+  body-at-reads.Asked,
+  body-at-reads.Learnt,
+  u16-in-reads.Asked,
+  u16-in-reads.Learnt,
+  macro-env-reads.Asked,
+  macro-env-reads.Learnt,
+  first-ordinal-reads.Asked,
+  first-ordinal-reads.Learnt,
+  after-reads.Asked,
+  after-reads.Learnt,
+  entered-reads.Asked,
+  entered-reads.Learnt,
+  body-below t,
+  body.Post,
+  returned-reads.Asked,
+  returned-reads.Learnt,
+) (enter-at t) enter.Post
+enter-returned-requires t c κs = search (statement-laws, needs)
+
+-- src/statements.rt:171:1
+enter-same-length : (t : ℕ) → enter-lts.Need-same-length (
+  stop-reads.Asked,
+  stop-reads.Learnt,
+  macro-at-reads.Asked,
+  macro-at-reads.Learnt,
+  wrapping-add-u64-reads.Asked,
+  wrapping-add-u64-reads.Learnt,
+  body-at-reads.Asked,
+  body-at-reads.Learnt,
+  u16-in-reads.Asked,
+  u16-in-reads.Learnt,
+  macro-env-reads.Asked,
+  macro-env-reads.Learnt,
+  first-ordinal-reads.Asked,
+  first-ordinal-reads.Learnt,
+  after-reads.Asked,
+  after-reads.Learnt,
+  entered-reads.Asked,
+  entered-reads.Learnt,
+  body-below t,
+  body.Post,
+  returned-reads.Asked,
+  returned-reads.Learnt,
+) (enter-at t) enter.Post
+enter-same-length t c = search (statement-laws, needs)
+
+-- src/statements.rt:171:1
+enter-same-length-2 : (t : ℕ) → enter-lts.Need-same-length-2 (
+  stop-reads.Asked,
+  stop-reads.Learnt,
+  macro-at-reads.Asked,
+  macro-at-reads.Learnt,
+  wrapping-add-u64-reads.Asked,
+  wrapping-add-u64-reads.Learnt,
+  body-at-reads.Asked,
+  body-at-reads.Learnt,
+  u16-in-reads.Asked,
+  u16-in-reads.Learnt,
+  macro-env-reads.Asked,
+  macro-env-reads.Learnt,
+  first-ordinal-reads.Asked,
+  first-ordinal-reads.Learnt,
+  after-reads.Asked,
+  after-reads.Learnt,
+  entered-reads.Asked,
+  entered-reads.Learnt,
+  body-below t,
+  body.Post,
+  returned-reads.Asked,
+  returned-reads.Learnt,
+) (enter-at t) enter.Post
+enter-same-length-2 t c = search (statement-laws, needs)
+
+-- src/statements.rt:171:1
+enter-same-length-3 : (t : ℕ) → enter-lts.Need-same-length-3 (
+  stop-reads.Asked,
+  stop-reads.Learnt,
+  macro-at-reads.Asked,
+  macro-at-reads.Learnt,
+  wrapping-add-u64-reads.Asked,
+  wrapping-add-u64-reads.Learnt,
+  body-at-reads.Asked,
+  body-at-reads.Learnt,
+  u16-in-reads.Asked,
+  u16-in-reads.Learnt,
+  macro-env-reads.Asked,
+  macro-env-reads.Learnt,
+  first-ordinal-reads.Asked,
+  first-ordinal-reads.Learnt,
+  after-reads.Asked,
+  after-reads.Learnt,
+  entered-reads.Asked,
+  entered-reads.Learnt,
+  body-below t,
+  body.Post,
+  returned-reads.Asked,
+  returned-reads.Learnt,
+) (enter-at t) enter.Post
+enter-same-length-3 t c = search (statement-laws, needs)
+
+-- src/statements.rt:171:1
+enter-returns-2 : (t : ℕ) → enter-lts.Need-returns-2 (
+  stop-reads.Asked,
+  stop-reads.Learnt,
+  macro-at-reads.Asked,
+  macro-at-reads.Learnt,
+  wrapping-add-u64-reads.Asked,
+  wrapping-add-u64-reads.Learnt,
+  body-at-reads.Asked,
+  body-at-reads.Learnt,
+  u16-in-reads.Asked,
+  u16-in-reads.Learnt,
+  macro-env-reads.Asked,
+  macro-env-reads.Learnt,
+  first-ordinal-reads.Asked,
+  first-ordinal-reads.Learnt,
+  after-reads.Asked,
+  after-reads.Learnt,
+  entered-reads.Asked,
+  entered-reads.Learnt,
+  body-below t,
+  body.Post,
+  returned-reads.Asked,
+  returned-reads.Learnt,
+) (enter-at t) enter.Post
+enter-returns-2 t c = enter-body _ _ _ _ _ _ _ _ _ _ _ _ _ _ _ _ _ _ _ _ _ _ _ _ _ _ (c .before .before .before .before .before .before .before .before .before .before .before .before .before .before .before .before .before .before .before .if1 .left) (c .before .before .before .before .before .before .before .before .before .before .before .before .before .before .before .before .before .before .macro-at .ensures) (c .before .before .before .before .before .before .before .before .before .before .before .before .before .before .before .before .before .wrapping-add-u64 .ensures) (c .before .before .before .before .before .before .before .before .before .before .before .before .before .before .before .before .body-at .ensures) (c .before .before .before .before .before .before .before .before .before .before .before .before .before .before .before .u16-in .ensures) (c .before .before .before .before .before .before .before .before .before .before .before .before .before .before .macro-env .ensures) (c .before .before .before .before .before .before .before .before .before .before .before .before .before .first-ordinal .ensures) (c .before .before .before .before .before .before .before .before .before .before .before .before .after .ensures) (c .before .before .before .before .before .before .before .before .before .before .before .entered .ensures) (c .before .before .before .before .before .before .before .body .ensures) (c .returned .ensures)
+
+-- src/statements.rt:221:37
+macro-statement-slice-aggregate-macro-args :
+    (t : ℕ) → macro-statement-lts.Need-slice-aggregate-macro-args (
+      macro-args-reads.Asked,
+      macro-args-reads.Learnt,
+      stop-reads.Asked,
+      stop-reads.Learnt,
+      enter-below t,
+      enter.Post,
+    ) (macro-statement-at t) macro-statement.Post
+macro-statement-slice-aggregate-macro-args t c = search (statement-laws, needs)
+
+-- src/statements.rt:221:11
+macro-statement-macro-args-requires : (t : ℕ) → macro-statement-lts.Need-macro-args-requires (
+  macro-args-reads.Asked,
+  macro-args-reads.Learnt,
+  stop-reads.Asked,
+  stop-reads.Learnt,
+  enter-below t,
+  enter.Post,
+) (macro-statement-at t) macro-statement.Post
+macro-statement-macro-args-requires t c κs = search (statement-laws, needs)
+
+-- src/statements.rt:222:18
+macro-statement-enum-known-k : (t : ℕ) → macro-statement-lts.Need-enum-known-k (
+  macro-args-reads.Asked,
+  macro-args-reads.Learnt,
+  stop-reads.Asked,
+  stop-reads.Learnt,
+  enter-below t,
+  enter.Post,
+) (macro-statement-at t) macro-statement.Post
+macro-statement-enum-known-k t c = search (statement-laws, needs)
+
+-- src/statements.rt:222:24
+macro-statement-stop-requires : (t : ℕ) → macro-statement-lts.Need-stop-requires (
+  macro-args-reads.Asked,
+  macro-args-reads.Learnt,
+  stop-reads.Asked,
+  stop-reads.Learnt,
+  enter-below t,
+  enter.Post,
+) (macro-statement-at t) macro-statement.Post
+macro-statement-stop-requires t c κs = search (statement-laws, needs)
+
+-- src/statements.rt:223:22
+macro-statement-enum-known-next : (t : ℕ) → macro-statement-lts.Need-enum-known-next (
+  macro-args-reads.Asked,
+  macro-args-reads.Learnt,
+  stop-reads.Asked,
+  stop-reads.Learnt,
+  enter-below t,
+  enter.Post,
+) (macro-statement-at t) macro-statement.Post
+macro-statement-enum-known-next t c = search (statement-laws, needs)
+
+-- src/statements.rt:223:70
+macro-statement-slice-aggregate-enter : (t : ℕ) → macro-statement-lts.Need-slice-aggregate-enter (
+  macro-args-reads.Asked,
+  macro-args-reads.Learnt,
+  stop-reads.Asked,
+  stop-reads.Learnt,
+  enter-below t,
+  enter.Post,
+) (macro-statement-at t) macro-statement.Post
+macro-statement-slice-aggregate-enter t c = search (statement-laws, needs)
+
+-- src/statements.rt:223:36
+macro-statement-enter-requires : (t : ℕ) → macro-statement-lts.Need-enter-requires (
+  macro-args-reads.Asked,
+  macro-args-reads.Learnt,
+  stop-reads.Asked,
+  stop-reads.Learnt,
+  enter-below t,
+  enter.Post,
+) (macro-statement-at t) macro-statement.Post
+macro-statement-enter-requires t c κs = search (statement-laws, needs)
+
+-- src/statements.rt:204:1
+macro-statement-same-length : (t : ℕ) → macro-statement-lts.Need-same-length (
+  macro-args-reads.Asked,
+  macro-args-reads.Learnt,
+  stop-reads.Asked,
+  stop-reads.Learnt,
+  enter-below t,
+  enter.Post,
+) (macro-statement-at t) macro-statement.Post
+macro-statement-same-length t c = search (statement-laws, needs)
+
+-- src/statements.rt:204:1
+macro-statement-same-length-2 : (t : ℕ) → macro-statement-lts.Need-same-length-2 (
+  macro-args-reads.Asked,
+  macro-args-reads.Learnt,
+  stop-reads.Asked,
+  stop-reads.Learnt,
+  enter-below t,
+  enter.Post,
+) (macro-statement-at t) macro-statement.Post
+macro-statement-same-length-2 t c = search (statement-laws, needs)
+
+-- src/statements.rt:204:1
+macro-statement-returns : (t : ℕ) → macro-statement-lts.Need-returns (
+  macro-args-reads.Asked,
+  macro-args-reads.Learnt,
+  stop-reads.Asked,
+  stop-reads.Learnt,
+  enter-below t,
+  enter.Post,
+) (macro-statement-at t) macro-statement.Post
+macro-statement-returns t c = search (statement-laws, needs)
+
+-- src/statements.rt:204:1
+macro-statement-same-length-3 : (t : ℕ) → macro-statement-lts.Need-same-length-3 (
+  macro-args-reads.Asked,
+  macro-args-reads.Learnt,
+  stop-reads.Asked,
+  stop-reads.Learnt,
+  enter-below t,
+  enter.Post,
+) (macro-statement-at t) macro-statement.Post
+macro-statement-same-length-3 t c = search (statement-laws, needs)
+
+-- src/statements.rt:204:1
+macro-statement-same-length-4 : (t : ℕ) → macro-statement-lts.Need-same-length-4 (
+  macro-args-reads.Asked,
+  macro-args-reads.Learnt,
+  stop-reads.Asked,
+  stop-reads.Learnt,
+  enter-below t,
+  enter.Post,
+) (macro-statement-at t) macro-statement.Post
+macro-statement-same-length-4 t c = search (statement-laws, needs)
+
+-- src/statements.rt:204:1
+macro-statement-same-length-5 : (t : ℕ) → macro-statement-lts.Need-same-length-5 (
+  macro-args-reads.Asked,
+  macro-args-reads.Learnt,
+  stop-reads.Asked,
+  stop-reads.Learnt,
+  enter-below t,
+  enter.Post,
+) (macro-statement-at t) macro-statement.Post
+macro-statement-same-length-5 t c = search (statement-laws, needs)
+
+-- src/statements.rt:204:1
+macro-statement-returns-2 : (t : ℕ) → macro-statement-lts.Need-returns-2 (
+  macro-args-reads.Asked,
+  macro-args-reads.Learnt,
+  stop-reads.Asked,
+  stop-reads.Learnt,
+  enter-below t,
+  enter.Post,
+) (macro-statement-at t) macro-statement.Post
+macro-statement-returns-2 t c = search (statement-laws, needs)
+
+-- src/statements.rt:264:11
+statement-begin-requires : (t : ℕ) → statement-lts.Need-begin-requires (
+  begin-reads.Asked,
+  begin-reads.Learnt,
+  byte-reads.Asked,
+  byte-reads.Learnt,
+  call-statement-below t,
+  call-statement.Post,
+  other-statement-reads.Asked,
+  other-statement-reads.Learnt,
+) (statement-at t) statement′.Post
+statement-begin-requires t c κs = search (statement-laws, needs)
+
+-- src/statements.rt:266:13
+statement-enum-known-refusal : (t : ℕ) → statement-lts.Need-enum-known-refusal (
+  begin-reads.Asked,
+  begin-reads.Learnt,
+  byte-reads.Asked,
+  byte-reads.Learnt,
+  call-statement-below t,
+  call-statement.Post,
+  other-statement-reads.Asked,
+  other-statement-reads.Learnt,
+) (statement-at t) statement′.Post
+statement-enum-known-refusal t c = search (statement-laws, needs)
+
+-- src/statements.rt:272:34
+statement-enum-known-b : (t : ℕ) → statement-lts.Need-enum-known-b (
+  begin-reads.Asked,
+  begin-reads.Learnt,
+  byte-reads.Asked,
+  byte-reads.Learnt,
+  call-statement-below t,
+  call-statement.Post,
+  other-statement-reads.Asked,
+  other-statement-reads.Learnt,
+) (statement-at t) statement′.Post
+statement-enum-known-b t c = search (statement-laws, needs)
+
+-- src/statements.rt:273:17
+statement-byte-requires : (t : ℕ) → statement-lts.Need-byte-requires (
+  begin-reads.Asked,
+  begin-reads.Learnt,
+  byte-reads.Asked,
+  byte-reads.Learnt,
+  call-statement-below t,
+  call-statement.Post,
+  other-statement-reads.Asked,
+  other-statement-reads.Learnt,
+) (statement-at t) statement′.Post
+statement-byte-requires t c κs = search (statement-laws, needs)
+
+-- src/statements.rt:275:17
+statement-call-statement-requires : (t : ℕ) → statement-lts.Need-call-statement-requires (
+  begin-reads.Asked,
+  begin-reads.Learnt,
+  byte-reads.Asked,
+  byte-reads.Learnt,
+  call-statement-below t,
+  call-statement.Post,
+  other-statement-reads.Asked,
+  other-statement-reads.Learnt,
+) (statement-at t) statement′.Post
+statement-call-statement-requires t c κs = search (statement-laws, needs)
+
+-- src/statements.rt:275:17
+statement-same-length : (t : ℕ) → statement-lts.Need-same-length (
+  begin-reads.Asked,
+  begin-reads.Learnt,
+  byte-reads.Asked,
+  byte-reads.Learnt,
+  call-statement-below t,
+  call-statement.Post,
+  other-statement-reads.Asked,
+  other-statement-reads.Learnt,
+) (statement-at t) statement′.Post
+statement-same-length t c = search (statement-laws, needs)
+
+-- src/statements.rt:275:17
+statement-same-length-2 : (t : ℕ) → statement-lts.Need-same-length-2 (
+  begin-reads.Asked,
+  begin-reads.Learnt,
+  byte-reads.Asked,
+  byte-reads.Learnt,
+  call-statement-below t,
+  call-statement.Post,
+  other-statement-reads.Asked,
+  other-statement-reads.Learnt,
+) (statement-at t) statement′.Post
+statement-same-length-2 t c = search (statement-laws, needs)
+
+-- src/statements.rt:275:17
+statement-same-length-3 : (t : ℕ) → statement-lts.Need-same-length-3 (
+  begin-reads.Asked,
+  begin-reads.Learnt,
+  byte-reads.Asked,
+  byte-reads.Learnt,
+  call-statement-below t,
+  call-statement.Post,
+  other-statement-reads.Asked,
+  other-statement-reads.Learnt,
+) (statement-at t) statement′.Post
+statement-same-length-3 t c = search (statement-laws, needs)
+
+-- src/statements.rt:275:17
+statement-returns : (t : ℕ) → statement-lts.Need-returns (
+  begin-reads.Asked,
+  begin-reads.Learnt,
+  byte-reads.Asked,
+  byte-reads.Learnt,
+  call-statement-below t,
+  call-statement.Post,
+  other-statement-reads.Asked,
+  other-statement-reads.Learnt,
+) (statement-at t) statement′.Post
+statement-returns t c = search (statement-laws, needs)
+
+-- src/statements.rt:277:13
+statement-other-statement-requires : (t : ℕ) → statement-lts.Need-other-statement-requires (
+  begin-reads.Asked,
+  begin-reads.Learnt,
+  byte-reads.Asked,
+  byte-reads.Learnt,
+  call-statement-below t,
+  call-statement.Post,
+  other-statement-reads.Asked,
+  other-statement-reads.Learnt,
+) (statement-at t) statement′.Post
+statement-other-statement-requires t c κs = search (statement-laws, needs)
+
+-- src/statements.rt:249:1
+statement-returns-2 : (t : ℕ) → statement-lts.Need-returns-2 (
+  begin-reads.Asked,
+  begin-reads.Learnt,
+  byte-reads.Asked,
+  byte-reads.Learnt,
+  call-statement-below t,
+  call-statement.Post,
+  other-statement-reads.Asked,
+  other-statement-reads.Learnt,
+) (statement-at t) statement′.Post
+statement-returns-2 t c = search (statement-laws, needs)
+
+-- src/statements.rt:249:1
+statement-same-length-4 : (t : ℕ) → statement-lts.Need-same-length-4 (
+  begin-reads.Asked,
+  begin-reads.Learnt,
+  byte-reads.Asked,
+  byte-reads.Learnt,
+  call-statement-below t,
+  call-statement.Post,
+  other-statement-reads.Asked,
+  other-statement-reads.Learnt,
+) (statement-at t) statement′.Post
+statement-same-length-4 t c = search (statement-laws, needs)
+
+-- src/statements.rt:249:1
+statement-same-length-5 : (t : ℕ) → statement-lts.Need-same-length-5 (
+  begin-reads.Asked,
+  begin-reads.Learnt,
+  byte-reads.Asked,
+  byte-reads.Learnt,
+  call-statement-below t,
+  call-statement.Post,
+  other-statement-reads.Asked,
+  other-statement-reads.Learnt,
+) (statement-at t) statement′.Post
+statement-same-length-5 t c = search (statement-laws, needs)
+
+-- src/statements.rt:249:1
+statement-same-length-6 : (t : ℕ) → statement-lts.Need-same-length-6 (
+  begin-reads.Asked,
+  begin-reads.Learnt,
+  byte-reads.Asked,
+  byte-reads.Learnt,
+  call-statement-below t,
+  call-statement.Post,
+  other-statement-reads.Asked,
+  other-statement-reads.Learnt,
+) (statement-at t) statement′.Post
+statement-same-length-6 t c = search (statement-laws, needs)
+
+-- src/statements.rt:249:1
+statement-returns-3 : (t : ℕ) → statement-lts.Need-returns-3 (
+  begin-reads.Asked,
+  begin-reads.Learnt,
+  byte-reads.Asked,
+  byte-reads.Learnt,
+  call-statement-below t,
+  call-statement.Post,
+  other-statement-reads.Asked,
+  other-statement-reads.Learnt,
+) (statement-at t) statement′.Post
+statement-returns-3 t c = search (statement-laws, needs)
+
+pub +body+call-statement+enter+macro-statement+statement-spec : {M : Type 1} → statement M
++body+call-statement+enter+macro-statement+statement-spec =
+    close μ-body μ-call-statement μ-enter μ-macro-statement μ-statement (λ t. body-lts.spec (
+      wrapping-add-u64-reads.Asked,
+      wrapping-add-u64-reads.Learnt,
+      statement-below t,
+      statement′.Post,
+      forward-reads.Asked,
+      forward-reads.Learnt,
+      stop-reads.Asked,
+      stop-reads.Learnt,
+    )
+    (body-at t)
+    body.Post
+    body-Inv-loop
+    body-μ-loop
+    (body-loop-holds t)
+    (body-wrapping-add-u64-requires t)
+    (body-statement-requires t)
+    (body-enum-known-refusal t)
+    (body-same-length t)
+    (body-same-length-2 t)
+    (body-same-length-3 t)
+    (body-returns t)
+    (body-enum-known-next t)
+    (body-forward-requires t)
+    (body-stop-requires t)
+    (body-same-length-4 t)
+    (body-same-length-5 t)
+    (body-same-length-6 t)
+    (body-returns-2 t)
+    (body-add-i t)
+    (body-loop-less t)
+    (body-loop-again t)
+    (body-same-length-7 t)
+    (body-same-length-8 t)
+    (body-same-length-9 t)
+    (body-returns-3 t))
+    (λ t. call-statement-lts.spec (
+      byte-reads.Asked,
+      byte-reads.Learnt,
+      u16-in-reads.Asked,
+      u16-in-reads.Learnt,
+      called-of-reads.Asked,
+      called-of-reads.Learnt,
+      macro-statement-below t,
+      macro-statement.Post,
+      other-call-reads.Asked,
+      other-call-reads.Learnt,
+    )
+    (call-statement-at t)
+    call-statement.Post
+    (call-statement-byte-requires t)
+    (call-statement-u16-in-requires t)
+    (call-statement-called-of-requires t)
+    (call-statement-macro-statement-requires t)
+    (call-statement-same-length t)
+    (call-statement-same-length-2 t)
+    (call-statement-same-length-3 t)
+    (call-statement-returns t)
+    (call-statement-other-call-requires t)
+    (call-statement-same-length-4 t)
+    (call-statement-same-length-5 t)
+    (call-statement-returns-2 t))
+    (λ t. enter-lts.spec (
+      stop-reads.Asked,
+      stop-reads.Learnt,
+      macro-at-reads.Asked,
+      macro-at-reads.Learnt,
+      wrapping-add-u64-reads.Asked,
+      wrapping-add-u64-reads.Learnt,
+      body-at-reads.Asked,
+      body-at-reads.Learnt,
+      u16-in-reads.Asked,
+      u16-in-reads.Learnt,
+      macro-env-reads.Asked,
+      macro-env-reads.Learnt,
+      first-ordinal-reads.Asked,
+      first-ordinal-reads.Learnt,
+      after-reads.Asked,
+      after-reads.Learnt,
+      entered-reads.Asked,
+      entered-reads.Learnt,
+      body-below t,
+      body.Post,
+      returned-reads.Asked,
+      returned-reads.Learnt,
+    )
+    (enter-at t)
+    enter.Post
+    (enter-stop-requires t)
+    (enter-returns t)
+    (enter-macro-at-requires t)
+    (enter-wrapping-add-u64-requires t)
+    (enter-body-at-requires t)
+    (enter-u16-in-requires t)
+    (enter-macro-env-requires t)
+    (enter-first-ordinal-requires t)
+    (enter-sub-below t)
+    (enter-after-requires t)
+    (enter-entered-requires t)
+    (enter-body-requires t)
+    (enter-returned-requires t)
+    (enter-same-length t)
+    (enter-same-length-2 t)
+    (enter-same-length-3 t)
+    (enter-returns-2 t))
+    (λ t. macro-statement-lts.spec (
+      macro-args-reads.Asked,
+      macro-args-reads.Learnt,
+      stop-reads.Asked,
+      stop-reads.Learnt,
+      enter-below t,
+      enter.Post,
+    )
+    (macro-statement-at t)
+    macro-statement.Post
+    (macro-statement-slice-aggregate-macro-args t)
+    (macro-statement-macro-args-requires t)
+    (macro-statement-enum-known-k t)
+    (macro-statement-stop-requires t)
+    (macro-statement-enum-known-next t)
+    (macro-statement-slice-aggregate-enter t)
+    (macro-statement-enter-requires t)
+    (macro-statement-same-length t)
+    (macro-statement-same-length-2 t)
+    (macro-statement-returns t)
+    (macro-statement-same-length-3 t)
+    (macro-statement-same-length-4 t)
+    (macro-statement-same-length-5 t)
+    (macro-statement-returns-2 t))
+    λ t. statement-lts.spec (
+      begin-reads.Asked,
+      begin-reads.Learnt,
+      byte-reads.Asked,
+      byte-reads.Learnt,
+      call-statement-below t,
+      call-statement.Post,
+      other-statement-reads.Asked,
+      other-statement-reads.Learnt,
+    )
+    (statement-at t)
+    statement′.Post
+    (statement-begin-requires t)
+    (statement-enum-known-refusal t)
+    (statement-enum-known-b t)
+    (statement-byte-requires t)
+    (statement-call-statement-requires t)
+    (statement-same-length t)
+    (statement-same-length-2 t)
+    (statement-same-length-3 t)
+    (statement-returns t)
+    (statement-other-statement-requires t)
+    (statement-returns-2 t)
+    (statement-same-length-4 t)
+    (statement-same-length-5 t)
+    (statement-same-length-6 t)
+    (statement-returns-3 t)

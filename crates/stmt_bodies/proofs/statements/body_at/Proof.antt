@@ -1,0 +1,27 @@
+use borrow.Author.Needs.{needs}
+use Rattle.stmt_bodies.proofs.statements.body_at.Statement.{statement}
+use Rattle.stmt_bodies.proofs.statements.body_at.Tie as tie
+use Rattle.stmt_bodies.proofs.statements.body_at.Reads as reads
+use Rattle.stmt_bodies.proofs.statements.body_at.Lts as lts
+use Rattle.expr_terms.proofs.answers.after.Reads as after-reads
+use Rattle.stmt_bodies.proofs.StatementLaws.{code-laws}
+use Rattle.stmt_bodies.proofs.StatementLaws.{begin-laws}
+
+-- src/statements.rt:169:19
+mul-after : tie.Need-mul-after
+mul-after c = search needs
+
+-- src/statements.rt:169:15
+add-after : tie.Need-add-after
+add-after c = search needs
+
+-- src/statements.rt:169:5
+after-requires : tie.Need-after-requires
+after-requires c κs = search needs
+
+-- src/statements.rt:166:1
+returns : tie.Need-returns
+returns c = search (code-laws, begin-laws, needs)
+
+pub body-at-spec : {M : Type 1} → statement M
+body-at-spec = tie.close (tie.spec mul-after add-after after-requires returns)

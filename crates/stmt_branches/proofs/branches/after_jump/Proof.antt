@@ -1,0 +1,33 @@
+use borrow.Author.Needs.{needs}
+use Rattle.stmt_branches.proofs.branches.after_jump.Statement.{statement}
+use Rattle.stmt_branches.proofs.branches.after_jump.Tie as tie
+use Rattle.stmt_branches.proofs.branches.after_jump.Reads as reads
+use Rattle.stmt_branches.proofs.branches.after_jump.Lts as lts
+use Rattle.access.proofs.byte.Reads as byte-reads
+use Rattle.expr_terms.proofs.answers.after.Reads as after-reads
+use Rattle.stmt_branches.proofs.BranchLaws.{branch-laws}
+use Rattle.stmt_branches.proofs.BranchLaws.{after-integer}
+
+-- src/branches.rt:85:8
+byte-requires : tie.Need-byte-requires
+byte-requires c κs = search needs
+
+-- src/branches.rt:86:9
+after-requires : tie.Need-after-requires
+after-requires c κs = search needs
+
+-- src/branches.rt:86:9
+returns : tie.Need-returns
+returns c = search (branch-laws, needs)
+
+-- src/branches.rt:88:5
+after-requires-2 : tie.Need-after-requires-2
+after-requires-2 c κs = search needs
+
+-- src/branches.rt:82:1
+returns-2 : tie.Need-returns-2
+returns-2 c = after-integer _ _ _ (c .before .before .byte .ensures) _ (c .before .if1 .left) (c .after2 .ensures)
+
+pub after-jump-spec : {M : Type 1} → statement M
+after-jump-spec =
+    tie.close (tie.spec byte-requires after-requires returns after-requires-2 returns-2)

@@ -1,0 +1,56 @@
+use borrow.Author.Needs.{needs}
+use Rattle.stmt_branches.proofs.branches.branch_label.Statement.{statement}
+use Rattle.stmt_branches.proofs.branches.branch_label.Tie as tie
+use Rattle.stmt_branches.proofs.branches.branch_label.Reads as reads
+use Rattle.stmt_branches.proofs.branches.branch_label.Lts as lts
+use Rattle.expr_reading.proofs.read.constant.Reads as constant-reads
+use Rattle.list_pushes.proofs.push.push_op.Reads as push-op-reads
+use Rattle.list_values.proofs.value.no_output.Reads as no-output-reads
+use Rattle.stmt_branches.proofs.labels.labelled.Reads as labelled-reads
+use Rattle.stmt_walk.proofs.walk.pushed_then.Reads as pushed-then-reads
+use Rattle.stmt_branches.proofs.BranchLaws.{branch-laws}
+
+-- src/branches.rt:56:9
+labelled-requires : tie.Need-labelled-requires
+labelled-requires c κs = search needs
+
+-- src/branches.rt:57:51
+no-output-requires : tie.Need-no-output-requires
+no-output-requires c κs = search needs
+
+-- src/branches.rt:57:70
+constant-requires : tie.Need-constant-requires
+constant-requires c κs = search needs
+
+-- src/branches.rt:57:17
+push-op-requires : tie.Need-push-op-requires
+push-op-requires c κs = search needs
+
+-- src/branches.rt:57:5
+pushed-then-requires : tie.Need-pushed-then-requires
+pushed-then-requires c κs = search needs
+
+-- src/branches.rt:53:1
+same-length : tie.Need-same-length
+same-length c = search needs
+
+-- src/branches.rt:53:1
+same-length-2 : tie.Need-same-length-2
+same-length-2 c = search needs
+
+-- src/branches.rt:53:1
+returns : tie.Need-returns
+returns c = search (branch-laws, needs)
+
+pub branch-label-spec : {M : Type 1} → statement M
+branch-label-spec =
+    tie.close
+    (tie.spec
+    labelled-requires
+    no-output-requires
+    constant-requires
+    push-op-requires
+    pushed-then-requires
+    same-length
+    same-length-2
+    returns)

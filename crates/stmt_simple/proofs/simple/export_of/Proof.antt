@@ -1,0 +1,69 @@
+use borrow.Author.Needs.{needs}
+use Rattle.stmt_simple.proofs.simple.export_of.Statement.{statement}
+use Rattle.stmt_simple.proofs.simple.export_of.Tie as tie
+use Rattle.stmt_simple.proofs.simple.export_of.Reads as reads
+use Rattle.stmt_simple.proofs.simple.export_of.Lts as lts
+use Rattle.expr_reading.proofs.read.read_operand.Reads as read-operand-reads
+use Rattle.stmt_simple.proofs.simple.export_value.Reads as export-value-reads
+use Rattle.stmt_simple.proofs.simple.exported.Reads as exported-reads
+use Rattle.stmt_simple.proofs.SimpleLaws.{simple-laws}
+
+-- src/simple.rt:67:29
+enum-known-x : tie.Need-enum-known-x
+enum-known-x c = search needs
+
+-- src/simple.rt:67:48
+exported-requires : tie.Need-exported-requires
+exported-requires c κs = search needs
+
+-- src/simple.rt:68:34
+enum-known-x-2 : tie.Need-enum-known-x-2
+enum-known-x-2 c = search needs
+
+-- src/simple.rt:68:53
+exported-requires-2 : tie.Need-exported-requires-2
+exported-requires-2 c κs = search needs
+
+-- src/simple.rt:69:27
+read-operand-requires : tie.Need-read-operand-requires
+read-operand-requires c κs = search needs
+
+-- src/simple.rt:69:14
+export-value-requires : tie.Need-export-value-requires
+export-value-requires c κs = search needs
+
+-- src/simple.rt:63:1
+returns : tie.Need-returns
+returns c = search (simple-laws, needs)
+
+-- src/simple.rt:63:1
+returns-2 : tie.Need-returns-2
+returns-2 c = search (simple-laws, needs)
+
+-- src/simple.rt:63:1
+same-length : tie.Need-same-length
+same-length c = search needs
+
+-- src/simple.rt:63:1
+same-length-2 : tie.Need-same-length-2
+same-length-2 c = search needs
+
+-- src/simple.rt:63:1
+returns-3 : tie.Need-returns-3
+returns-3 c = search (simple-laws, needs)
+
+pub export-of-spec : {M : Type 1} → statement M
+export-of-spec =
+    tie.close
+    (tie.spec
+    enum-known-x
+    exported-requires
+    enum-known-x-2
+    exported-requires-2
+    read-operand-requires
+    export-value-requires
+    returns
+    returns-2
+    same-length
+    same-length-2
+    returns-3)

@@ -1,0 +1,37 @@
+use borrow.Author.Needs.{needs}
+use Rattle.stmt_simple.proofs.simple.export_value.Statement.{statement}
+use Rattle.stmt_simple.proofs.simple.export_value.Tie as tie
+use Rattle.stmt_simple.proofs.simple.export_value.Reads as reads
+use Rattle.stmt_simple.proofs.simple.export_value.Lts as lts
+use Rattle.stmt_simple.proofs.simple.exported.Reads as exported-reads
+use Rattle.stmt_walk.proofs.walk.stop.Reads as stop-reads
+use Rattle.stmt_simple.proofs.SimpleLaws.{simple-laws}
+
+-- src/simple.rt:57:18
+enum-known-r : tie.Need-enum-known-r
+enum-known-r c = search needs
+
+-- src/simple.rt:57:24
+stop-requires : tie.Need-stop-requires
+stop-requires c κs = search needs
+
+-- src/simple.rt:58:23
+enum-known-r-2 : tie.Need-enum-known-r-2
+enum-known-r-2 c = search needs
+
+-- src/simple.rt:58:34
+exported-requires : tie.Need-exported-requires
+exported-requires c κs = search needs
+
+-- src/simple.rt:53:1
+returns : tie.Need-returns
+returns c = search (simple-laws, needs)
+
+-- src/simple.rt:53:1
+returns-2 : tie.Need-returns-2
+returns-2 c = search (simple-laws, needs)
+
+pub export-value-spec : {M : Type 1} → statement M
+export-value-spec =
+    tie.close
+    (tie.spec enum-known-r stop-requires enum-known-r-2 exported-requires returns returns-2)

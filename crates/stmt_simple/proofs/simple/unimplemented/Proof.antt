@@ -1,0 +1,61 @@
+use borrow.Author.Needs.{needs}
+use Rattle.stmt_simple.proofs.simple.unimplemented.Statement.{statement}
+use Rattle.stmt_simple.proofs.simple.unimplemented.Tie as tie
+use Rattle.stmt_simple.proofs.simple.unimplemented.Reads as reads
+use Rattle.stmt_simple.proofs.simple.unimplemented.Lts as lts
+use Rattle.expr_terms.proofs.answers.after.Reads as after-reads
+use Rattle.list_pushes.proofs.push.push_op.Reads as push-op-reads
+use Rattle.list_values.proofs.value.absent.Reads as absent-reads
+use Rattle.list_values.proofs.value.no_output.Reads as no-output-reads
+use Rattle.stmt_walk.proofs.walk.pushed_then.Reads as pushed-then-reads
+use Rattle.stmt_simple.proofs.SimpleLaws.{simple-laws}
+
+-- src/simple.rt:34:50
+no-output-requires : tie.Need-no-output-requires
+no-output-requires c κs = search needs
+
+-- src/simple.rt:34:63
+absent-requires : tie.Need-absent-requires
+absent-requires c κs = search needs
+
+-- src/simple.rt:34:73
+absent-requires-2 : tie.Need-absent-requires-2
+absent-requires-2 c κs = search needs
+
+-- src/simple.rt:34:17
+push-op-requires : tie.Need-push-op-requires
+push-op-requires c κs = search needs
+
+-- src/simple.rt:34:90
+after-requires : tie.Need-after-requires
+after-requires c κs = search needs
+
+-- src/simple.rt:34:5
+pushed-then-requires : tie.Need-pushed-then-requires
+pushed-then-requires c κs = search needs
+
+-- src/simple.rt:31:1
+same-length : tie.Need-same-length
+same-length c = search needs
+
+-- src/simple.rt:31:1
+same-length-2 : tie.Need-same-length-2
+same-length-2 c = search needs
+
+-- src/simple.rt:31:1
+returns : tie.Need-returns
+returns c = search (simple-laws, needs)
+
+pub unimplemented-spec : {M : Type 1} → statement M
+unimplemented-spec =
+    tie.close
+    (tie.spec
+    no-output-requires
+    absent-requires
+    absent-requires-2
+    push-op-requires
+    after-requires
+    pushed-then-requires
+    same-length
+    same-length-2
+    returns)

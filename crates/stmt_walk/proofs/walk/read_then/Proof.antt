@@ -1,0 +1,37 @@
+use borrow.Author.Needs.{needs}
+use Rattle.stmt_walk.proofs.walk.read_then.Statement.{statement}
+use Rattle.stmt_walk.proofs.walk.read_then.Tie as tie
+use Rattle.stmt_walk.proofs.walk.read_then.Reads as reads
+use Rattle.stmt_walk.proofs.walk.read_then.Lts as lts
+use Rattle.stmt_walk.proofs.walk.stop.Reads as stop-reads
+use Rattle.stmt_walk.proofs.walk.with_state.Reads as with-state-reads
+use Rattle.stmt_walk.proofs.WalkLaws.{walk-laws}
+
+-- src/walk.rt:50:18
+enum-known-r : tie.Need-enum-known-r
+enum-known-r c = search needs
+
+-- src/walk.rt:50:24
+stop-requires : tie.Need-stop-requires
+stop-requires c κs = search needs
+
+-- src/walk.rt:51:29
+enum-known-r-2 : tie.Need-enum-known-r-2
+enum-known-r-2 c = search needs
+
+-- src/walk.rt:53:16
+with-state-requires : tie.Need-with-state-requires
+with-state-requires c κs = search needs
+
+-- src/walk.rt:46:1
+returns : tie.Need-returns
+returns c = search (walk-laws, needs)
+
+-- src/walk.rt:46:1
+returns-2 : tie.Need-returns-2
+returns-2 c = search (walk-laws, needs)
+
+pub read-then-spec : {M : Type 1} → statement M
+read-then-spec =
+    tie.close
+    (tie.spec enum-known-r stop-requires enum-known-r-2 with-state-requires returns returns-2)
