@@ -4,23 +4,23 @@ ghost use Prim.Native.Nat.{_+_, _≤_, _<_};
 ghost use lib.ListN.{length};
 ghost use Rattle.access.specs.Le.{le16, le32, le64};
 
-pub fn two(s: &[u8], i: usize) -> u64
-    requires { ⌜ i + 2 ≤ length (now s) ⌝ }
-    ensures { λ r. ⌜ (r ≡ le16 (now (s .entry)) i) × (r < 65536) ⌝ }
+pub fn two(bytes: &[u8], index: usize) -> u64
+    requires { ⌜ index + 2 ≤ length (now bytes) ⌝ }
+    ensures { λ r. ⌜ (r ≡ le16 (now (bytes .entry)) index) × (r < 65536) ⌝ }
 {
-    s[i] as u64 + 256 * (s[i + 1] as u64)
+    bytes[index] as u64 + 256 * (bytes[index + 1] as u64)
 }
 
-pub fn four(s: &[u8], i: usize) -> u64
-    requires { ⌜ i + 4 ≤ length (now s) ⌝ }
-    ensures { λ r. ⌜ (r ≡ le32 (now (s .entry)) i) × (r < 4294967296) ⌝ }
+pub fn four(bytes: &[u8], index: usize) -> u64
+    requires { ⌜ index + 4 ≤ length (now bytes) ⌝ }
+    ensures { λ r. ⌜ (r ≡ le32 (now (bytes .entry)) index) × (r < 4294967296) ⌝ }
 {
-    two(s, i) + 65536 * two(s, i + 2)
+    two(bytes, index) + 65536 * two(bytes, index + 2)
 }
 
-pub fn eight(s: &[u8], i: usize) -> u64
-    requires { ⌜ i + 8 ≤ length (now s) ⌝ }
-    ensures { λ r. ⌜ r ≡ le64 (now (s .entry)) i ⌝ }
+pub fn eight(bytes: &[u8], index: usize) -> u64
+    requires { ⌜ index + 8 ≤ length (now bytes) ⌝ }
+    ensures { λ r. ⌜ r ≡ le64 (now (bytes .entry)) index ⌝ }
 {
-    four(s, i) + 4294967296 * four(s, i + 4)
+    four(bytes, index) + 4294967296 * four(bytes, index + 4)
 }

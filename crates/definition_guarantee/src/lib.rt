@@ -1,1 +1,1 @@
-// The guarantee: theorems in specs/ about the definition. There is no code.
+// The guarantee: theorems in proofs/ about the definition. There is no code.

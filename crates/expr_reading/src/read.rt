@@ -37,19 +37,19 @@ pub fn needed_bytes(bits: u64) -> u64
     bits / 8 + (bits % 8 + 7) / 8
 }
 
-pub fn constant(n: u64) -> Value
-    ensures { λ r. ⌜ r ≡ constant n ⌝ }
+pub fn constant(count: u64) -> Value
+    ensures { λ r. ⌜ r ≡ constant count ⌝ }
 {
-    local(value_kind::CONSTANT, n)
+    local(value_kind::CONSTANT, count)
 }
 
-fn with_sizing(st: State, z: Sizing) -> State
-    ensures { λ r. ⌜ r ≡ withSizing z st ⌝ }
+fn with_sizing(state: State, sizing: Sizing) -> State
+    ensures { λ r. ⌜ r ≡ withSizing sizing state ⌝ }
 {
     State {
-        end: st.end,
-        temporaries: st.temporaries,
-        sizing: z,
+        end: state.end,
+        temporaries: state.temporaries,
+        sizing: sizing,
     }
 }
 
@@ -59,81 +59,103 @@ pub struct Stated {
 }
 
 fn set_size(
-    s: &[u8],
-    t: &[u16; table::LENGTH],
-    m: &mut [u64],
-    v: Value,
+    stream: &[u8],
+    table: &[u16; table::LENGTH],
+    temporaries: &mut [u64],
+    value: Value,
     size: u64,
-    st: State,
+    state: State,
 ) -> Stated
-    ensures { λ r. ⌜ listed r (now (m .exit)) ≡ setSize (now (s .entry)) (now (t .entry)) (now (m .entry)) v size st ⌝ }
+    ensures { λ r. ⌜ listed r (now (temporaries .exit)) ≡ setSize (now (stream .entry)) (now (table .entry)) (now (temporaries .entry)) value size state ⌝ }
 {
-    let known = size_of(s, t, m, v);
-    let k = settle(m, v, known, size);
-    let z = record_errors(st.sizing, k);
+    let known = size_of(stream, table, temporaries, value);
+    let k = settle(temporaries, value, known, size);
+    let z = record_errors(state.sizing, k);
     Stated {
-        v: with_size(v, size),
-        st: with_sizing(st, z),
+        v: with_size(value, size),
+        st: with_sizing(state, z),
     }
 }
 
 // A register access's stated size is set; 0 sets none.
 pub fn set_stated(
-    s: &[u8],
-    t: &[u16; table::LENGTH],
-    m: &mut [u64],
-    v: Value,
+    stream: &[u8],
+    table: &[u16; table::LENGTH],
+    temporaries: &mut [u64],
+    value: Value,
     size: u64,
-    st: State,
+    state: State,
 ) -> Stated
-    ensures { λ r. ⌜ listed r (now (m .exit)) ≡ setStated (now (s .entry)) (now (t .entry)) (now (m .entry)) v size st ⌝ }
+    ensures { λ r. ⌜ listed r (now (temporaries .exit)) ≡ setStated (now (stream .entry)) (now (table .entry)) (now (temporaries .entry)) value size state ⌝ }
 {
     if size == 0 {
-        return Stated { v, st };
+        return Stated {
+            v: value,
+            st: state,
+        };
     }
-    set_size(s, t, m, v, size, st)
+    set_size(stream, table, temporaries, value, size, state)
 }
 
 // A RAM access's stated size is taken silently; 0 sets none.
 pub fn take_stated(
-    s: &[u8],
-    t: &[u16; table::LENGTH],
-    m: &mut [u64],
-    v: Value,
+    stream: &[u8],
+    table: &[u16; table::LENGTH],
+    temporaries: &mut [u64],
+    value: Value,
     size: u64,
-    st: State,
+    state: State,
 ) -> Stated
-    ensures { λ r. ⌜ listed r (now (m .exit)) ≡ takeStated (now (s .entry)) (now (t .entry)) (now (m .entry)) v size st ⌝ }
+    ensures { λ r. ⌜ listed r (now (temporaries .exit)) ≡ takeStated (now (stream .entry)) (now (table .entry)) (now (temporaries .entry)) value size state ⌝ }
 {
     if size == 0 {
-        return Stated { v, st };
-    }
-    if size_of(s, t, m, v) != NONE {
         return Stated {
-            v: with_size(v, size),
-            st,
+            v: value,
+            st: state,
         };
     }
-    set_size(s, t, m, v, size, st)
+    if size_of(stream, table, temporaries, value) != NONE {
+        return Stated {
+            v: with_size(value, size),
+            st: state,
+        };
+    }
+    set_size(stream, table, temporaries, value, size, state)
 }
 
 fn copy_to(
-    s: &[u8],
-    t: &[u16; table::LENGTH],
-    a: &mut [u64],
-    m: &mut [u64],
-    e: Env,
+    stream: &[u8],
+    table: &[u16; table::LENGTH],
+    actions: &mut [u64],
+    temporaries: &mut [u64],
+    env: Env,
     given: bool,
     to: Value,
-    v: Value,
-    st: State,
+    value: Value,
+    state: State,
 ) -> Read
-    ensures { λ r. ⌜ read r (now (a .exit)) (now (m .exit)) ≡ copyTo (now (s .entry)) (now (t .entry)) (now (a .entry)) (now (m .entry)) e given to v st ⌝ }
+    ensures { λ r. ⌜ read r (now (actions .exit)) (now (temporaries .exit)) ≡ copyTo (now (stream .entry)) (now (table .entry)) (now (actions .entry)) (now (temporaries .entry)) env given to value state ⌝ }
 {
     if given {
-        return op_to(s, t, a, m, e, operation::COPY, 0, 1, to, v, absent(), st);
+        return op_to(
+            stream,
+            table,
+            actions,
+            temporaries,
+            env,
+            operation::COPY,
+            0,
+            1,
+            to,
+            value,
+            absent(),
+            state,
+        );
     }
-    Read::Value { v, st }
+    Read::Value {
+        v: value,
+        st: state,
+    }
 }
 
 pub fn byte_aligned(from: u64, bits: u64) -> bool
@@ -143,19 +165,19 @@ pub fn byte_aligned(from: u64, bits: u64) -> bool
 }
 
 // The slice, unless its offset passes 65,535.
-pub fn sliced(v: Value, more: u64, size: u64, st: State) -> Read
-    ensures { λ r. ⌜ r ≡ sliced v more size st ⌝ }
+pub fn sliced(value: Value, more: u64, size: u64, state: State) -> Read
+    ensures { λ r. ⌜ r ≡ sliced value more size state ⌝ }
 {
-    if v.offset <= LAST_OFFSET {
-        if more <= LAST_OFFSET - v.offset {
+    if value.offset <= LAST_OFFSET {
+        if more <= LAST_OFFSET - value.offset {
             return Read::Value {
                 v: Value {
-                    kind: v.kind,
-                    number: v.number,
-                    offset: v.offset + more,
+                    kind: value.kind,
+                    number: value.number,
+                    offset: value.offset + more,
                     size,
                 },
-                st,
+                st: state,
             };
         }
     }
@@ -163,40 +185,40 @@ pub fn sliced(v: Value, more: u64, size: u64, st: State) -> Read
 }
 
 fn shift_to(
-    s: &[u8],
-    t: &[u16; table::LENGTH],
-    a: &mut [u64],
-    m: &mut [u64],
-    e: Env,
-    v: Value,
+    stream: &[u8],
+    table: &[u16; table::LENGTH],
+    actions: &mut [u64],
+    temporaries: &mut [u64],
+    env: Env,
+    value: Value,
     tmp: Value,
     from: u64,
     bits: u64,
-    st: State,
+    state: State,
 ) -> Read
-    ensures { λ r. ⌜ read r (now (a .exit)) (now (m .exit)) ≡ shiftTo (now (s .entry)) (now (t .entry)) (now (a .entry)) (now (m .entry)) e v tmp from bits st ⌝ }
+    ensures { λ r. ⌜ read r (now (actions .exit)) (now (temporaries .exit)) ≡ shiftTo (now (stream .entry)) (now (table .entry)) (now (actions .entry)) (now (temporaries .entry)) env value tmp from bits state ⌝ }
 {
     match op_to(
-        s,
-        t,
-        a,
-        m,
-        e,
+        stream,
+        table,
+        actions,
+        temporaries,
+        env,
         operation::INT_RIGHT,
         0,
         2,
         tmp,
-        v,
+        value,
         constant(from),
-        st,
+        state,
     ) {
         Read::No(n) => Read::No(n),
         Read::Value { v: _, st: next } => op_to(
-            s,
-            t,
-            a,
-            m,
-            e,
+            stream,
+            table,
+            actions,
+            temporaries,
+            env,
             operation::INT_AND,
             0,
             2,
@@ -209,28 +231,28 @@ fn shift_to(
 }
 
 fn shift_and_mask(
-    s: &[u8],
-    t: &[u16; table::LENGTH],
-    a: &mut [u64],
-    m: &mut [u64],
-    e: Env,
-    v: Value,
+    stream: &[u8],
+    table: &[u16; table::LENGTH],
+    actions: &mut [u64],
+    temporaries: &mut [u64],
+    env: Env,
+    value: Value,
     from: u64,
     bits: u64,
-    st: State,
+    state: State,
 ) -> Read
-    ensures { λ r. ⌜ read r (now (a .exit)) (now (m .exit)) ≡ shiftAndMask (now (s .entry)) (now (t .entry)) (now (a .entry)) (now (m .entry)) e v from bits st ⌝ }
+    ensures { λ r. ⌜ read r (now (actions .exit)) (now (temporaries .exit)) ≡ shiftAndMask (now (stream .entry)) (now (table .entry)) (now (actions .entry)) (now (temporaries .entry)) env value from bits state ⌝ }
 {
-    let size = size_of(s, t, m, v);
-    match add_tmp(m, NONE, size, 0, st) {
+    let size = size_of(stream, table, temporaries, value);
+    match add_tmp(temporaries, NONE, size, 0, state) {
         Read::No(n) => Read::No(n),
         Read::Value { v: tmp, st: next } => match shift_to(
-            s,
-            t,
-            a,
-            m,
-            e,
-            v,
+            stream,
+            table,
+            actions,
+            temporaries,
+            env,
+            value,
             tmp,
             from,
             bits,
@@ -246,73 +268,103 @@ fn shift_and_mask(
 }
 
 fn part_of(
-    s: &[u8],
-    t: &[u16; table::LENGTH],
-    a: &mut [u64],
-    m: &mut [u64],
-    e: Env,
-    v: Value,
+    stream: &[u8],
+    table: &[u16; table::LENGTH],
+    actions: &mut [u64],
+    temporaries: &mut [u64],
+    env: Env,
+    value: Value,
     from: u64,
     bits: u64,
-    st: State,
+    state: State,
 ) -> Read
-    ensures { λ r. ⌜ read r (now (a .exit)) (now (m .exit)) ≡ partOf (now (s .entry)) (now (t .entry)) (now (a .entry)) (now (m .entry)) e v from bits st ⌝ }
+    ensures { λ r. ⌜ read r (now (actions .exit)) (now (temporaries .exit)) ≡ partOf (now (stream .entry)) (now (table .entry)) (now (actions .entry)) (now (temporaries .entry)) env value from bits state ⌝ }
 {
     if byte_aligned(from, bits) {
-        return sliced(v, from / 8, bits / 8, st);
+        return sliced(value, from / 8, bits / 8, state);
     }
-    shift_and_mask(s, t, a, m, e, v, from, bits, st)
+    shift_and_mask(
+        stream,
+        table,
+        actions,
+        temporaries,
+        env,
+        value,
+        from,
+        bits,
+        state,
+    )
 }
 
 pub fn read_slice(
-    s: &[u8],
-    t: &[u16; table::LENGTH],
-    a: &mut [u64],
-    m: &mut [u64],
-    e: Env,
-    v: Value,
+    stream: &[u8],
+    table: &[u16; table::LENGTH],
+    actions: &mut [u64],
+    temporaries: &mut [u64],
+    env: Env,
+    value: Value,
     from: u64,
     bits: u64,
     given: bool,
     to: Value,
-    st: State,
+    state: State,
 ) -> Read
-    ensures { λ r. ⌜ read r (now (a .exit)) (now (m .exit)) ≡ readSlice (now (s .entry)) (now (t .entry)) (now (a .entry)) (now (m .entry)) e v from bits given to st ⌝ }
+    ensures { λ r. ⌜ read r (now (actions .exit)) (now (temporaries .exit)) ≡ readSlice (now (stream .entry)) (now (table .entry)) (now (actions .entry)) (now (temporaries .entry)) env value from bits given to state ⌝ }
 {
-    match part_of(s, t, a, m, e, v, from, bits, st) {
+    match part_of(
+        stream,
+        table,
+        actions,
+        temporaries,
+        env,
+        value,
+        from,
+        bits,
+        state,
+    ) {
         Read::No(n) => Read::No(n),
-        Read::Value { v: part, st: next } => copy_to(s, t, a, m, e, given, to, part, next),
+        Read::Value { v: part, st: next } => copy_to(
+            stream,
+            table,
+            actions,
+            temporaries,
+            env,
+            given,
+            to,
+            part,
+            next,
+        ),
     }
 }
 
-fn pushed_to(r: Pushed, v: Value) -> Read
-    ensures { λ x. ⌜ x ≡ pushedTo r v ⌝ }
+fn pushed_to(answer: Pushed, value: Value) -> Read
+    ensures { λ x. ⌜ x ≡ pushedTo answer value ⌝ }
 {
-    match r {
+    match answer {
         Pushed::No(n) => Read::No(n),
-        Pushed::Done(st) => Read::Value { v, st },
+        Pushed::Done(st) => Read::Value { v: value, st },
     }
 }
 
 fn read_address(
-    a: &mut [u64],
-    m: &mut [u64],
+    actions: &mut [u64],
+    temporaries: &mut [u64],
     base: Value,
     size: u64,
     given: bool,
     to: Value,
-    st: State,
+    state: State,
 ) -> Read
-    ensures { λ r. ⌜ read r (now (a .exit)) (now (m .exit)) ≡ readAddress (now (a .entry)) (now (m .entry)) base size given to st ⌝ }
+    ensures { λ r. ⌜ read r (now (actions .exit)) (now (temporaries .exit)) ≡ readAddress (now (actions .entry)) (now (temporaries .entry)) base size given to state ⌝ }
 {
     if base.offset != 0 {
         return Read::No(refusal::ADDRESS_OF_OFFSET);
     }
-    match output_or(m, given, to, size, st) {
+    match output_or(temporaries, given, to, size, state) {
         Read::No(n) => Read::No(n),
         Read::Value { v, st: next } => pushed_to(
             push(
-                a,
+                actions,
                 action_kind::ADDRESS_OF,
                 0,
                 0,
@@ -328,29 +380,29 @@ fn read_address(
 }
 
 fn load(
-    s: &[u8],
-    t: &[u16; table::LENGTH],
-    a: &mut [u64],
-    m: &mut [u64],
-    e: Env,
+    stream: &[u8],
+    table: &[u16; table::LENGTH],
+    actions: &mut [u64],
+    temporaries: &mut [u64],
+    env: Env,
     pointer: Value,
     size: u64,
     given: bool,
     to: Value,
-    st: State,
+    state: State,
 ) -> Read
-    ensures { λ r. ⌜ read r (now (a .exit)) (now (m .exit)) ≡ load (now (s .entry)) (now (t .entry)) (now (a .entry)) (now (m .entry)) e pointer size given to st ⌝ }
+    ensures { λ r. ⌜ read r (now (actions .exit)) (now (temporaries .exit)) ≡ load (now (stream .entry)) (now (table .entry)) (now (actions .entry)) (now (temporaries .entry)) env pointer size given to state ⌝ }
 {
-    match output_or(m, given, to, NONE, st) {
+    match output_or(temporaries, given, to, NONE, state) {
         Read::No(n) => Read::No(n),
         Read::Value { v, st: next } => {
-            let out = take_stated(s, t, m, v, size, next);
+            let out = take_stated(stream, table, temporaries, v, size, next);
             op_to(
-                s,
-                t,
-                a,
-                m,
-                e,
+                stream,
+                table,
+                actions,
+                temporaries,
+                env,
                 operation::LOAD,
                 0,
                 1,
@@ -364,25 +416,25 @@ fn load(
 }
 
 fn load_register(
-    s: &[u8],
-    t: &[u16; table::LENGTH],
-    a: &mut [u64],
-    m: &mut [u64],
+    stream: &[u8],
+    table: &[u16; table::LENGTH],
+    actions: &mut [u64],
+    temporaries: &mut [u64],
     pointer: Value,
     size: u64,
     given: bool,
     to: Value,
-    st: State,
+    state: State,
 ) -> Read
-    ensures { λ r. ⌜ read r (now (a .exit)) (now (m .exit)) ≡ loadRegister (now (s .entry)) (now (t .entry)) (now (a .entry)) (now (m .entry)) pointer size given to st ⌝ }
+    ensures { λ r. ⌜ read r (now (actions .exit)) (now (temporaries .exit)) ≡ loadRegister (now (stream .entry)) (now (table .entry)) (now (actions .entry)) (now (temporaries .entry)) pointer size given to state ⌝ }
 {
-    match output_or(m, given, to, size, st) {
+    match output_or(temporaries, given, to, size, state) {
         Read::No(n) => Read::No(n),
         Read::Value { v, st: next } => {
-            let out = set_stated(s, t, m, v, size, next);
+            let out = set_stated(stream, table, temporaries, v, size, next);
             pushed_to(
                 push(
-                    a,
+                    actions,
                     action_kind::LOAD_REGISTER,
                     0,
                     size,
@@ -399,40 +451,125 @@ fn load_register(
 }
 
 pub fn read_value(
-    s: &[u8],
-    t: &[u16; table::LENGTH],
-    a: &mut [u64],
-    m: &mut [u64],
-    e: Env,
-    x: ExprValue,
+    stream: &[u8],
+    table: &[u16; table::LENGTH],
+    actions: &mut [u64],
+    temporaries: &mut [u64],
+    env: Env,
+    expr: ExprValue,
     given: bool,
     to: Value,
-    st: State,
+    state: State,
 ) -> Read
-    ensures { λ r. ⌜ read r (now (a .exit)) (now (m .exit)) ≡ readValue (now (s .entry)) (now (t .entry)) (now (a .entry)) (now (m .entry)) e x given to st ⌝ }
+    ensures { λ r. ⌜ read r (now (actions .exit)) (now (temporaries .exit)) ≡ readValue (now (stream .entry)) (now (table .entry)) (now (actions .entry)) (now (temporaries .entry)) env expr given to state ⌝ }
 {
-    match x {
-        ExprValue::Local(v) => copy_to(s, t, a, m, e, given, to, v, st),
-        ExprValue::Unbound(v) => copy_to(s, t, a, m, e, given, to, v, st),
+    match expr {
+        ExprValue::Local(v) => copy_to(
+            stream,
+            table,
+            actions,
+            temporaries,
+            env,
+            given,
+            to,
+            v,
+            state,
+        ),
+        ExprValue::Unbound(v) => copy_to(
+            stream,
+            table,
+            actions,
+            temporaries,
+            env,
+            given,
+            to,
+            v,
+            state,
+        ),
         ExprValue::Const { value, size } => {
             let v = with_size(constant(value), size);
-            copy_to(s, t, a, m, e, given, to, v, st)
+            copy_to(
+                stream,
+                table,
+                actions,
+                temporaries,
+                env,
+                given,
+                to,
+                v,
+                state,
+            )
         }
         ExprValue::Apply {
             op: code,
             number,
             count,
-            a: x,
+            a: expr,
             b: y,
-        } => op(s, t, a, m, e, code, number, count, given, to, x, y, st),
-        ExprValue::RamRef { pointer, size } => load(s, t, a, m, e, pointer, size, given, to, st),
+        } => op(
+            stream,
+            table,
+            actions,
+            temporaries,
+            env,
+            code,
+            number,
+            count,
+            given,
+            to,
+            expr,
+            y,
+            state,
+        ),
+        ExprValue::RamRef { pointer, size } => load(
+            stream,
+            table,
+            actions,
+            temporaries,
+            env,
+            pointer,
+            size,
+            given,
+            to,
+            state,
+        ),
         ExprValue::RegisterRef { pointer, size } => {
-            load_register(s, t, a, m, pointer, size, given, to, st)
+            load_register(
+                stream,
+                table,
+                actions,
+                temporaries,
+                pointer,
+                size,
+                given,
+                to,
+                state,
+            )
         }
-        ExprValue::AddressOf { base, size } => read_address(a, m, base, size, given, to, st),
+        ExprValue::AddressOf { base, size } => read_address(
+            actions,
+            temporaries,
+            base,
+            size,
+            given,
+            to,
+            state,
+        ),
         ExprValue::BitRange { v, from, bits } => {
             // By a name of its own, so that the answers of the other arms need not go through memory.
-            let r = read_slice(s, t, a, m, e, v, from, bits, given, to, st);
+            let r = read_slice(
+                stream,
+                table,
+                actions,
+                temporaries,
+                env,
+                v,
+                from,
+                bits,
+                given,
+                to,
+                state,
+            );
             r
         }
     }
@@ -440,15 +577,25 @@ pub fn read_value(
 
 // Read as an operand, with no output given.
 pub fn read_operand(
-    s: &[u8],
-    t: &[u16; table::LENGTH],
-    a: &mut [u64],
-    m: &mut [u64],
-    e: Env,
-    x: ExprValue,
-    st: State,
+    stream: &[u8],
+    table: &[u16; table::LENGTH],
+    actions: &mut [u64],
+    temporaries: &mut [u64],
+    env: Env,
+    expr: ExprValue,
+    state: State,
 ) -> Read
-    ensures { λ r. ⌜ read r (now (a .exit)) (now (m .exit)) ≡ readOperand (now (s .entry)) (now (t .entry)) (now (a .entry)) (now (m .entry)) e x st ⌝ }
+    ensures { λ r. ⌜ read r (now (actions .exit)) (now (temporaries .exit)) ≡ readOperand (now (stream .entry)) (now (table .entry)) (now (actions .entry)) (now (temporaries .entry)) env expr state ⌝ }
 {
-    read_value(s, t, a, m, e, x, false, absent(), st)
+    read_value(
+        stream,
+        table,
+        actions,
+        temporaries,
+        env,
+        expr,
+        false,
+        absent(),
+        state,
+    )
 }

@@ -1,1 +1,1 @@
-// The words of expressions are the definition's: theorems in specs/. There is no code.
+// The words of expressions are the definition's: theorems in proofs/. There is no code.

@@ -50,102 +50,114 @@ pub struct Order {
     pub second: usize,
 }
 
-fn value_then(r: Read, next: usize) -> Operand
-    ensures { λ x. ⌜ x ≡ valueThen next r ⌝ }
+fn value_then(answer: Read, next: usize) -> Operand
+    ensures { λ x. ⌜ x ≡ valueThen next answer ⌝ }
 {
-    match r {
+    match answer {
         Read::No(n) => Operand::No(n),
         Read::Value { v, st } => Operand::Value { v, next, st },
     }
 }
 
-fn means_at(r: Meaning, next: usize, st: State) -> Expr
-    ensures { λ x. ⌜ x ≡ meansAt r next st ⌝ }
+fn means_at(answer: Meaning, next: usize, state: State) -> Expr
+    ensures { λ x. ⌜ x ≡ meansAt answer next state ⌝ }
 {
-    match r {
+    match answer {
         Meaning::Wrong(n) => Expr::No(n),
-        Meaning::Means(x) => Expr::Value { x, next, st },
+        Meaning::Means(x) => Expr::Value { x, next, st: state },
     }
 }
 
-fn local_address(x: ExprValue, size: u64, next: usize, st: State) -> Expr
-    ensures { λ r. ⌜ r ≡ localAddress x size next st ⌝ }
+fn local_address(expr: ExprValue, size: u64, next: usize, state: State) -> Expr
+    ensures { λ r. ⌜ r ≡ localAddress expr size next state ⌝ }
 {
-    match x {
+    match expr {
         ExprValue::Local(v) => Expr::Value {
             x: ExprValue::AddressOf { base: v, size },
             next,
-            st,
+            st: state,
         },
         _ => Expr::No(refusal::ADDRESS_OF_NON_LOCAL),
     }
 }
 
 fn address_of(
-    s: &[u8],
-    t: &[u16; table::LENGTH],
-    p: &[u64],
-    m: &[u64],
+    stream: &[u8],
+    table: &[u16; table::LENGTH],
+    params: &[u64],
+    temporaries: &[u64],
     pos: usize,
-    e: Env,
-    st: State,
+    env: Env,
+    state: State,
 ) -> Expr
-    ensures { λ r. ⌜ r ≡ addressOf (now (s .entry)) (now (t .entry)) (now (p .entry)) (now (m .entry)) pos e st ⌝ }
+    ensures { λ r. ⌜ r ≡ addressOf (now (stream .entry)) (now (table .entry)) (now (params .entry)) (now (temporaries .entry)) pos env state ⌝ }
 {
-    match resolve_ident(s, t, p, m, e, st, u16_in(s, pos, 3)) {
+    match resolve_ident(
+        stream,
+        table,
+        params,
+        temporaries,
+        env,
+        state,
+        u16_in(stream, pos, 3),
+    ) {
         Meaning::Wrong(n) => Expr::No(n),
-        Meaning::Means(x) => local_address(x, u16_in(s, pos, 1), after(pos, 5), st),
+        Meaning::Means(x) => local_address(x, u16_in(stream, pos, 1), after(pos, 5), state),
     }
 }
 
 // The name at a position. A plain local needs no `Meaning`.
 fn name_at(
-    s: &[u8],
-    t: &[u16; table::LENGTH],
-    p: &[u64],
-    m: &[u64],
+    stream: &[u8],
+    table: &[u16; table::LENGTH],
+    params: &[u64],
+    temporaries: &[u64],
     pos: usize,
-    e: Env,
-    st: State,
+    env: Env,
+    state: State,
 ) -> Expr
-    ensures { λ r. ⌜ r ≡ atom 0 (now (s .entry)) (now (t .entry)) (now (p .entry)) (now (m .entry)) pos e st ⌝ }
+    ensures { λ r. ⌜ r ≡ atom 0 (now (stream .entry)) (now (table .entry)) (now (params .entry)) (now (temporaries .entry)) pos env state ⌝ }
 {
-    let name = u16_in(s, pos, 1);
-    let q = plain_local(s, t, p, m, e, st, name);
+    let name = u16_in(stream, pos, 1);
+    let q = plain_local(stream, table, params, temporaries, env, state, name);
     if 8 <= q {
         return Expr::Value {
             x: ExprValue::Local(local(q % 8, q / 8 - 1)),
             next: after(pos, 3),
-            st,
+            st: state,
         };
     }
-    means_at(resolve_ident(s, t, p, m, e, st, name), after(pos, 3), st)
+    means_at(
+        resolve_ident(stream, table, params, temporaries, env, state, name),
+        after(pos, 3),
+        state,
+    )
 }
 
 // A name, an integer or the address of a local.
 fn atom(
     code: u64,
-    s: &[u8],
-    t: &[u16; table::LENGTH],
-    p: &[u64],
-    m: &[u64],
+    stream: &[u8],
+    table: &[u16; table::LENGTH],
+    params: &[u64],
+    temporaries: &[u64],
     pos: usize,
-    e: Env,
-    st: State,
+    env: Env,
+    state: State,
 ) -> Expr
-    ensures { λ r. ⌜ r ≡ atom code (now (s .entry)) (now (t .entry)) (now (p .entry)) (now (m .entry)) pos e st ⌝ }
+    ensures { λ r. ⌜ r ≡ atom code (now (stream .entry)) (now (table .entry)) (now (params .entry)) (now (temporaries .entry)) pos env state ⌝ }
 {
     match code {
-        expression::IDENT => name_at(s, t, p, m, pos, e, st),
+        expression::IDENT => name_at(stream, table, params, temporaries, pos, env, state),
         expression::INTEGER => Expr::Value {
             x: ExprValue::Const {
-                value: access::u64_at(s, after(pos, 1)),
+                value: access::u64_at(stream, after(pos, 1)),
                 size: NONE,
             },
             next: after(pos, 9),
-            st,
+            st: state,
         },
-        _ => address_of(s, t, p, m, pos, e, st),
+        _ => address_of(stream, table, params, temporaries, pos, env, state),
     }
 }
 
@@ -164,20 +176,20 @@ fn operation_of(code: u64) -> u64
     }
 }
 
-fn later(x: usize, y: usize) -> usize
-    ensures { λ r. ⌜ r ≡ later x y ⌝ }
+fn later(place: usize, other: usize) -> usize
+    ensures { λ r. ⌜ r ≡ later place other ⌝ }
 {
-    if x < y { y } else { x }
+    if place < other { other } else { place }
 }
 
 // Where the expression at a position ends.
-pub fn skip_expr(s: &[u8], pos: usize) -> usize
-    ensures { λ r. ⌜ r ≡ skipExpr (now (s .entry)) pos ⌝ }
+pub fn skip_expr(stream: &[u8], pos: usize) -> usize
+    ensures { λ r. ⌜ r ≡ skipExpr (now (stream .entry)) pos ⌝ }
 {
     let c = file_syntax::expressions::expr(
         DEPTH,
-        s,
-        access::u16_at(s, header::NAMES),
+        stream,
+        access::u16_at(stream, header::NAMES),
         Cursor {
             at: pos,
             bad: 0,
@@ -188,12 +200,12 @@ pub fn skip_expr(s: &[u8], pos: usize) -> usize
 }
 
 // The six greater operators swap their operands before either is resolved.
-fn operands_of(s: &[u8], pos: usize) -> Order
-    ensures { λ r. ⌜ r ≡ operandsOf (now (s .entry)) pos ⌝ }
+fn operands_of(stream: &[u8], pos: usize) -> Order
+    ensures { λ r. ⌜ r ≡ operandsOf (now (stream .entry)) pos ⌝ }
 {
     let first = after(pos, 1);
-    let middle = skip_expr(s, first);
-    let code = access::byte(s, middle, 0);
+    let middle = skip_expr(stream, first);
+    let code = access::byte(stream, middle, 0);
     let second = after(middle, 1);
     if code < expression::INT_GREATER {
         return Order {
@@ -209,22 +221,22 @@ fn operands_of(s: &[u8], pos: usize) -> Order
     }
 }
 
-fn apply1(op: u64, r: Operand) -> Expr
-    ensures { λ x. ⌜ x ≡ apply1 op r ⌝ }
+fn apply1(op: u64, answer: Operand) -> Expr
+    ensures { λ x. ⌜ x ≡ apply1 op answer ⌝ }
 {
-    match r {
+    match answer {
         Operand::No(n) => Expr::No(n),
         Operand::Value { v, next, st } => applied(op, 0, 1, v, absent(), next, st),
     }
 }
 
 // A second operand, after a first that ends at a position.
-fn apply2(op: u64, v: Value, end: usize, r: Operand) -> Expr
-    ensures { λ x. ⌜ x ≡ apply2 op v end r ⌝ }
+fn apply2(op: u64, value: Value, end: usize, answer: Operand) -> Expr
+    ensures { λ x. ⌜ x ≡ apply2 op value end answer ⌝ }
 {
-    match r {
+    match answer {
         Operand::No(n) => Expr::No(n),
-        Operand::Value { v: w, next, st } => applied(op, 0, 2, v, w, later(end, next), st),
+        Operand::Value { v: w, next, st } => applied(op, 0, 2, value, w, later(end, next), st),
     }
 }
 
@@ -238,32 +250,65 @@ fn part_at(code: u64) -> usize
 // A truncation, a slice or a dereference of a part that is resolved.
 fn with_part(
     code: u64,
-    s: &[u8],
-    t: &[u16; table::LENGTH],
-    a: &mut [u64],
-    m: &mut [u64],
+    stream: &[u8],
+    table: &[u16; table::LENGTH],
+    actions: &mut [u64],
+    temporaries: &mut [u64],
     pos: usize,
-    e: Env,
-    x: ExprValue,
+    env: Env,
+    expr: ExprValue,
     next: usize,
-    st: State,
+    state: State,
 ) -> Expr
-    ensures { λ r. ⌜ resolved r (now (a .exit)) (now (m .exit)) ≡ withPart code (now (s .entry)) (now (t .entry)) (now (a .entry)) (now (m .entry)) pos e x next st ⌝ }
+    ensures { λ r. ⌜ resolved r (now (actions .exit)) (now (temporaries .exit)) ≡ withPart code (now (stream .entry)) (now (table .entry)) (now (actions .entry)) (now (temporaries .entry)) pos env expr next state ⌝ }
 {
     match code {
         expression::TRUNCATE => {
-            let bits = 8 * u16_in(s, next, 0);
-            slice_bits(s, t, a, m, e, x, 0, bits, after(next, 2), st)
+            let bits = 8 * u16_in(stream, next, 0);
+            slice_bits(
+                stream,
+                table,
+                actions,
+                temporaries,
+                env,
+                expr,
+                0,
+                bits,
+                after(next, 2),
+                state,
+            )
         }
         expression::SLICE_BITS => {
-            let from = u16_in(s, next, 0);
-            let bits = u16_in(s, next, 2);
-            slice_bits(s, t, a, m, e, x, from, bits, after(next, 4), st)
+            let from = u16_in(stream, next, 0);
+            let bits = u16_in(stream, next, 2);
+            slice_bits(
+                stream,
+                table,
+                actions,
+                temporaries,
+                env,
+                expr,
+                from,
+                bits,
+                after(next, 4),
+                state,
+            )
         }
         _ => {
-            let space = u16_in(s, pos, 1);
-            let size = u16_in(s, pos, 3);
-            resolve_address(s, t, a, m, e, space, size, x, next, st)
+            let space = u16_in(stream, pos, 1);
+            let size = u16_in(stream, pos, 3);
+            resolve_address(
+                stream,
+                table,
+                actions,
+                temporaries,
+                env,
+                space,
+                size,
+                expr,
+                next,
+                state,
+            )
         }
     }
 }
@@ -271,66 +316,87 @@ fn with_part(
 // What stands at a position as one number: that of a plain local, or 7 for an integer; less for what has to be resolved.
 fn plain_at(
     deep: u64,
-    s: &[u8],
-    t: &[u16; table::LENGTH],
-    p: &[u64],
-    m: &[u64],
+    stream: &[u8],
+    table: &[u16; table::LENGTH],
+    params: &[u64],
+    temporaries: &[u64],
     pos: usize,
-    e: Env,
-    st: State,
+    env: Env,
+    state: State,
 ) -> u64
-    ensures { λ r. ⌜ r ≡ plainAt deep (now (s .entry)) (now (t .entry)) (now (p .entry)) (now (m .entry)) pos e st ⌝ }
+    ensures { λ r. ⌜ r ≡ plainAt deep (now (stream .entry)) (now (table .entry)) (now (params .entry)) (now (temporaries .entry)) pos env state ⌝ }
 {
     if deep == 0 {
         return 0;
     }
-    let code = access::byte(s, pos, 0);
+    let code = access::byte(stream, pos, 0);
     match code {
-        expression::IDENT => plain_local(s, t, p, m, e, st, u16_in(s, pos, 1)),
+        expression::IDENT => plain_local(
+            stream,
+            table,
+            params,
+            temporaries,
+            env,
+            state,
+            u16_in(stream, pos, 1),
+        ),
         expression::INTEGER => INTEGER,
         _ => 0,
     }
 }
 
 // The operand of such a number, which is the value itself: reading it pushes nothing.
-fn plain_operand(q: u64, s: &[u8], pos: usize, st: State) -> Operand
-    ensures { λ r. ⌜ r ≡ plainOperand q (now (s .entry)) pos st ⌝ }
+fn plain_operand(plain: u64, stream: &[u8], pos: usize, state: State) -> Operand
+    ensures { λ r. ⌜ r ≡ plainOperand plain (now (stream .entry)) pos state ⌝ }
 {
-    if 8 <= q {
+    if 8 <= plain {
         return Operand::Value {
-            v: local(q % 8, q / 8 - 1),
+            v: local(plain % 8, plain / 8 - 1),
             next: after(pos, 3),
-            st,
+            st: state,
         };
     }
     Operand::Value {
-        v: constant(access::u64_at(s, after(pos, 1))),
+        v: constant(access::u64_at(stream, after(pos, 1))),
         next: after(pos, 9),
-        st,
+        st: state,
     }
 }
 
 // An expression resolved, then read.
 pub fn expr_value(
     deep: u64,
-    s: &[u8],
-    t: &[u16; table::LENGTH],
-    p: &[u64],
+    stream: &[u8],
+    table: &[u16; table::LENGTH],
+    params: &[u64],
     pos: usize,
-    e: Env,
-    a: &mut [u64],
-    m: &mut [u64],
-    st: State,
+    env: Env,
+    actions: &mut [u64],
+    temporaries: &mut [u64],
+    state: State,
 ) -> Operand
-    ensures { λ r. ⌜ operand r (now (a .exit)) (now (m .exit)) ≡ exprValue (resolveExpr deep (now (s .entry)) (now (t .entry)) (now (p .entry)) e) (now (s .entry)) (now (t .entry)) e pos (now (a .entry)) (now (m .entry)) st ⌝ }
+    ensures { λ r. ⌜ operand r (now (actions .exit)) (now (temporaries .exit)) ≡ exprValue (resolveExpr deep (now (stream .entry)) (now (table .entry)) (now (params .entry)) env) (now (stream .entry)) (now (table .entry)) env pos (now (actions .entry)) (now (temporaries .entry)) state ⌝ }
 {
-    let q = plain_at(deep, s, t, p, m, pos, e, st);
+    let q = plain_at(deep, stream, table, params, temporaries, pos, env, state);
     if INTEGER <= q {
-        return plain_operand(q, s, pos, st);
+        return plain_operand(q, stream, pos, state);
     }
-    match resolve_expr(deep, s, t, p, pos, e, a, m, st) {
+    match resolve_expr(
+        deep,
+        stream,
+        table,
+        params,
+        pos,
+        env,
+        actions,
+        temporaries,
+        state,
+    ) {
         Expr::No(n) => Operand::No(n),
-        Expr::Value { x, next, st: st1 } => value_then(read_operand(s, t, a, m, e, x, st1), next),
+        Expr::Value { x, next, st: st1 } => value_then(
+            read_operand(stream, table, actions, temporaries, env, x, st1),
+            next,
+        ),
     }
 }
 
@@ -338,44 +404,85 @@ pub fn expr_value(
 fn part(
     deep: u64,
     code: u64,
-    s: &[u8],
-    t: &[u16; table::LENGTH],
-    p: &[u64],
+    stream: &[u8],
+    table: &[u16; table::LENGTH],
+    params: &[u64],
     pos: usize,
-    e: Env,
-    a: &mut [u64],
-    m: &mut [u64],
-    st: State,
+    env: Env,
+    actions: &mut [u64],
+    temporaries: &mut [u64],
+    state: State,
 ) -> Expr
-    ensures { λ r. ⌜ resolved r (now (a .exit)) (now (m .exit)) ≡ part (resolveExpr deep (now (s .entry)) (now (t .entry)) (now (p .entry)) e) code (now (s .entry)) (now (t .entry)) e pos (now (a .entry)) (now (m .entry)) st ⌝ }
+    ensures { λ r. ⌜ resolved r (now (actions .exit)) (now (temporaries .exit)) ≡ part (resolveExpr deep (now (stream .entry)) (now (table .entry)) (now (params .entry)) env) code (now (stream .entry)) (now (table .entry)) env pos (now (actions .entry)) (now (temporaries .entry)) state ⌝ }
 {
-    match resolve_expr(deep, s, t, p, after(pos, part_at(code)), e, a, m, st) {
+    match resolve_expr(
+        deep,
+        stream,
+        table,
+        params,
+        after(pos, part_at(code)),
+        env,
+        actions,
+        temporaries,
+        state,
+    ) {
         Expr::No(n) => Expr::No(n),
-        Expr::Value { x, next, st: st1 } => with_part(code, s, t, a, m, pos, e, x, next, st1),
+        Expr::Value { x, next, st: st1 } => with_part(
+            code,
+            stream,
+            table,
+            actions,
+            temporaries,
+            pos,
+            env,
+            x,
+            next,
+            st1,
+        ),
     }
 }
 
 fn resolve_op(
     deep: u64,
-    s: &[u8],
-    t: &[u16; table::LENGTH],
-    p: &[u64],
+    stream: &[u8],
+    table: &[u16; table::LENGTH],
+    params: &[u64],
     pos: usize,
-    e: Env,
-    a: &mut [u64],
-    m: &mut [u64],
-    st: State,
+    env: Env,
+    actions: &mut [u64],
+    temporaries: &mut [u64],
+    state: State,
 ) -> Expr
-    ensures { λ r. ⌜ resolved r (now (a .exit)) (now (m .exit)) ≡ resolveOp (resolveExpr deep (now (s .entry)) (now (t .entry)) (now (p .entry)) e) (now (s .entry)) (now (t .entry)) e pos (now (a .entry)) (now (m .entry)) st ⌝ }
+    ensures { λ r. ⌜ resolved r (now (actions .exit)) (now (temporaries .exit)) ≡ resolveOp (resolveExpr deep (now (stream .entry)) (now (table .entry)) (now (params .entry)) env) (now (stream .entry)) (now (table .entry)) env pos (now (actions .entry)) (now (temporaries .entry)) state ⌝ }
 {
-    let o = operands_of(s, pos);
-    match expr_value(deep, s, t, p, o.first, e, a, m, st) {
+    let o = operands_of(stream, pos);
+    match expr_value(
+        deep,
+        stream,
+        table,
+        params,
+        o.first,
+        env,
+        actions,
+        temporaries,
+        state,
+    ) {
         Operand::No(n) => Expr::No(n),
         Operand::Value { v, next, st: st1 } => apply2(
             o.op,
             v,
             next,
-            expr_value(deep, s, t, p, o.second, e, a, m, st1),
+            expr_value(
+                deep,
+                stream,
+                table,
+                params,
+                o.second,
+                env,
+                actions,
+                temporaries,
+                st1,
+            ),
         ),
     }
 }
@@ -383,20 +490,30 @@ fn resolve_op(
 // A built-in function: each argument is read before the next is resolved.
 fn call_inbuilt(
     deep: u64,
-    s: &[u8],
-    t: &[u16; table::LENGTH],
-    p: &[u64],
+    stream: &[u8],
+    table: &[u16; table::LENGTH],
+    params: &[u64],
     pos: usize,
     op: u64,
     count: u64,
-    e: Env,
-    a: &mut [u64],
-    m: &mut [u64],
-    st: State,
+    env: Env,
+    actions: &mut [u64],
+    temporaries: &mut [u64],
+    state: State,
 ) -> Expr
-    ensures { λ r. ⌜ resolved r (now (a .exit)) (now (m .exit)) ≡ callInbuilt (resolveExpr deep (now (s .entry)) (now (t .entry)) (now (p .entry)) e) (now (s .entry)) (now (t .entry)) e pos op count (now (a .entry)) (now (m .entry)) st ⌝ }
+    ensures { λ r. ⌜ resolved r (now (actions .exit)) (now (temporaries .exit)) ≡ callInbuilt (resolveExpr deep (now (stream .entry)) (now (table .entry)) (now (params .entry)) env) (now (stream .entry)) (now (table .entry)) env pos op count (now (actions .entry)) (now (temporaries .entry)) state ⌝ }
 {
-    let first = expr_value(deep, s, t, p, after(pos, 4), e, a, m, st);
+    let first = expr_value(
+        deep,
+        stream,
+        table,
+        params,
+        after(pos, 4),
+        env,
+        actions,
+        temporaries,
+        state,
+    );
     if count != 2 {
         return apply1(op, first);
     }
@@ -406,7 +523,17 @@ fn call_inbuilt(
             op,
             v,
             0,
-            expr_value(deep, s, t, p, next, e, a, m, st1),
+            expr_value(
+                deep,
+                stream,
+                table,
+                params,
+                next,
+                env,
+                actions,
+                temporaries,
+                st1,
+            ),
         ),
     }
 }
@@ -414,109 +541,211 @@ fn call_inbuilt(
 // n arguments, resolved only, into the slots of `args`.
 pub fn resolve_args(
     deep: u64,
-    s: &[u8],
-    t: &[u16; table::LENGTH],
-    p: &[u64],
+    stream: &[u8],
+    table: &[u16; table::LENGTH],
+    params: &[u64],
     pos: usize,
-    n: u64,
-    e: Env,
-    a: &mut [u64],
-    m: &mut [u64],
+    count: u64,
+    env: Env,
+    actions: &mut [u64],
+    temporaries: &mut [u64],
     args: &mut [u64],
-    st: State,
+    state: State,
 ) -> Args
-    ensures { λ r. ⌜ passed r (now (a .exit)) (now (m .exit)) (now (args .exit)) ≡ resolveArgs (resolveExpr deep (now (s .entry)) (now (t .entry)) (now (p .entry)) e) n 0 pos (now (a .entry)) (now (m .entry)) (now (args .entry)) st ⌝ }
+    ensures { λ r. ⌜ passed r (now (actions .exit)) (now (temporaries .exit)) (now (args .exit)) ≡ resolveArgs (resolveExpr deep (now (stream .entry)) (now (table .entry)) (now (params .entry)) env) count 0 pos (now (actions .entry)) (now (temporaries .entry)) (now (args .entry)) state ⌝ }
 {
     let mut at = pos;
-    let mut st = st;
-    for i in 0..n {
-        match resolve_expr(deep, s, t, p, at, e, a, m, st) {
+    let mut state = state;
+    for i in 0..count {
+        match resolve_expr(
+            deep,
+            stream,
+            table,
+            params,
+            at,
+            env,
+            actions,
+            temporaries,
+            state,
+        ) {
             Expr::No(k) => return Args::No(k),
             Expr::Value { x, next, st: st1 } => {
                 put_arg(args, i, x);
                 at = next;
-                st = st1;
+                state = st1;
             }
         }
     }
-    Args::Done { next: at, st }
+    Args::Done {
+        next: at,
+        st: state,
+    }
 }
 
 fn user_op(
     deep: u64,
-    s: &[u8],
-    t: &[u16; table::LENGTH],
-    p: &[u64],
+    stream: &[u8],
+    table: &[u16; table::LENGTH],
+    params: &[u64],
     pos: usize,
     id: u64,
-    n: u64,
-    e: Env,
-    a: &mut [u64],
-    m: &mut [u64],
-    st: State,
+    count: u64,
+    env: Env,
+    actions: &mut [u64],
+    temporaries: &mut [u64],
+    state: State,
 ) -> Expr
-    ensures { λ r. ⌜ resolved r (now (a .exit)) (now (m .exit)) ≡ userOp (resolveExpr deep (now (s .entry)) (now (t .entry)) (now (p .entry)) e) (now (s .entry)) (now (t .entry)) e pos id n (now (a .entry)) (now (m .entry)) st ⌝ }
+    ensures { λ r. ⌜ resolved r (now (actions .exit)) (now (temporaries .exit)) ≡ userOp (resolveExpr deep (now (stream .entry)) (now (table .entry)) (now (params .entry)) env) (now (stream .entry)) (now (table .entry)) env pos id count (now (actions .entry)) (now (temporaries .entry)) state ⌝ }
 {
     let mut args = [0u64; 64];
-    match resolve_args(deep, s, t, p, after(pos, 4), n, e, a, m, &mut args, st) {
+    match resolve_args(
+        deep,
+        stream,
+        table,
+        params,
+        after(pos, 4),
+        count,
+        env,
+        actions,
+        temporaries,
+        &mut args,
+        state,
+    ) {
         Args::No(k) => Expr::No(k),
-        Args::Done { next, st: st1 } => call_user_op(s, t, a, m, &args, n, id, next, e, st1),
+        Args::Done { next, st: st1 } => call_user_op(
+            stream,
+            table,
+            actions,
+            temporaries,
+            &args,
+            count,
+            id,
+            next,
+            env,
+            st1,
+        ),
     }
 }
 
 fn resolve_call(
     deep: u64,
-    s: &[u8],
-    t: &[u16; table::LENGTH],
-    p: &[u64],
+    stream: &[u8],
+    table: &[u16; table::LENGTH],
+    params: &[u64],
     pos: usize,
-    e: Env,
-    a: &mut [u64],
-    m: &mut [u64],
-    st: State,
+    env: Env,
+    actions: &mut [u64],
+    temporaries: &mut [u64],
+    state: State,
 ) -> Expr
-    ensures { λ r. ⌜ resolved r (now (a .exit)) (now (m .exit)) ≡ resolveCall (resolveExpr deep (now (s .entry)) (now (t .entry)) (now (p .entry)) e) (now (s .entry)) (now (t .entry)) (now (p .entry)) e pos (now (a .entry)) (now (m .entry)) st ⌝ }
+    ensures { λ r. ⌜ resolved r (now (actions .exit)) (now (temporaries .exit)) ≡ resolveCall (resolveExpr deep (now (stream .entry)) (now (table .entry)) (now (params .entry)) env) (now (stream .entry)) (now (table .entry)) (now (params .entry)) env pos (now (actions .entry)) (now (temporaries .entry)) state ⌝ }
 {
-    let name = u16_in(s, pos, 1);
-    let n = access::byte(s, pos, 3);
-    let c = callee_of(s, t, name, n);
+    let name = u16_in(stream, pos, 1);
+    let n = access::byte(stream, pos, 3);
+    let c = callee_of(stream, table, name, n);
     let kind = c.kind;
     match kind {
-        INBUILT => call_inbuilt(deep, s, t, p, pos, c.number, n, e, a, m, st),
-        USER_OP => user_op(deep, s, t, p, pos, c.number, n, e, a, m, st),
+        INBUILT => call_inbuilt(
+            deep,
+            stream,
+            table,
+            params,
+            pos,
+            c.number,
+            n,
+            env,
+            actions,
+            temporaries,
+            state,
+        ),
+        USER_OP => user_op(
+            deep,
+            stream,
+            table,
+            params,
+            pos,
+            c.number,
+            n,
+            env,
+            actions,
+            temporaries,
+            state,
+        ),
         REFUSED => Expr::No(c.number),
-        _ => subpiece(s, t, p, a, m, pos, name, n, e, st),
+        _ => subpiece(
+            stream,
+            table,
+            params,
+            actions,
+            temporaries,
+            pos,
+            name,
+            n,
+            env,
+            state,
+        ),
     }
 }
 
 pub fn resolve_expr(
     deep: u64,
-    s: &[u8],
-    t: &[u16; table::LENGTH],
-    p: &[u64],
+    stream: &[u8],
+    table: &[u16; table::LENGTH],
+    params: &[u64],
     pos: usize,
-    e: Env,
-    a: &mut [u64],
-    m: &mut [u64],
-    st: State,
+    env: Env,
+    actions: &mut [u64],
+    temporaries: &mut [u64],
+    state: State,
 ) -> Expr
-    ensures { λ r. ⌜ resolved r (now (a .exit)) (now (m .exit)) ≡ resolveExpr deep (now (s .entry)) (now (t .entry)) (now (p .entry)) e pos (now (a .entry)) (now (m .entry)) st ⌝ }
+    ensures { λ r. ⌜ resolved r (now (actions .exit)) (now (temporaries .exit)) ≡ resolveExpr deep (now (stream .entry)) (now (table .entry)) (now (params .entry)) env pos (now (actions .entry)) (now (temporaries .entry)) state ⌝ }
 {
     if deep == 0 {
         return Expr::No(refusal::OUTSIDE_LIMIT);
     }
-    let code = access::byte(s, pos, 0);
+    let code = access::byte(stream, pos, 0);
     if code < expression::TRUNCATE {
-        return atom(code, s, t, p, m, pos, e, st);
+        return atom(code, stream, table, params, temporaries, pos, env, state);
     }
     if code == expression::OP {
-        return resolve_op(deep - 1, s, t, p, pos, e, a, m, st);
+        return resolve_op(
+            deep - 1,
+            stream,
+            table,
+            params,
+            pos,
+            env,
+            actions,
+            temporaries,
+            state,
+        );
     }
     if code < expression::CONSTANT_POOL_REF {
-        return part(deep - 1, code, s, t, p, pos, e, a, m, st);
+        return part(
+            deep - 1,
+            code,
+            stream,
+            table,
+            params,
+            pos,
+            env,
+            actions,
+            temporaries,
+            state,
+        );
     }
     if code == expression::CONSTANT_POOL_REF {
         return Expr::No(refusal::CONSTANT_POOL);
     }
-    resolve_call(deep - 1, s, t, p, pos, e, a, m, st)
+    resolve_call(
+        deep - 1,
+        stream,
+        table,
+        params,
+        pos,
+        env,
+        actions,
+        temporaries,
+        state,
+    )
 }

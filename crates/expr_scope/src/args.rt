@@ -14,14 +14,14 @@ pub enum Args {
     No(u64),
 }
 
-pub fn put_arg(args: &mut [u64], i: u64, x: ExprValue)
-    ensures { λ _. ⌜ now (args .exit) ≡ putArg (now (args .entry)) i x ⌝ }
+pub fn put_arg(args: &mut [u64], index: u64, expr: ExprValue)
+    ensures { λ _. ⌜ now (args .exit) ≡ putArg (now (args .entry)) index expr ⌝ }
 {
-    put_slot(args, param_place(i as usize), slot_of(x));
+    put_slot(args, param_place(index as usize), slot_of(expr));
 }
 
-pub fn arg_at(args: &[u64], i: u64) -> ExprValue
-    ensures { λ r. ⌜ r ≡ argAt (now (args .entry)) i ⌝ }
+pub fn arg_at(args: &[u64], index: u64) -> ExprValue
+    ensures { λ r. ⌜ r ≡ argAt (now (args .entry)) index ⌝ }
 {
-    of_slot(slot_at(args, param_place(i as usize)))
+    of_slot(slot_at(args, param_place(index as usize)))
 }

@@ -112,22 +112,22 @@ pub struct Slot {
     pub b: Value,
 }
 
-fn one_value(tag: u64, x: u64, y: u64, a: Value) -> Slot
-    ensures { λ r. ⌜ r ≡ oneValue tag x y a ⌝ }
+fn one_value(tag: u64, first: u64, second: u64, value: Value) -> Slot
+    ensures { λ r. ⌜ r ≡ oneValue tag first second value ⌝ }
 {
     Slot {
         tag,
-        x,
-        y,
-        a,
+        x: first,
+        y: second,
+        a: value,
         b: absent(),
     }
 }
 
-pub fn slot_of(x: ExprValue) -> Slot
-    ensures { λ r. ⌜ r ≡ slotOf x ⌝ }
+pub fn slot_of(expr: ExprValue) -> Slot
+    ensures { λ r. ⌜ r ≡ slotOf expr ⌝ }
 {
-    match x {
+    match expr {
         ExprValue::Local(v) => one_value(LOCAL, 0, 0, v),
         ExprValue::Unbound(v) => one_value(UNBOUND, 0, 0, v),
         ExprValue::Const { value, size } => one_value(CONST, value, size, absent()),
@@ -151,14 +151,14 @@ pub fn slot_of(x: ExprValue) -> Slot
     }
 }
 
-pub fn of_slot(k: Slot) -> ExprValue
-    ensures { λ r. ⌜ r ≡ ofSlot k ⌝ }
+pub fn of_slot(slot: Slot) -> ExprValue
+    ensures { λ r. ⌜ r ≡ ofSlot slot ⌝ }
 {
-    let tag = k.tag;
-    let x = k.x;
-    let y = k.y;
-    let a = k.a;
-    let b = k.b;
+    let tag = slot.tag;
+    let x = slot.x;
+    let y = slot.y;
+    let a = slot.a;
+    let b = slot.b;
     match tag {
         LOCAL => ExprValue::Local(a),
         UNBOUND => ExprValue::Unbound(a),
@@ -187,42 +187,42 @@ pub fn of_slot(k: Slot) -> ExprValue
     }
 }
 
-pub fn put_slot(p: &mut [u64], at: usize, k: Slot)
-    ensures { λ _. ⌜ now (p .exit) ≡ putSlot (now (p .entry)) at k ⌝ }
+pub fn put_slot(params: &mut [u64], at: usize, slot: Slot)
+    ensures { λ _. ⌜ now (params .exit) ≡ putSlot (now (params .entry)) at slot ⌝ }
 {
-    put(p, at, SLOT_TAG, k.tag);
-    put(p, at, SLOT_X, k.x);
-    put(p, at, SLOT_Y, k.y);
-    put_value(p, at, SLOT_A, k.a);
-    put_value(p, at, SLOT_B, k.b);
+    put(params, at, SLOT_TAG, slot.tag);
+    put(params, at, SLOT_X, slot.x);
+    put(params, at, SLOT_Y, slot.y);
+    put_value(params, at, SLOT_A, slot.a);
+    put_value(params, at, SLOT_B, slot.b);
 }
 
-pub fn slot_at(p: &[u64], at: usize) -> Slot
-    ensures { λ r. ⌜ r ≡ slotAt (now (p .entry)) at ⌝ }
+pub fn slot_at(params: &[u64], at: usize) -> Slot
+    ensures { λ r. ⌜ r ≡ slotAt (now (params .entry)) at ⌝ }
 {
     Slot {
-        tag: get(p, at, SLOT_TAG),
-        x: get(p, at, SLOT_X),
-        y: get(p, at, SLOT_Y),
-        a: value_at(p, at, SLOT_A),
-        b: value_at(p, at, SLOT_B),
+        tag: get(params, at, SLOT_TAG),
+        x: get(params, at, SLOT_X),
+        y: get(params, at, SLOT_Y),
+        a: value_at(params, at, SLOT_A),
+        b: value_at(params, at, SLOT_B),
     }
 }
 
 // Where the slot of parameter i stands: eight words each.
-pub fn param_place(i: usize) -> usize
-    ensures { λ r. ⌜ r ≡ paramPlace i ⌝ }
+pub fn param_place(index: usize) -> usize
+    ensures { λ r. ⌜ r ≡ paramPlace index ⌝ }
 {
-    i % 8 * 8
+    index % 8 * 8
 }
 
 // One more than the number of the last parameter of that name, or 0.
-fn find_param(p: &[u64], count: usize, name: u64) -> usize
-    ensures { λ r. ⌜ r ≡ findParam count (now (p .entry)) name ⌝ }
+fn find_param(params: &[u64], count: usize, name: u64) -> usize
+    ensures { λ r. ⌜ r ≡ findParam count (now (params .entry)) name ⌝ }
 {
     let mut i = count;
     while 0 < i {
-        if get(p, param_place(i - 1), SLOT_NAME) == name {
+        if get(params, param_place(i - 1), SLOT_NAME) == name {
             return i;
         }
         i -= 1;
@@ -230,11 +230,11 @@ fn find_param(p: &[u64], count: usize, name: u64) -> usize
     0
 }
 
-fn is_local(w: u64, name: u64, scope: u64) -> bool
-    ensures { λ r. ⌜ r ≡ isLocal w name scope ⌝ }
+fn is_local(word: u64, name: u64, scope: u64) -> bool
+    ensures { λ r. ⌜ r ≡ isLocal word name scope ⌝ }
 {
-    if w % 65536 == name {
-        w / SCOPE_PLACE == scope
+    if word % 65536 == name {
+        word / SCOPE_PLACE == scope
     } else {
         false
     }
@@ -249,68 +249,68 @@ fn path(name: u64, scope: u64) -> u64
 }
 
 // Where a word links to on the side of h: the left link stands in the nine bits from bit 32 on, the right one behind it.
-fn link(w: u64, h: u64) -> usize
-    ensures { λ r. ⌜ r ≡ link w h ⌝ }
+fn link(word: u64, path: u64) -> usize
+    ensures { λ r. ⌜ r ≡ link word path ⌝ }
 {
-    if h % 2 == 0 {
-        (w / LEFT_PLACE % 512) as usize
+    if path % 2 == 0 {
+        (word / LEFT_PLACE % 512) as usize
     } else {
-        (w / RIGHT_PLACE % 512) as usize
+        (word / RIGHT_PLACE % 512) as usize
     }
 }
 
 // The word that links to n there.
-fn linked(w: u64, h: u64, n: usize) -> u64
-    ensures { λ r. ⌜ r ≡ linked w h n ⌝ }
+fn linked(word: u64, path: u64, count: usize) -> u64
+    ensures { λ r. ⌜ r ≡ linked word path count ⌝ }
 {
-    if h % 2 == 0 {
-        w % LEFT_PLACE + (n % 512) as u64 * LEFT_PLACE + w / RIGHT_PLACE * RIGHT_PLACE
+    if path % 2 == 0 {
+        word % LEFT_PLACE + (count % 512) as u64 * LEFT_PLACE + word / RIGHT_PLACE * RIGHT_PLACE
     } else {
-        w % RIGHT_PLACE + (n % 512) as u64 * RIGHT_PLACE + w / SCOPE_PLACE * SCOPE_PLACE
+        word % RIGHT_PLACE + (count % 512) as u64 * RIGHT_PLACE + word / SCOPE_PLACE * SCOPE_PLACE
     }
 }
 
 // The node behind node i, which has this word, on the side of h, or n where none of the n is.
-fn onward(w: u64, i: usize, h: u64, n: usize) -> usize
-    ensures { λ r. ⌜ r ≡ onward w i h n ⌝ }
+fn onward(word: u64, index: usize, path: u64, count: usize) -> usize
+    ensures { λ r. ⌜ r ≡ onward word index path count ⌝ }
 {
-    let c = link(w, h);
-    if i < c {
-        if c < n {
+    let c = link(word, path);
+    if index < c {
+        if c < count {
             return c;
         }
     }
-    n
+    count
 }
 
 // The one of n temporaries that has this name in this scope, or n.
-fn find_local(m: &[u64], n: usize, name: u64, scope: u64) -> usize
-    ensures { λ r. ⌜ r ≡ findLocal n 0 (path name scope) n (now (m .entry)) name scope ⌝ }
+fn find_local(temporaries: &[u64], count: usize, name: u64, scope: u64) -> usize
+    ensures { λ r. ⌜ r ≡ findLocal count 0 (path name scope) count (now (temporaries .entry)) name scope ⌝ }
 {
     let mut i = 0;
     let mut h = path(name, scope);
-    while i < n {
-        let w = access::get(m, i);
+    while i < count {
+        let w = access::get(temporaries, i);
         if is_local(w, name, scope) {
             return i;
         }
-        i = onward(w, i, h, n);
+        i = onward(w, i, h, count);
         h /= 2;
     }
-    n
+    count
 }
 
 // Temporary n becomes a node, where a search for it among the first n ends.
-fn attach(m: &mut [u64], n: usize, name: u64, scope: u64)
-    ensures { λ _. ⌜ now (m .exit) ≡ attach n 0 (path name scope) n (now (m .entry)) ⌝ }
+fn attach(temporaries: &mut [u64], count: usize, name: u64, scope: u64)
+    ensures { λ _. ⌜ now (temporaries .exit) ≡ attach count 0 (path name scope) count (now (temporaries .entry)) ⌝ }
 {
     let mut i = 0;
     let mut h = path(name, scope);
-    while i < n {
-        let w = access::get(m, i);
-        let c = onward(w, i, h, n);
-        if c == n {
-            access::put(m, i, linked(w, h, n));
+    while i < count {
+        let w = access::get(temporaries, i);
+        let c = onward(w, i, h, count);
+        if c == count {
+            access::put(temporaries, i, linked(w, h, count));
             return;
         }
         i = c;
@@ -319,10 +319,10 @@ fn attach(m: &mut [u64], n: usize, name: u64, scope: u64)
 }
 
 // A field or a subtable as one number: kind + 8 × (1 + number), or 0 where there is none.
-fn plain_own(t: &[u16; table::LENGTH], name: u64) -> u64
-    ensures { λ r. ⌜ r ≡ plainFound (ownLocal (now (t .entry)) name) ⌝ }
+fn plain_own(table: &[u16; table::LENGTH], name: u64) -> u64
+    ensures { λ r. ⌜ r ≡ plainFound (ownLocal (now (table .entry)) name) ⌝ }
 {
-    let k = access::get_u16(t, table::LOCALS + (name % 1024) as usize) as u64;
+    let k = access::get_u16(table, table::LOCALS + (name % 1024) as usize) as u64;
     if k == 0 {
         return 0;
     }
@@ -332,52 +332,58 @@ fn plain_own(t: &[u16; table::LENGTH], name: u64) -> u64
     value_kind::SUBTABLE + 8 * (k / 2)
 }
 
-fn plain_tmp(m: &[u64], n: usize, name: u64, scope: u64) -> u64
-    ensures { λ r. ⌜ r ≡ plainFound (tmpLocal (now (m .entry)) n name scope) ⌝ }
+fn plain_tmp(temporaries: &[u64], count: usize, name: u64, scope: u64) -> u64
+    ensures { λ r. ⌜ r ≡ plainFound (tmpLocal (now (temporaries .entry)) count name scope) ⌝ }
 {
-    let i = find_local(m, n, name, scope);
-    if i < n {
+    let i = find_local(temporaries, count, name, scope);
+    if i < count {
         return value_kind::PCODE_TMP + 8 * (i as u64 + 1);
     }
     0
 }
 
-fn plain_found(t: &[u16; table::LENGTH], m: &[u64], scope: u64, n: usize, name: u64) -> u64
-    ensures { λ r. ⌜ r ≡ plainFound (lookupLocal (now (t .entry)) (now (m .entry)) scope n name) ⌝ }
+fn plain_found(
+    table: &[u16; table::LENGTH],
+    temporaries: &[u64],
+    scope: u64,
+    count: usize,
+    name: u64,
+) -> u64
+    ensures { λ r. ⌜ r ≡ plainFound (lookupLocal (now (table .entry)) (now (temporaries .entry)) scope count name) ⌝ }
 {
     if scope != 0 {
-        return plain_tmp(m, n, name, scope);
+        return plain_tmp(temporaries, count, name, scope);
     }
-    let q = plain_own(t, name);
+    let q = plain_own(table, name);
     if q == 0 {
-        return plain_tmp(m, n, name, scope);
+        return plain_tmp(temporaries, count, name, scope);
     }
     q
 }
 
 // A global of a name: 0, or 1 + kind + 8 × its place in that kind's list.
-pub fn global(t: &[u16; table::LENGTH], name: u64) -> u64
-    ensures { λ r. ⌜ (r ≡ global (now (t .entry)) name) × (r < 65536) ⌝ }
+pub fn global(table: &[u16; table::LENGTH], name: u64) -> u64
+    ensures { λ r. ⌜ (r ≡ global (now (table .entry)) name) × (r < 65536) ⌝ }
 {
-    access::get_u16(t, table::GLOBALS + (name % 1024) as usize) as u64
+    access::get_u16(table, table::GLOBALS + (name % 1024) as usize) as u64
 }
 
-fn bit_range(s: &[u8], t: &[u16; table::LENGTH], i: u64) -> ExprValue
-    ensures { λ r. ⌜ r ≡ bitRange (now (s .entry)) (now (t .entry)) i ⌝ }
+fn bit_range(stream: &[u8], table: &[u16; table::LENGTH], index: u64) -> ExprValue
+    ensures { λ r. ⌜ r ≡ bitRange (now (stream .entry)) (now (table .entry)) index ⌝ }
 {
-    let at = entry(t, table::BIT_RANGES, i % 65536 * 8);
+    let at = entry(table, table::BIT_RANGES, index % 65536 * 8);
     ExprValue::BitRange {
-        v: local(value_kind::REGISTER, access::u16_in(s, at, 2)),
-        from: access::u16_in(s, at, 4),
-        bits: access::u16_in(s, at, 6),
+        v: local(value_kind::REGISTER, access::u16_in(stream, at, 2)),
+        from: access::u16_in(stream, at, 4),
+        bits: access::u16_in(stream, at, 6),
     }
 }
 
 // A global register as one number; 0 for a bit range, 1 where a name means nothing or a wrong thing.
-fn plain_global(t: &[u16; table::LENGTH], name: u64) -> u64
-    ensures { λ r. ⌜ r ≡ plainGlobal (global (now (t .entry)) name) ⌝ }
+fn plain_global(table: &[u16; table::LENGTH], name: u64) -> u64
+    ensures { λ r. ⌜ r ≡ plainGlobal (global (now (table .entry)) name) ⌝ }
 {
-    let g = global(t, name);
+    let g = global(table, name);
     if g == 0 {
         return 1;
     }
@@ -389,18 +395,25 @@ fn plain_global(t: &[u16; table::LENGTH], name: u64) -> u64
     }
 }
 
-fn plain_inner(s: &[u8], t: &[u16; table::LENGTH], m: &[u64], e: Env, st: State, name: u64) -> u64
-    ensures { λ r. ⌜ r ≡ plainInner (now (s .entry)) (now (t .entry)) (now (m .entry)) e st name ⌝ }
+fn plain_inner(
+    stream: &[u8],
+    table: &[u16; table::LENGTH],
+    temporaries: &[u64],
+    env: Env,
+    state: State,
+    name: u64,
+) -> u64
+    ensures { λ r. ⌜ r ≡ plainInner (now (stream .entry)) (now (table .entry)) (now (temporaries .entry)) env state name ⌝ }
 {
-    if name == access::u16_at(s, header::INST_NEXT) {
+    if name == access::u16_at(stream, header::INST_NEXT) {
         return INST_NEXT;
     }
-    if name == access::u16_at(s, header::INST_START) {
+    if name == access::u16_at(stream, header::INST_START) {
         return INST_START;
     }
-    let q = plain_found(t, m, e.scope, st.temporaries, name);
+    let q = plain_found(table, temporaries, env.scope, state.temporaries, name);
     if q == 0 {
-        return plain_global(t, name);
+        return plain_global(table, name);
     }
     q
 }
@@ -408,76 +421,76 @@ fn plain_inner(s: &[u8], t: &[u16; table::LENGTH], m: &[u64], e: Env, st: State,
 // The usual name, a plain local, as one number in place of a large `Meaning`: kind + 8 × (1 + number). 1 stands for `Wrong`, and
 // 0 for what only `resolve_ident` tells.
 pub fn plain_local(
-    s: &[u8],
-    t: &[u16; table::LENGTH],
-    p: &[u64],
-    m: &[u64],
-    e: Env,
-    st: State,
+    stream: &[u8],
+    table: &[u16; table::LENGTH],
+    params: &[u64],
+    temporaries: &[u64],
+    env: Env,
+    state: State,
     name: u64,
 ) -> u64
-    ensures { λ r. ⌜ r ≡ plainLocal (now (s .entry)) (now (t .entry)) (now (p .entry)) (now (m .entry)) e st name ⌝ }
+    ensures { λ r. ⌜ r ≡ plainLocal (now (stream .entry)) (now (table .entry)) (now (params .entry)) (now (temporaries .entry)) env state name ⌝ }
 {
-    if 0 < find_param(p, e.count, name) {
+    if 0 < find_param(params, env.count, name) {
         return 0;
     }
-    plain_inner(s, t, m, e, st, name)
+    plain_inner(stream, table, temporaries, env, state, name)
 }
 
 // What a global means that is no register.
-fn other_global(s: &[u8], t: &[u16; table::LENGTH], name: u64) -> Meaning
-    ensures { λ r. ⌜ r ≡ otherGlobal (now (s .entry)) (now (t .entry)) (global (now (t .entry)) name) ⌝ }
+fn other_global(stream: &[u8], table: &[u16; table::LENGTH], name: u64) -> Meaning
+    ensures { λ r. ⌜ r ≡ otherGlobal (now (stream .entry)) (now (table .entry)) (global (now (table .entry)) name) ⌝ }
 {
-    let g = global(t, name);
+    let g = global(table, name);
     if g == 0 {
         return Meaning::Wrong(refusal::UNDEFINED);
     }
     if (g - 1) % 8 == symbol_kind::BIT_RANGE {
-        return Meaning::Means(bit_range(s, t, (g - 1) / 8));
+        return Meaning::Means(bit_range(stream, table, (g - 1) / 8));
     }
     Meaning::Wrong(refusal::WRONG_KIND)
 }
 
 pub fn resolve_ident(
-    s: &[u8],
-    t: &[u16; table::LENGTH],
-    p: &[u64],
-    m: &[u64],
-    e: Env,
-    st: State,
+    stream: &[u8],
+    table: &[u16; table::LENGTH],
+    params: &[u64],
+    temporaries: &[u64],
+    env: Env,
+    state: State,
     name: u64,
 ) -> Meaning
-    ensures { λ r. ⌜ r ≡ resolveIdent (now (s .entry)) (now (t .entry)) (now (p .entry)) (now (m .entry)) e st name ⌝ }
+    ensures { λ r. ⌜ r ≡ resolveIdent (now (stream .entry)) (now (table .entry)) (now (params .entry)) (now (temporaries .entry)) env state name ⌝ }
 {
-    let i = find_param(p, e.count, name);
+    let i = find_param(params, env.count, name);
     if 0 < i {
-        return Meaning::Means(of_slot(slot_at(p, param_place(i - 1))));
+        return Meaning::Means(of_slot(slot_at(params, param_place(i - 1))));
     }
-    let q = plain_inner(s, t, m, e, st, name);
+    let q = plain_inner(stream, table, temporaries, env, state, name);
     if 8 <= q {
         return Meaning::Means(ExprValue::Local(local(q % 8, q / 8 - 1)));
     }
-    other_global(s, t, name)
+    other_global(stream, table, name)
 }
 
 // A named temporary is made, then declared.
 pub fn named_tmp(
-    t: &[u16; table::LENGTH],
-    m: &mut [u64],
-    e: Env,
+    table: &[u16; table::LENGTH],
+    temporaries: &mut [u64],
+    env: Env,
     name: u64,
     size: u64,
-    st: State,
+    state: State,
 ) -> Read
-    ensures { λ r. ⌜ listed r (now (m .exit)) ≡ namedTmp (now (t .entry)) (now (m .entry)) e name size st ⌝ }
+    ensures { λ r. ⌜ listed r (now (temporaries .exit)) ≡ namedTmp (now (table .entry)) (now (temporaries .entry)) env name size state ⌝ }
 {
-    match add_tmp(m, name, size, e.scope, st) {
+    match add_tmp(temporaries, name, size, env.scope, state) {
         Read::No(n) => Read::No(n),
         Read::Value { v, st: next } => {
-            if plain_found(t, m, e.scope, st.temporaries, name) != 0 {
+            if plain_found(table, temporaries, env.scope, state.temporaries, name) != 0 {
                 return Read::No(refusal::REDECLARED);
             }
-            attach(m, st.temporaries, name, e.scope);
+            attach(temporaries, state.temporaries, name, env.scope);
             Read::Value { v, st: next }
         }
     }

@@ -28,14 +28,14 @@ fn or_size(size: u64, other: u64) -> u64
     if size == NONE { other } else { size }
 }
 
-fn in_const_space(x: ExprValue, size: u64, next: usize, st: State) -> Expr
-    ensures { λ r. ⌜ r ≡ inConstSpace x size next st ⌝ }
+fn in_const_space(expr: ExprValue, size: u64, next: usize, state: State) -> Expr
+    ensures { λ r. ⌜ r ≡ inConstSpace expr size next state ⌝ }
 {
-    match x {
+    match expr {
         ExprValue::Local(v) => Expr::Value {
             x: ExprValue::Local(with_size(v, or_size(size, v.size))),
             next,
-            st,
+            st: state,
         },
         ExprValue::Const { value, size: old } => Expr::Value {
             x: ExprValue::Const {
@@ -43,7 +43,7 @@ fn in_const_space(x: ExprValue, size: u64, next: usize, st: State) -> Expr
                 size: or_size(size, old),
             },
             next,
-            st,
+            st: state,
         },
         _ => Expr::No(refusal::CONST_SPACE),
     }
@@ -54,43 +54,43 @@ pub enum Space {
     No(u64),
 }
 
-fn kind_of_space(s: &[u8], t: &[u16; table::LENGTH], i: u64) -> Space
-    ensures { λ r. ⌜ r ≡ kindOfSpace (now (s .entry)) (now (t .entry)) i ⌝ }
+fn kind_of_space(stream: &[u8], table: &[u16; table::LENGTH], index: u64) -> Space
+    ensures { λ r. ⌜ r ≡ kindOfSpace (now (stream .entry)) (now (table .entry)) index ⌝ }
 {
-    Space::Kind(access::byte(s, entry(t, table::SPACES, i % 65536 * 5), 2))
+    Space::Kind(access::byte(stream, entry(table, table::SPACES, index % 65536 * 5), 2))
 }
 
-fn named_space(s: &[u8], t: &[u16; table::LENGTH], name: u64) -> Space
-    ensures { λ r. ⌜ r ≡ namedSpace (now (s .entry)) (now (t .entry)) name ⌝ }
+fn named_space(stream: &[u8], table: &[u16; table::LENGTH], name: u64) -> Space
+    ensures { λ r. ⌜ r ≡ namedSpace (now (stream .entry)) (now (table .entry)) name ⌝ }
 {
-    let g = global(t, name);
+    let g = global(table, name);
     if g == 0 {
         return Space::No(refusal::UNDEFINED);
     }
     if (g - 1) % 8 != symbol_kind::SPACE {
         return Space::No(refusal::WRONG_KIND);
     }
-    kind_of_space(s, t, (g - 1) / 8)
+    kind_of_space(stream, table, (g - 1) / 8)
 }
 
 // The named space, else the default one.
-fn resolve_space(s: &[u8], t: &[u16; table::LENGTH], name: u64) -> Space
-    ensures { λ r. ⌜ r ≡ resolveSpace (now (s .entry)) (now (t .entry)) name ⌝ }
+fn resolve_space(stream: &[u8], table: &[u16; table::LENGTH], name: u64) -> Space
+    ensures { λ r. ⌜ r ≡ resolveSpace (now (stream .entry)) (now (table .entry)) name ⌝ }
 {
     if name != NONE {
-        return named_space(s, t, name);
+        return named_space(stream, table, name);
     }
-    let i = access::u16_at(s, header::DEFAULT_SPACE);
+    let i = access::u16_at(stream, header::DEFAULT_SPACE);
     if i == NONE {
         return Space::No(refusal::NO_DEFAULT_SPACE);
     }
-    kind_of_space(s, t, i)
+    kind_of_space(stream, table, i)
 }
 
-fn reference(r: Read, kind: u64, size: u64, next: usize) -> Expr
-    ensures { λ x. ⌜ x ≡ reference kind size next r ⌝ }
+fn reference(answer: Read, kind: u64, size: u64, next: usize) -> Expr
+    ensures { λ x. ⌜ x ≡ reference kind size next answer ⌝ }
 {
-    match r {
+    match answer {
         Read::No(n) => Expr::No(n),
         Read::Value { v, st } => match kind {
             RAM => Expr::Value {
@@ -115,42 +115,58 @@ fn reference(r: Read, kind: u64, size: u64, next: usize) -> Expr
 }
 
 fn address_in(
-    s: &[u8],
-    t: &[u16; table::LENGTH],
-    a: &mut [u64],
-    m: &mut [u64],
-    e: Env,
+    stream: &[u8],
+    table: &[u16; table::LENGTH],
+    actions: &mut [u64],
+    temporaries: &mut [u64],
+    env: Env,
     space: u64,
     size: u64,
-    x: ExprValue,
+    expr: ExprValue,
     next: usize,
-    st: State,
+    state: State,
 ) -> Expr
-    ensures { λ r. ⌜ resolved r (now (a .exit)) (now (m .exit)) ≡ addressIn (now (s .entry)) (now (t .entry)) (now (a .entry)) (now (m .entry)) e space size x next st ⌝ }
+    ensures { λ r. ⌜ resolved r (now (actions .exit)) (now (temporaries .exit)) ≡ addressIn (now (stream .entry)) (now (table .entry)) (now (actions .entry)) (now (temporaries .entry)) env space size expr next state ⌝ }
 {
-    match resolve_space(s, t, space) {
+    match resolve_space(stream, table, space) {
         Space::No(n) => Expr::No(n),
-        Space::Kind(kind) => reference(read_operand(s, t, a, m, e, x, st), kind, size, next),
+        Space::Kind(kind) => reference(
+            read_operand(stream, table, actions, temporaries, env, expr, state),
+            kind,
+            size,
+            next,
+        ),
     }
 }
 
 // In the const space a local or a constant is itself.
 pub fn resolve_address(
-    s: &[u8],
-    t: &[u16; table::LENGTH],
-    a: &mut [u64],
-    m: &mut [u64],
-    e: Env,
+    stream: &[u8],
+    table: &[u16; table::LENGTH],
+    actions: &mut [u64],
+    temporaries: &mut [u64],
+    env: Env,
     space: u64,
     size: u64,
-    x: ExprValue,
+    expr: ExprValue,
     next: usize,
-    st: State,
+    state: State,
 ) -> Expr
-    ensures { λ r. ⌜ resolved r (now (a .exit)) (now (m .exit)) ≡ resolveAddress (now (s .entry)) (now (t .entry)) (now (a .entry)) (now (m .entry)) e space size x next st ⌝ }
+    ensures { λ r. ⌜ resolved r (now (actions .exit)) (now (temporaries .exit)) ≡ resolveAddress (now (stream .entry)) (now (table .entry)) (now (actions .entry)) (now (temporaries .entry)) env space size expr next state ⌝ }
 {
-    if space == access::u16_at(s, header::CONST) {
-        return in_const_space(x, size, next, st);
+    if space == access::u16_at(stream, header::CONST) {
+        return in_const_space(expr, size, next, state);
     }
-    address_in(s, t, a, m, e, space, size, x, next, st)
+    address_in(
+        stream,
+        table,
+        actions,
+        temporaries,
+        env,
+        space,
+        size,
+        expr,
+        next,
+        state,
+    )
 }

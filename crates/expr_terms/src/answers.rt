@@ -21,12 +21,12 @@ pub enum Operand {
 }
 
 // A position so many bytes on; a stream has fewer than 65,536.
-pub fn after(pos: usize, n: usize) -> usize
-    ensures { λ r. ⌜ r ≡ after pos n ⌝ }
+pub fn after(pos: usize, count: usize) -> usize
+    ensures { λ r. ⌜ r ≡ after pos count ⌝ }
 {
     if pos < 65536 {
-        if n < 65536 {
-            return pos + n;
+        if count < 65536 {
+            return pos + count;
         }
     }
     pos

@@ -49,22 +49,22 @@ pub struct Callee {
     pub number: u64,
 }
 
-fn symbol_of(g: u64) -> Callee
-    ensures { λ r. ⌜ r ≡ symbolOf g ⌝ }
+fn symbol_of(symbol: u64) -> Callee
+    ensures { λ r. ⌜ r ≡ symbolOf symbol ⌝ }
 {
-    if g == 0 {
+    if symbol == 0 {
         return Callee {
             kind: LOCAL,
             number: 0,
         };
     }
-    if (g - 1) % 8 == symbol_kind::USER_OP {
+    if (symbol - 1) % 8 == symbol_kind::USER_OP {
         return Callee {
             kind: USER_OP,
-            number: (g - 1) / 8,
+            number: (symbol - 1) / 8,
         };
     }
-    if (g - 1) % 8 == symbol_kind::MACRO {
+    if (symbol - 1) % 8 == symbol_kind::MACRO {
         return Callee {
             kind: REFUSED,
             number: refusal::MACRO_IN_EXPRESSION,
@@ -76,13 +76,13 @@ fn symbol_of(g: u64) -> Callee
     }
 }
 
-fn inbuilt_or(f: Inbuilt, t: &[u16; table::LENGTH], name: u64, n: u64) -> Callee
-    ensures { λ r. ⌜ r ≡ inbuiltOr f (global (now (t .entry)) name) n ⌝ }
+fn inbuilt_or(inbuilt: Inbuilt, table: &[u16; table::LENGTH], name: u64, count: u64) -> Callee
+    ensures { λ r. ⌜ r ≡ inbuiltOr inbuilt (global (now (table .entry)) name) count ⌝ }
 {
-    if f.arguments == 0 {
-        return symbol_of(global(t, name));
+    if inbuilt.arguments == 0 {
+        return symbol_of(global(table, name));
     }
-    if f.arguments != n {
+    if inbuilt.arguments != count {
         return Callee {
             kind: REFUSED,
             number: refusal::ARGUMENT_COUNT,
@@ -90,39 +90,39 @@ fn inbuilt_or(f: Inbuilt, t: &[u16; table::LENGTH], name: u64, n: u64) -> Callee
     }
     Callee {
         kind: INBUILT,
-        number: f.op,
+        number: inbuilt.op,
     }
 }
 
-pub fn callee_of(s: &[u8], t: &[u16; table::LENGTH], name: u64, n: u64) -> Callee
-    ensures { λ r. ⌜ r ≡ calleeOf (now (s .entry)) (now (t .entry)) name n ⌝ }
+pub fn callee_of(stream: &[u8], table: &[u16; table::LENGTH], name: u64, count: u64) -> Callee
+    ensures { λ r. ⌜ r ≡ calleeOf (now (stream .entry)) (now (table .entry)) name count ⌝ }
 {
-    let at = access::get_u16(t, (name % 1024) as usize) as usize;
-    inbuilt_or(translate_inbuilt_func(s, at), t, name, n)
+    let at = access::get_u16(table, (name % 1024) as usize) as usize;
+    inbuilt_or(translate_inbuilt_func(stream, at), table, name, count)
 }
 
 fn pass_arg(
-    s: &[u8],
-    t: &[u16; table::LENGTH],
-    a: &mut [u64],
-    m: &mut [u64],
-    x: ExprValue,
-    i: u64,
-    e: Env,
-    st: State,
+    stream: &[u8],
+    table: &[u16; table::LENGTH],
+    actions: &mut [u64],
+    temporaries: &mut [u64],
+    expr: ExprValue,
+    index: u64,
+    env: Env,
+    state: State,
 ) -> Pushed
-    ensures { λ r. ⌜ pushed r (now (a .exit)) (now (m .exit)) ≡ passArg (now (s .entry)) (now (t .entry)) (now (a .entry)) (now (m .entry)) x i e st ⌝ }
+    ensures { λ r. ⌜ pushed r (now (actions .exit)) (now (temporaries .exit)) ≡ passArg (now (stream .entry)) (now (table .entry)) (now (actions .entry)) (now (temporaries .entry)) expr index env state ⌝ }
 {
-    match read_operand(s, t, a, m, e, x, st) {
+    match read_operand(stream, table, actions, temporaries, env, expr, state) {
         Read::No(n) => Pushed::No(n),
         Read::Value { v, st: st1 } => push_op(
-            s,
-            t,
-            a,
-            m,
-            e,
+            stream,
+            table,
+            actions,
+            temporaries,
+            env,
             operation::ARG,
-            i,
+            index,
             1,
             no_output(),
             v,
@@ -134,85 +134,129 @@ fn pass_arg(
 
 // The arguments from the third on, each followed by its Arg.
 fn pass_args(
-    s: &[u8],
-    t: &[u16; table::LENGTH],
-    a: &mut [u64],
-    m: &mut [u64],
+    stream: &[u8],
+    table: &[u16; table::LENGTH],
+    actions: &mut [u64],
+    temporaries: &mut [u64],
     args: &[u64],
-    n: u64,
-    e: Env,
-    st: State,
+    count: u64,
+    env: Env,
+    state: State,
 ) -> Pushed
-    ensures { λ r. ⌜ pushed r (now (a .exit)) (now (m .exit)) ≡ passArgs (now (s .entry)) (now (t .entry)) (now (a .entry)) (now (m .entry)) (now (args .entry)) n e st ⌝ }
+    ensures { λ r. ⌜ pushed r (now (actions .exit)) (now (temporaries .exit)) ≡ passArgs (now (stream .entry)) (now (table .entry)) (now (actions .entry)) (now (temporaries .entry)) (now (args .entry)) count env state ⌝ }
 {
-    let mut st = st;
-    for i in 2..n {
-        match pass_arg(s, t, a, m, arg_at(args, i), i - 2, e, st) {
+    let mut state = state;
+    for i in 2..count {
+        match pass_arg(
+            stream,
+            table,
+            actions,
+            temporaries,
+            arg_at(args, i),
+            i - 2,
+            env,
+            state,
+        ) {
             Pushed::No(k) => return Pushed::No(k),
             Pushed::Done(st1) => {
-                st = st1;
+                state = st1;
             }
         }
     }
-    Pushed::Done(st)
+    Pushed::Done(state)
 }
 
 // An operation of so many values.
-pub fn applied(op: u64, number: u64, count: u64, a: Value, b: Value, next: usize, st: State) -> Expr
-    ensures { λ r. ⌜ r ≡ applied op number count a b next st ⌝ }
+pub fn applied(
+    op: u64,
+    number: u64,
+    count: u64,
+    first: Value,
+    second: Value,
+    next: usize,
+    state: State,
+) -> Expr
+    ensures { λ r. ⌜ r ≡ applied op number count first second next state ⌝ }
 {
     Expr::Value {
         x: ExprValue::Apply {
             op,
             number,
             count,
-            a,
-            b,
+            a: first,
+            b: second,
         },
         next,
-        st,
+        st: state,
     }
 }
 
 fn user_op_two(
-    s: &[u8],
-    t: &[u16; table::LENGTH],
-    a: &mut [u64],
-    m: &mut [u64],
+    stream: &[u8],
+    table: &[u16; table::LENGTH],
+    actions: &mut [u64],
+    temporaries: &mut [u64],
     args: &[u64],
     id: u64,
     next: usize,
-    v: Value,
-    e: Env,
-    st: State,
+    value: Value,
+    env: Env,
+    state: State,
 ) -> Expr
-    ensures { λ r. ⌜ resolved r (now (a .exit)) (now (m .exit)) ≡ userOpTwo (now (s .entry)) (now (t .entry)) (now (a .entry)) (now (m .entry)) (now (args .entry)) id next v e st ⌝ }
+    ensures { λ r. ⌜ resolved r (now (actions .exit)) (now (temporaries .exit)) ≡ userOpTwo (now (stream .entry)) (now (table .entry)) (now (actions .entry)) (now (temporaries .entry)) (now (args .entry)) id next value env state ⌝ }
 {
-    match read_operand(s, t, a, m, e, arg_at(args, 1), st) {
+    match read_operand(
+        stream,
+        table,
+        actions,
+        temporaries,
+        env,
+        arg_at(args, 1),
+        state,
+    ) {
         Read::No(k) => Expr::No(k),
-        Read::Value { v: w, st: st1 } => applied(operation::PCODE_OP, id, 2, v, w, next, st1),
+        Read::Value { v: w, st: st1 } => applied(operation::PCODE_OP, id, 2, value, w, next, st1),
     }
 }
 
 fn user_op_some(
-    s: &[u8],
-    t: &[u16; table::LENGTH],
-    a: &mut [u64],
-    m: &mut [u64],
+    stream: &[u8],
+    table: &[u16; table::LENGTH],
+    actions: &mut [u64],
+    temporaries: &mut [u64],
     args: &[u64],
-    n: u64,
+    count: u64,
     id: u64,
     next: usize,
-    e: Env,
-    st: State,
+    env: Env,
+    state: State,
 ) -> Expr
-    ensures { λ r. ⌜ resolved r (now (a .exit)) (now (m .exit)) ≡ userOpSome (now (s .entry)) (now (t .entry)) (now (a .entry)) (now (m .entry)) (now (args .entry)) n id next e st ⌝ }
+    ensures { λ r. ⌜ resolved r (now (actions .exit)) (now (temporaries .exit)) ≡ userOpSome (now (stream .entry)) (now (table .entry)) (now (actions .entry)) (now (temporaries .entry)) (now (args .entry)) count id next env state ⌝ }
 {
-    match read_operand(s, t, a, m, e, arg_at(args, 0), st) {
+    match read_operand(
+        stream,
+        table,
+        actions,
+        temporaries,
+        env,
+        arg_at(args, 0),
+        state,
+    ) {
         Read::No(k) => Expr::No(k),
         Read::Value { v, st: st1 } => {
-            if 1 < n {
-                return user_op_two(s, t, a, m, args, id, next, v, e, st1);
+            if 1 < count {
+                return user_op_two(
+                    stream,
+                    table,
+                    actions,
+                    temporaries,
+                    args,
+                    id,
+                    next,
+                    v,
+                    env,
+                    st1,
+                );
             }
             applied(operation::PCODE_OP, id, 1, v, absent(), next, st1)
         }
@@ -221,50 +265,61 @@ fn user_op_some(
 
 // A user op of n arguments that are resolved.
 pub fn call_user_op(
-    s: &[u8],
-    t: &[u16; table::LENGTH],
-    a: &mut [u64],
-    m: &mut [u64],
+    stream: &[u8],
+    table: &[u16; table::LENGTH],
+    actions: &mut [u64],
+    temporaries: &mut [u64],
     args: &[u64],
-    n: u64,
+    count: u64,
     id: u64,
     next: usize,
-    e: Env,
-    st: State,
+    env: Env,
+    state: State,
 ) -> Expr
-    ensures { λ r. ⌜ resolved r (now (a .exit)) (now (m .exit)) ≡ callUserOp (now (s .entry)) (now (t .entry)) (now (a .entry)) (now (m .entry)) (now (args .entry)) n id next e st ⌝ }
+    ensures { λ r. ⌜ resolved r (now (actions .exit)) (now (temporaries .exit)) ≡ callUserOp (now (stream .entry)) (now (table .entry)) (now (actions .entry)) (now (temporaries .entry)) (now (args .entry)) count id next env state ⌝ }
 {
-    match pass_args(s, t, a, m, args, n, e, st) {
+    match pass_args(stream, table, actions, temporaries, args, count, env, state) {
         Pushed::No(k) => Expr::No(k),
         Pushed::Done(st1) => {
-            if n == 0 {
+            if count == 0 {
                 return applied(operation::PCODE_OP, id, 0, absent(), absent(), next, st1);
             }
-            user_op_some(s, t, a, m, args, n, id, next, e, st1)
+            user_op_some(
+                stream,
+                table,
+                actions,
+                temporaries,
+                args,
+                count,
+                id,
+                next,
+                env,
+                st1,
+            )
         }
     }
 }
 
 // The one argument that is an integer, or 2^64 - 1.
-pub fn only_integer(s: &[u8], pos: usize, n: u64) -> u64
-    ensures { λ r. ⌜ r ≡ onlyInteger (now (s .entry)) pos n ⌝ }
+pub fn only_integer(stream: &[u8], pos: usize, count: u64) -> u64
+    ensures { λ r. ⌜ r ≡ onlyInteger (now (stream .entry)) pos count ⌝ }
 {
-    if n != 1 {
+    if count != 1 {
         return NO_INTEGER;
     }
-    if access::byte(s, pos, 4) != expression::INTEGER {
+    if access::byte(stream, pos, 4) != expression::INTEGER {
         return NO_INTEGER;
     }
-    access::u64_at(s, after(pos, 5))
+    access::u64_at(stream, after(pos, 5))
 }
 
-fn subpiece_of(s: &[u8], pos: usize, n: u64, r: Read) -> Expr
-    ensures { λ x. ⌜ x ≡ subpieceOf (now (s .entry)) pos n r ⌝ }
+fn subpiece_of(stream: &[u8], pos: usize, count: u64, answer: Read) -> Expr
+    ensures { λ x. ⌜ x ≡ subpieceOf (now (stream .entry)) pos count answer ⌝ }
 {
-    match r {
+    match answer {
         Read::No(k) => Expr::No(k),
         Read::Value { v, st } => {
-            let offset = only_integer(s, pos, n);
+            let offset = only_integer(stream, pos, count);
             if LAST_SUBPIECE < offset {
                 return Expr::No(refusal::SUBPIECE_ARGUMENT);
             }
@@ -282,21 +337,26 @@ fn subpiece_of(s: &[u8], pos: usize, n: u64, r: Read) -> Expr
 }
 
 pub fn subpiece(
-    s: &[u8],
-    t: &[u16; table::LENGTH],
-    p: &[u64],
-    a: &mut [u64],
-    m: &mut [u64],
+    stream: &[u8],
+    table: &[u16; table::LENGTH],
+    params: &[u64],
+    actions: &mut [u64],
+    temporaries: &mut [u64],
     pos: usize,
     name: u64,
-    n: u64,
-    e: Env,
-    st: State,
+    count: u64,
+    env: Env,
+    state: State,
 ) -> Expr
-    ensures { λ r. ⌜ resolved r (now (a .exit)) (now (m .exit)) ≡ subpiece (now (s .entry)) (now (t .entry)) (now (p .entry)) (now (a .entry)) (now (m .entry)) pos name n e st ⌝ }
+    ensures { λ r. ⌜ resolved r (now (actions .exit)) (now (temporaries .exit)) ≡ subpiece (now (stream .entry)) (now (table .entry)) (now (params .entry)) (now (actions .entry)) (now (temporaries .entry)) pos name count env state ⌝ }
 {
-    match resolve_ident(s, t, p, m, e, st, name) {
+    match resolve_ident(stream, table, params, temporaries, env, state, name) {
         Meaning::Wrong(k) => Expr::No(k),
-        Meaning::Means(x) => subpiece_of(s, pos, n, read_operand(s, t, a, m, e, x, st)),
+        Meaning::Means(x) => subpiece_of(
+            stream,
+            pos,
+            count,
+            read_operand(stream, table, actions, temporaries, env, x, state),
+        ),
     }
 }

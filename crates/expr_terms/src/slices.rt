@@ -18,17 +18,17 @@ ghost use Rattle.expr_terms.specs.Answers.{resolved};
 ghost use Rattle.expr_terms.specs.Slices.{lowBits, unboundThen, sliceRead, constBytes, sliceConst, sliceRange, sliceBits};
 
 // So many bits of a number, from a bit on.
-fn low_bits(x: u64, from: u64, bits: u64) -> u64
+fn low_bits(number: u64, from: u64, bits: u64) -> u64
     requires { ⌜ from < 64 ⌝ }
-    ensures { λ r. ⌜ r ≡ lowBits x from bits ⌝ }
+    ensures { λ r. ⌜ r ≡ lowBits number from bits ⌝ }
 {
-    x >> from & access::mask(bits)
+    number >> from & access::mask(bits)
 }
 
-fn unbound_then(r: Read, next: usize) -> Expr
-    ensures { λ x. ⌜ x ≡ unboundThen next r ⌝ }
+fn unbound_then(answer: Read, next: usize) -> Expr
+    ensures { λ x. ⌜ x ≡ unboundThen next answer ⌝ }
 {
-    match r {
+    match answer {
         Read::No(n) => Expr::No(n),
         Read::Value { v, st } => Expr::Value {
             x: ExprValue::Unbound(v),
@@ -39,23 +39,35 @@ fn unbound_then(r: Read, next: usize) -> Expr
 }
 
 fn slice_read(
-    s: &[u8],
-    t: &[u16; table::LENGTH],
-    a: &mut [u64],
-    m: &mut [u64],
-    e: Env,
-    x: ExprValue,
+    stream: &[u8],
+    table: &[u16; table::LENGTH],
+    actions: &mut [u64],
+    temporaries: &mut [u64],
+    env: Env,
+    expr: ExprValue,
     from: u64,
     bits: u64,
     next: usize,
-    st: State,
+    state: State,
 ) -> Expr
-    ensures { λ r. ⌜ resolved r (now (a .exit)) (now (m .exit)) ≡ sliceRead (now (s .entry)) (now (t .entry)) (now (a .entry)) (now (m .entry)) e x from bits next st ⌝ }
+    ensures { λ r. ⌜ resolved r (now (actions .exit)) (now (temporaries .exit)) ≡ sliceRead (now (stream .entry)) (now (table .entry)) (now (actions .entry)) (now (temporaries .entry)) env expr from bits next state ⌝ }
 {
-    match read_operand(s, t, a, m, e, x, st) {
+    match read_operand(stream, table, actions, temporaries, env, expr, state) {
         Read::No(n) => Expr::No(n),
         Read::Value { v, st: read } => unbound_then(
-            read_slice(s, t, a, m, e, v, from, bits, false, absent(), read),
+            read_slice(
+                stream,
+                table,
+                actions,
+                temporaries,
+                env,
+                v,
+                from,
+                bits,
+                false,
+                absent(),
+                read,
+            ),
             next,
         ),
     }
@@ -68,8 +80,8 @@ fn const_bytes(size: u64) -> u64
     if size == NONE { 8 } else { size % 65536 }
 }
 
-fn slice_const(value: u64, size: u64, from: u64, bits: u64, next: usize, st: State) -> Expr
-    ensures { λ r. ⌜ r ≡ sliceConst value size from bits next st ⌝ }
+fn slice_const(value: u64, size: u64, from: u64, bits: u64, next: usize, state: State) -> Expr
+    ensures { λ r. ⌜ r ≡ sliceConst value size from bits next state ⌝ }
 {
     if 8 * const_bytes(size) < from % 65536 + bits % 65536 {
         return Expr::No(refusal::SLICE_PAST_END);
@@ -83,61 +95,72 @@ fn slice_const(value: u64, size: u64, from: u64, bits: u64, next: usize, st: Sta
             size: needed_bytes(bits),
         },
         next,
-        st,
+        st: state,
     }
 }
 
 fn slice_range(
-    v: Value,
+    value: Value,
     before: u64,
     whole: u64,
     from: u64,
     bits: u64,
     next: usize,
-    st: State,
+    state: State,
 ) -> Expr
-    ensures { λ r. ⌜ r ≡ sliceRange v before whole from bits next st ⌝ }
+    ensures { λ r. ⌜ r ≡ sliceRange value before whole from bits next state ⌝ }
 {
     if whole < from % 65536 + bits % 65536 {
         return Expr::No(refusal::SLICE_PAST_END);
     }
     Expr::Value {
         x: ExprValue::BitRange {
-            v,
+            v: value,
             from: before % 65536 + from % 65536,
             bits,
         },
         next,
-        st,
+        st: state,
     }
 }
 
 pub fn slice_bits(
-    s: &[u8],
-    t: &[u16; table::LENGTH],
-    a: &mut [u64],
-    m: &mut [u64],
-    e: Env,
-    x: ExprValue,
+    stream: &[u8],
+    table: &[u16; table::LENGTH],
+    actions: &mut [u64],
+    temporaries: &mut [u64],
+    env: Env,
+    expr: ExprValue,
     from: u64,
     bits: u64,
     next: usize,
-    st: State,
+    state: State,
 ) -> Expr
-    ensures { λ r. ⌜ resolved r (now (a .exit)) (now (m .exit)) ≡ sliceBits (now (s .entry)) (now (t .entry)) (now (a .entry)) (now (m .entry)) e x from bits next st ⌝ }
+    ensures { λ r. ⌜ resolved r (now (actions .exit)) (now (temporaries .exit)) ≡ sliceBits (now (stream .entry)) (now (table .entry)) (now (actions .entry)) (now (temporaries .entry)) env expr from bits next state ⌝ }
 {
-    match x {
+    match expr {
         ExprValue::Local(v) => Expr::Value {
             x: ExprValue::BitRange { v, from, bits },
             next,
-            st,
+            st: state,
         },
-        ExprValue::Const { value, size } => slice_const(value, size, from, bits, next, st),
+        ExprValue::Const { value, size } => slice_const(value, size, from, bits, next, state),
         ExprValue::BitRange {
             v,
             from: before,
             bits: whole,
-        } => slice_range(v, before, whole, from, bits, next, st),
-        _ => slice_read(s, t, a, m, e, x, from, bits, next, st),
+        } => slice_range(v, before, whole, from, bits, next, state),
+        _ => slice_read(
+            stream,
+            table,
+            actions,
+            temporaries,
+            env,
+            expr,
+            from,
+            bits,
+            next,
+            state,
+        ),
     }
 }

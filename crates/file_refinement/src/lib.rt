@@ -1,1 +1,1 @@
-// Theorems alone: what `section` computes is the definition's section and refusal.
+// Theorems alone: what `file_blocks`, `file_syntax` and `file_section` compute is the definition's section and refusal.

@@ -15,35 +15,35 @@ pub const CHAINS: usize = 1280;
 // What the hash of the name at p is made of: the four bytes up to its last letter (of three letters, with the length byte),
 // or of a name of fewer letters its length, first letter and last letter. A name whose last letter is 0, as that of one is
 // which the stream's end cuts, is taken like a short one, so that the four bytes always lie inside the stream.
-fn key(s: &[u8], p: usize) -> u64
-    ensures { λ r. ⌜ (r ≡ key (now (s .entry)) p) × (r < 4294967296) × (getD (now (s .entry)) p 0 < 256) ⌝ }
+fn key(stream: &[u8], at: usize) -> u64
+    ensures { λ r. ⌜ (r ≡ key (now (stream .entry)) at) × (r < 4294967296) × (getD (now (stream .entry)) at 0 < 256) ⌝ }
 {
-    let l = access::byte(s, p, 0) as usize;
-    let z = access::byte(s, p, l);
+    let l = access::byte(stream, at, 0) as usize;
+    let z = access::byte(stream, at, l);
     if (l < 3) | (z == 0) {
-        return access::u16_at(s, p) + 65536 * z;
+        return access::u16_at(stream, at) + 65536 * z;
     }
-    four(s, p + (l - 3))
+    four(stream, at + (l - 3))
 }
 
-fn spread(w: u64) -> usize
-    requires { ⌜ w < 4294967296 ⌝ }
-    ensures { λ r. ⌜ (r ≡ spread w) × (r < 256) ⌝ }
+fn spread(word: u64) -> usize
+    requires { ⌜ word < 4294967296 ⌝ }
+    ensures { λ r. ⌜ (r ≡ spread word) × (r < 256) ⌝ }
 {
-    (w * 2654435761 / 16777216 % 256) as usize
+    (word * 2654435761 / 16777216 % 256) as usize
 }
 
-pub fn hash(s: &[u8], p: usize) -> usize
-    ensures { λ r. ⌜ Hashed (now (s .entry)) p r ⌝ }
+pub fn hash(stream: &[u8], at: usize) -> usize
+    ensures { λ r. ⌜ Hashed (now (stream .entry)) at r ⌝ }
 {
-    spread(key(s, p))
+    spread(key(stream, at))
 }
 
 // Name i put on the chain of the hash h.
-pub fn link(h: usize, i: usize, k: &mut [u16])
-    requires { ⌜ (h < 256) × (i < 1024) ⌝ }
-    ensures { λ _. ⌜ now (k .exit) ≡ link h i (now (k .entry)) ⌝ }
+pub fn link(chain: usize, index: usize, chains: &mut [u16])
+    requires { ⌜ (chain < 256) × (index < 1024) ⌝ }
+    ensures { λ _. ⌜ now (chains .exit) ≡ link chain index (now (chains .entry)) ⌝ }
 {
-    access::put_u16(k, i, access::get_u16(k, LAST + h));
-    access::put_u16(k, LAST + h, low(i + 1));
+    access::put_u16(chains, index, access::get_u16(chains, LAST + chain));
+    access::put_u16(chains, LAST + chain, low(index + 1));
 }

@@ -25,53 +25,53 @@ const SUBTABLES: u64 = 33;
 const STATEMENTS: u64 = 1025;
 
 // Rule set, names and the counts of the globals.
-fn global_counts(s: &[u8], c: Cursor) -> Cursor
-    ensures { λ r. ⌜ r ≡ globalCounts (now (s .entry)) c ⌝ }
+fn global_counts(stream: &[u8], cursor: Cursor) -> Cursor
+    ensures { λ r. ⌜ r ≡ globalCounts (now (stream .entry)) cursor ⌝ }
 {
-    let rule_set = u16_below(s, RULE_SETS, refusal::OUTSIDE_LIMIT, c);
-    let names = u16_below(s, NAMES, refusal::OUTSIDE_LIMIT, rule_set);
-    let spaces = u16_below(s, SPACES, refusal::OUTSIDE_LIMIT, names);
-    let registers = u16_below(s, NAMES, refusal::OUTSIDE_LIMIT, spaces);
-    let bit_ranges = u16_below(s, NAMES, refusal::OUTSIDE_LIMIT, registers);
-    let tables = u16_below(s, TABLES, refusal::OUTSIDE_LIMIT, bit_ranges);
-    let user_ops = u16_below(s, TABLES, refusal::OUTSIDE_LIMIT, tables);
-    let macros = u16_below(s, MACROS, refusal::OUTSIDE_LIMIT, user_ops);
-    u16_below(s, NAMES, refusal::OUTSIDE_LIMIT, macros)
+    let rule_set = u16_below(stream, RULE_SETS, refusal::OUTSIDE_LIMIT, cursor);
+    let names = u16_below(stream, NAMES, refusal::OUTSIDE_LIMIT, rule_set);
+    let spaces = u16_below(stream, SPACES, refusal::OUTSIDE_LIMIT, names);
+    let registers = u16_below(stream, NAMES, refusal::OUTSIDE_LIMIT, spaces);
+    let bit_ranges = u16_below(stream, NAMES, refusal::OUTSIDE_LIMIT, registers);
+    let tables = u16_below(stream, TABLES, refusal::OUTSIDE_LIMIT, bit_ranges);
+    let user_ops = u16_below(stream, TABLES, refusal::OUTSIDE_LIMIT, tables);
+    let macros = u16_below(stream, MACROS, refusal::OUTSIDE_LIMIT, user_ops);
+    u16_below(stream, NAMES, refusal::OUTSIDE_LIMIT, macros)
 }
 
 // The counts of fields, subtables and statements.
-fn counts(s: &[u8], c: Cursor) -> Cursor
-    ensures { λ r. ⌜ r ≡ counts (now (s .entry)) c ⌝ }
+fn counts(stream: &[u8], cursor: Cursor) -> Cursor
+    ensures { λ r. ⌜ r ≡ counts (now (stream .entry)) cursor ⌝ }
 {
-    let fields = u16_below(s, FIELDS, refusal::OUTSIDE_LIMIT, c);
-    let subtables = u16_below(s, SUBTABLES, refusal::OUTSIDE_LIMIT, fields);
-    u16_below(s, STATEMENTS, refusal::OUTSIDE_LIMIT, subtables)
+    let fields = u16_below(stream, FIELDS, refusal::OUTSIDE_LIMIT, cursor);
+    let subtables = u16_below(stream, SUBTABLES, refusal::OUTSIDE_LIMIT, fields);
+    u16_below(stream, STATEMENTS, refusal::OUTSIDE_LIMIT, subtables)
 }
 
 // The default space, and the names of inst_start, inst_next, const and the delay slot.
-fn roles(s: &[u8], c: Cursor) -> Cursor
-    ensures { λ r. ⌜ r ≡ roles (now (s .entry)) c ⌝ }
+fn roles(stream: &[u8], cursor: Cursor) -> Cursor
+    ensures { λ r. ⌜ r ≡ roles (now (stream .entry)) cursor ⌝ }
 {
-    let m = access::u16_at(s, codes::header::NAMES);
+    let m = access::u16_at(stream, codes::header::NAMES);
     let default_space = u16_or(
-        s,
-        access::u16_at(s, codes::header::SPACES),
+        stream,
+        access::u16_at(stream, codes::header::SPACES),
         refusal::NAMES_NOTHING,
-        c,
+        cursor,
     );
-    let inst_start = name(s, m, default_space);
-    let inst_next = name(s, m, inst_start);
-    let constant = name(s, m, inst_next);
-    name(s, m, constant)
+    let inst_start = name(stream, m, default_space);
+    let inst_next = name(stream, m, inst_start);
+    let constant = name(stream, m, inst_next);
+    name(stream, m, constant)
 }
 
-pub fn header(s: &[u8]) -> Cursor
-    ensures { λ r. ⌜ r ≡ header (now (s .entry)) ⌝ }
+pub fn header(stream: &[u8]) -> Cursor
+    ensures { λ r. ⌜ r ≡ header (now (stream .entry)) ⌝ }
 {
     let start = Cursor {
         at: 0,
         bad: 0,
         val: 0,
     };
-    roles(s, counts(s, global_counts(s, start)))
+    roles(stream, counts(stream, global_counts(stream, start)))
 }

@@ -29,35 +29,40 @@ mod names;
 mod zeros;
 
 // The section's own statements, and the end.
-fn own_statements(s: &[u8], c: Cursor, t: &mut [u16]) -> Cursor
-    ensures { λ r. ⌜ reading r (now (t .exit)) ≡ statements (now (s .entry)) (reading c (now (t .entry))) ⌝ }
+fn own_statements(stream: &[u8], cursor: Cursor, table: &mut [u16]) -> Cursor
+    ensures { λ r. ⌜ reading r (now (table .exit)) ≡ statements (now (stream .entry)) (reading cursor (now (table .entry))) ⌝ }
 {
-    access::put_u16(t, table::STATEMENTS, low(c.at));
+    access::put_u16(table, table::STATEMENTS, low(cursor.at));
     tail(
-        s,
+        stream,
         body(
-            s,
-            access::u16_at(s, codes::header::NAMES),
-            access::u16_at(s, codes::header::STATEMENTS),
-            c,
+            stream,
+            access::u16_at(stream, codes::header::NAMES),
+            access::u16_at(stream, codes::header::STATEMENTS),
+            cursor,
         ),
     )
 }
 
 // The refusal of a stream, or 0, and the table.
-pub fn read_stream(s: &[u8], t: &mut [u16; table::LENGTH]) -> u64
-    ensures { λ r. ⌜ answer r (now (t .exit)) ≡ readStream (now (s .entry)) (now (t .entry)) ⌝ }
+pub fn read_stream(stream: &[u8], table: &mut [u16; table::LENGTH]) -> u64
+    ensures { λ r. ⌜ answer r (now (table .exit)) ≡ readStream (now (stream .entry)) (now (table .entry)) ⌝ }
 {
     // Called from two places, the header is not compiled into what follows, which is faster without it.
-    if s.len() < codes::header::LENGTH {
-        return header(s).bad;
+    if stream.len() < codes::header::LENGTH {
+        return header(stream).bad;
     }
-    let h = header(s);
+    let h = header(stream);
     if h.bad != 0 {
         return h.bad;
     }
-    let named = names(s, access::u16_at(s, codes::header::NAMES) as usize, h, t);
-    let listed = lists(s, named, t);
-    let end = own_statements(s, listed, t);
+    let named = names(
+        stream,
+        access::u16_at(stream, codes::header::NAMES) as usize,
+        h,
+        table,
+    );
+    let listed = lists(stream, named, table);
+    let end = own_statements(stream, listed, table);
     end.bad
 }

@@ -27,152 +27,152 @@ const FIELDS: u64 = 7;
 const STATEMENTS: u64 = 1025;
 
 // Where list k marks a name.
-fn slot(k: u64, name: u64) -> usize
-    ensures { λ r. ⌜ r ≡ slot k name ⌝ }
+fn slot(kind: u64, name: u64) -> usize
+    ensures { λ r. ⌜ r ≡ slot kind name ⌝ }
 {
-    if k < FIELDS {
+    if kind < FIELDS {
         return table::GLOBALS + (name % 65536) as usize;
     }
     table::LOCALS + (name % 65536) as usize
 }
 
 // What list k marks the name of its entry i with.
-fn stamp(k: u64, i: u64) -> u16
-    requires { ⌜ (k < 9) × (i < 65536) ⌝ }
-    ensures { λ r. ⌜ r ≡ stamp k i ⌝ }
+fn stamp(kind: u64, index: u64) -> u16
+    requires { ⌜ (kind < 9) × (index < 65536) ⌝ }
+    ensures { λ r. ⌜ r ≡ stamp kind index ⌝ }
 {
-    if k < FIELDS {
-        return ((1 + k + 8 * i) % 65536) as u16;
+    if kind < FIELDS {
+        return ((1 + kind + 8 * index) % 65536) as u16;
     }
-    ((k - 6 + 2 * i) % 65536) as u16
+    ((kind - 6 + 2 * index) % 65536) as u16
 }
 
-fn mark(at: usize, v: u16, c: Cursor, t: &mut [u16]) -> Cursor
-    ensures { λ r. ⌜ reading r (now (t .exit)) ≡ mark at v (reading c (now (t .entry))) ⌝ }
+fn mark(at: usize, value: u16, cursor: Cursor, table: &mut [u16]) -> Cursor
+    ensures { λ r. ⌜ reading r (now (table .exit)) ≡ mark at value (reading cursor (now (table .entry))) ⌝ }
 {
-    if c.bad != 0 {
-        return c;
+    if cursor.bad != 0 {
+        return cursor;
     }
-    if access::get_u16(t, at) != 0 {
-        return refuse(refusal::SPELLED_TWICE, c);
+    if access::get_u16(table, at) != 0 {
+        return refuse(refusal::SPELLED_TWICE, cursor);
     }
-    access::put_u16(t, at, v);
-    c
+    access::put_u16(table, at, value);
+    cursor
 }
 
 // What follows the name in an entry of list k that is no macro.
-fn after(k: u64, s: &[u8], c: Cursor) -> Cursor
-    ensures { λ r. ⌜ r ≡ after k (now (s .entry)) c ⌝ }
+fn after(kind: u64, stream: &[u8], cursor: Cursor) -> Cursor
+    ensures { λ r. ⌜ r ≡ after kind (now (stream .entry)) cursor ⌝ }
 {
-    match k {
-        symbol_kind::SPACE => size(s, code(s, 3, c)),
-        symbol_kind::REGISTER => size(s, c),
+    match kind {
+        symbol_kind::SPACE => size(stream, code(stream, 3, cursor)),
+        symbol_kind::REGISTER => size(stream, cursor),
         symbol_kind::BIT_RANGE => bits(
-            s,
+            stream,
             u16_below(
-                s,
-                access::u16_at(s, header::REGISTERS),
+                stream,
+                access::u16_at(stream, header::REGISTERS),
                 refusal::NAMES_NOTHING,
-                c,
+                cursor,
             ),
         ),
-        symbol_kind::TABLE => size_or(s, c),
-        symbol_kind::USER_OP => c,
-        symbol_kind::MACRO => c,
-        symbol_kind::OTHER => c,
-        FIELDS => size_or(s, c),
+        symbol_kind::TABLE => size_or(stream, cursor),
+        symbol_kind::USER_OP => cursor,
+        symbol_kind::MACRO => cursor,
+        symbol_kind::OTHER => cursor,
+        FIELDS => size_or(stream, cursor),
         _ => u16_below(
-            s,
-            access::u16_at(s, header::TABLES),
+            stream,
+            access::u16_at(stream, header::TABLES),
             refusal::NAMES_NOTHING,
-            c,
+            cursor,
         ),
     }
 }
 
 // As many names as the cursor's number says.
-fn params(s: &[u8], m: u64, c: Cursor) -> Cursor
-    ensures { λ r. ⌜ r ≡ params (now (s .entry)) m c ⌝ }
+fn params(stream: &[u8], names: u64, cursor: Cursor) -> Cursor
+    ensures { λ r. ⌜ r ≡ params (now (stream .entry)) names cursor ⌝ }
 {
-    let n = c.val;
-    let mut c = c;
+    let n = cursor.val;
+    let mut cursor = cursor;
     for i in 0..n {
-        c = name(s, m, c);
+        cursor = name(stream, names, cursor);
     }
-    c
+    cursor
 }
 
 // A macro's parameters and its count of statements.
-fn macro_head(s: &[u8], m: u64, c: Cursor) -> Cursor
-    ensures { λ r. ⌜ r ≡ macroHead (now (s .entry)) m c ⌝ }
+fn macro_head(stream: &[u8], names: u64, cursor: Cursor) -> Cursor
+    ensures { λ r. ⌜ r ≡ macroHead (now (stream .entry)) names cursor ⌝ }
 {
     u16_below(
-        s,
+        stream,
         STATEMENTS,
         refusal::OUTSIDE_LIMIT,
-        params(s, m, small_count(s, c)),
+        params(stream, names, small_count(stream, cursor)),
     )
 }
 
 // Where macro i stands, its first ordinal, and the next free ordinal after its n statements.
-fn note_macro(i: usize, at: usize, n: u64, t: &mut [u16])
-    requires { ⌜ i < 65536 ⌝ }
-    ensures { λ _. ⌜ now (t .exit) ≡ noted i at n (now (t .entry)) ⌝ }
+fn note_macro(index: usize, at: usize, count: u64, table: &mut [u16])
+    requires { ⌜ index < 65536 ⌝ }
+    ensures { λ _. ⌜ now (table .exit) ≡ noted index at count (now (table .entry)) ⌝ }
 {
-    let first = access::get_u16(t, table::FIRST_ORDINAL);
-    access::put_u16(t, table::MACROS + i, low(at));
-    access::put_u16(t, table::MACRO_ORDINALS + i, first);
+    let first = access::get_u16(table, table::FIRST_ORDINAL);
+    access::put_u16(table, table::MACROS + index, low(at));
+    access::put_u16(table, table::MACRO_ORDINALS + index, first);
     access::put_u16(
-        t,
+        table,
         table::FIRST_ORDINAL,
-        low(first as usize + (n % 65536) as usize),
+        low(first as usize + (count % 65536) as usize),
     );
 }
 
-fn macro_entry(s: &[u8], m: u64, i: usize, c: Cursor, t: &mut [u16]) -> Cursor
-    requires { ⌜ i < 65536 ⌝ }
-    ensures { λ r. ⌜ reading r (now (t .exit)) ≡ macro (now (s .entry)) m i (reading c (now (t .entry))) ⌝ }
+fn macro_entry(stream: &[u8], names: u64, index: usize, cursor: Cursor, table: &mut [u16]) -> Cursor
+    requires { ⌜ index < 65536 ⌝ }
+    ensures { λ r. ⌜ reading r (now (table .exit)) ≡ macro (now (stream .entry)) names index (reading cursor (now (table .entry))) ⌝ }
 {
-    let h = macro_head(s, m, c);
-    note_macro(i, c.at, h.val, t);
-    body(s, m, h.val, h)
+    let h = macro_head(stream, names, cursor);
+    note_macro(index, cursor.at, h.val, table);
+    body(stream, names, h.val, h)
 }
 
 // Entry i of list k.
-fn entry(k: u64, s: &[u8], i: usize, c: Cursor, t: &mut [u16]) -> Cursor
-    requires { ⌜ (k < 9) × (i < 65536) ⌝ }
-    ensures { λ r. ⌜ reading r (now (t .exit)) ≡ entry k (now (s .entry)) i (reading c (now (t .entry))) ⌝ }
+fn entry(kind: u64, stream: &[u8], index: usize, cursor: Cursor, table: &mut [u16]) -> Cursor
+    requires { ⌜ (kind < 9) × (index < 65536) ⌝ }
+    ensures { λ r. ⌜ reading r (now (table .exit)) ≡ entry kind (now (stream .entry)) index (reading cursor (now (table .entry))) ⌝ }
 {
-    let m = access::u16_at(s, header::NAMES);
-    let v = name(s, m, c);
-    let g = mark(slot(k, v.val), stamp(k, i as u64), v, t);
-    if k == symbol_kind::MACRO {
-        return macro_entry(s, m, i, g, t);
+    let m = access::u16_at(stream, header::NAMES);
+    let v = name(stream, m, cursor);
+    let g = mark(slot(kind, v.val), stamp(kind, index as u64), v, table);
+    if kind == symbol_kind::MACRO {
+        return macro_entry(stream, m, index, g, table);
     }
-    after(k, s, g)
+    after(kind, stream, g)
 }
 
 // List k, whose count stands in the header.
-fn list(k: usize, s: &[u8], c: Cursor, t: &mut [u16]) -> Cursor
-    requires { ⌜ k < 9 ⌝ }
-    ensures { λ r. ⌜ reading r (now (t .exit)) ≡ list (now (s .entry)) k (reading c (now (t .entry))) ⌝ }
+fn list(kind: usize, stream: &[u8], cursor: Cursor, table: &mut [u16]) -> Cursor
+    requires { ⌜ kind < 9 ⌝ }
+    ensures { λ r. ⌜ reading r (now (table .exit)) ≡ list (now (stream .entry)) kind (reading cursor (now (table .entry))) ⌝ }
 {
-    access::put_u16(t, table::LISTS + k, low(c.at));
-    let n = access::u16_at(s, header::SPACES + 2 * k) as usize;
-    let mut c = c;
+    access::put_u16(table, table::LISTS + kind, low(cursor.at));
+    let n = access::u16_at(stream, header::SPACES + 2 * kind) as usize;
+    let mut cursor = cursor;
     for i in 0..n {
-        c = entry(k as u64, s, i, c, t);
+        cursor = entry(kind as u64, stream, i, cursor, table);
     }
-    c
+    cursor
 }
 
 // The nine lists from spaces to subtables.
-pub fn lists(s: &[u8], c: Cursor, t: &mut [u16]) -> Cursor
-    ensures { λ r. ⌜ reading r (now (t .exit)) ≡ lists (now (s .entry)) (reading c (now (t .entry))) ⌝ }
+pub fn lists(stream: &[u8], cursor: Cursor, table: &mut [u16]) -> Cursor
+    ensures { λ r. ⌜ reading r (now (table .exit)) ≡ lists (now (stream .entry)) (reading cursor (now (table .entry))) ⌝ }
 {
-    let mut c = c;
+    let mut cursor = cursor;
     for k in 0..9 {
-        c = list(k, s, c, t);
+        cursor = list(k, stream, cursor, table);
     }
-    c
+    cursor
 }

@@ -18,13 +18,13 @@ ghost use Rattle.file_section.specs.Chains.{Hashed, Linked};
 const LETTERS: u64 = 25;
 
 // Bytes 2 up to n of two places.
-fn rest_alike(s: &[u8], a: usize, b: usize, n: u64) -> bool
-    requires { ⌜ n < 256 ⌝ }
-    ensures { λ r. ⌜ r ≡ restAlike (now (s .entry)) a b n ⌝ }
+fn rest_alike(stream: &[u8], place: usize, other: usize, count: u64) -> bool
+    requires { ⌜ count < 256 ⌝ }
+    ensures { λ r. ⌜ r ≡ restAlike (now (stream .entry)) place other count ⌝ }
 {
     let mut i: usize = 2;
-    while i <= n as usize {
-        if access::byte(s, a, i) != access::byte(s, b, i) {
+    while i <= count as usize {
+        if access::byte(stream, place, i) != access::byte(stream, other, i) {
             return false;
         }
         i += 1;
@@ -33,103 +33,133 @@ fn rest_alike(s: &[u8], a: usize, b: usize, n: u64) -> bool
 }
 
 // Whether the names at two places, each a length byte and its bytes, are spelled alike.
-fn alike(s: &[u8], a: usize, b: usize) -> bool
-    ensures { λ r. ⌜ r ≡ alike (now (s .entry)) a b ⌝ }
+fn alike(stream: &[u8], place: usize, other: usize) -> bool
+    ensures { λ r. ⌜ r ≡ alike (now (stream .entry)) place other ⌝ }
 {
-    if access::u16_at(s, a) != access::u16_at(s, b) {
+    if access::u16_at(stream, place) != access::u16_at(stream, other) {
         return false;
     }
-    rest_alike(s, a, b, access::byte(s, a, 0))
+    rest_alike(stream, place, other, access::byte(stream, place, 0))
 }
 
-pub fn place(x: u16) -> usize
-    ensures { λ r. ⌜ r ≡ x ⌝ }
+pub fn place(number: u16) -> usize
+    ensures { λ r. ⌜ r ≡ number ⌝ }
 {
-    x as usize
+    number as usize
 }
 
 // A place in the stream, which has fewer than 65,536 bytes.
-pub fn low(x: usize) -> u16
-    ensures { λ r. ⌜ r ≡ x % 65536 ⌝ }
+pub fn low(place: usize) -> u16
+    ensures { λ r. ⌜ r ≡ place % 65536 ⌝ }
 {
-    (x % 65536) as u16
+    (place % 65536) as u16
 }
 
 // Whether one of the first n names is spelled as the one at p, whose hash is h.
-fn known(s: &[u8], t: &[u16], k: &[u16], p: usize, h: usize, n: usize) -> bool
-    requires { ⌜ Linked (now s) (now t) (now k) n × Hashed (now s) p h ⌝ }
-    ensures { λ r. ⌜ r ≡ known (now (s .entry)) (now (t .entry)) p n ⌝ }
+fn known(
+    stream: &[u8],
+    table: &[u16],
+    chains: &[u16],
+    at: usize,
+    chain: usize,
+    count: usize,
+) -> bool
+    requires { ⌜ Linked (now stream) (now table) (now chains) count × Hashed (now stream) at chain ⌝ }
+    ensures { λ r. ⌜ r ≡ known (now (stream .entry)) (now (table .entry)) at count ⌝ }
 {
-    let mut j = place(access::get_u16(k, LAST + h));
+    let mut j = place(access::get_u16(chains, LAST + chain));
     while 0 < j {
         let i = j - 1;
-        if alike(s, p, place(access::get_u16(t, i))) {
+        if alike(stream, at, place(access::get_u16(table, i))) {
             return true;
         }
-        j = place(access::get_u16(k, i));
+        j = place(access::get_u16(chains, i));
     }
     false
 }
 
 // Name i: its length, 1 to 24, and its bytes.
-fn spelling(s: &[u8], t: &[u16], k: &[u16], i: usize, h: usize, c: Cursor) -> Cursor
-    requires { ⌜ Linked (now s) (now t) (now k) i × Hashed (now s) (c .at) h ⌝ }
-    ensures { λ r. ⌜ r ≡ spelling (now (s .entry)) (now (t .entry)) i c ⌝ }
+fn spelling(
+    stream: &[u8],
+    table: &[u16],
+    chains: &[u16],
+    index: usize,
+    chain: usize,
+    cursor: Cursor,
+) -> Cursor
+    requires { ⌜ Linked (now stream) (now table) (now chains) index × Hashed (now stream) (cursor .at) chain ⌝ }
+    ensures { λ r. ⌜ r ≡ spelling (now (stream .entry)) (now (table .entry)) index cursor ⌝ }
 {
-    let l = u8_below(s, LETTERS, refusal::OUTSIDE_LIMIT, c);
+    let l = u8_below(stream, LETTERS, refusal::OUTSIDE_LIMIT, cursor);
     if l.bad != 0 {
         return l;
     }
     if l.val == 0 {
         return refuse(refusal::OUTSIDE_LIMIT, l);
     }
-    let e = skip(s, l.val as usize, l);
+    let e = skip(stream, l.val as usize, l);
     if e.bad != 0 {
         return e;
     }
-    if known(s, t, k, c.at, h, i) {
+    if known(stream, table, chains, cursor.at, chain, index) {
         return refuse(refusal::SPELLED_TWICE, e);
     }
     e
 }
 
 // The hash of the name at q, given that of the name at p: the same place in a stream of fewer than 65,536 bytes.
-fn hash_at(s: &[u8], p: usize, h: usize, q: usize) -> usize
-    requires { ⌜ Hashed (now s) p h ⌝ }
-    ensures { λ r. ⌜ Hashed (now (s .entry)) q r ⌝ }
+fn hash_at(stream: &[u8], at: usize, chain: usize, other: usize) -> usize
+    requires { ⌜ Hashed (now stream) at chain ⌝ }
+    ensures { λ r. ⌜ Hashed (now (stream .entry)) other r ⌝ }
 {
-    if p == q { h } else { hash(s, q) }
+    if at == other {
+        chain
+    } else {
+        hash(stream, other)
+    }
 }
 
 // Name i, and where it begins. Its chain goes by what the table then has there, so that nothing is asked of a table's length.
-fn name_at(s: &[u8], i: usize, c: Cursor, t: &mut [u16], k: &mut [u16]) -> Cursor
-    requires { ⌜ (i < 1024) × Linked (now s) (now t) (now k) i ⌝ }
-    ensures { λ r. ⌜ (reading r (now (t .exit)) ≡ nameAt (now (s .entry)) i (reading c (now (t .entry)))) × Linked (now (s .entry)) (now (t .exit)) (now (k .exit)) (i + 1) ⌝ }
+fn name_at(
+    stream: &[u8],
+    index: usize,
+    cursor: Cursor,
+    table: &mut [u16],
+    chains: &mut [u16],
+) -> Cursor
+    requires { ⌜ (index < 1024) × Linked (now stream) (now table) (now chains) index ⌝ }
+    ensures { λ r. ⌜ (reading r (now (table .exit)) ≡ nameAt (now (stream .entry)) index (reading cursor (now (table .entry)))) × Linked (now (stream .entry)) (now (table .exit)) (now (chains .exit)) (index + 1) ⌝ }
 {
-    let h = hash(s, c.at);
-    let e = spelling(s, t, k, i, h, c);
-    access::put_u16(t, i, low(c.at));
-    let p = place(access::get_u16(t, i));
-    link(hash_at(s, c.at, h, p), i, k);
+    let h = hash(stream, cursor.at);
+    let e = spelling(stream, table, chains, index, h, cursor);
+    access::put_u16(table, index, low(cursor.at));
+    let p = place(access::get_u16(table, index));
+    link(hash_at(stream, cursor.at, h, p), index, chains);
     e
 }
 
 // The names, by chains that are empty at first.
-fn chained(s: &[u8], n: usize, c: Cursor, t: &mut [u16], k: &mut [u16; CHAINS]) -> Cursor
-    requires { ⌜ (n ≤ 1024) × Linked (now s) (now t) (now k) 0 ⌝ }
-    ensures { λ r. ⌜ reading r (now (t .exit)) ≡ names (now (s .entry)) n (reading c (now (t .entry))) ⌝ }
+fn chained(
+    stream: &[u8],
+    count: usize,
+    cursor: Cursor,
+    table: &mut [u16],
+    chains: &mut [u16; CHAINS],
+) -> Cursor
+    requires { ⌜ (count ≤ 1024) × Linked (now stream) (now table) (now chains) 0 ⌝ }
+    ensures { λ r. ⌜ reading r (now (table .exit)) ≡ names (now (stream .entry)) count (reading cursor (now (table .entry))) ⌝ }
 {
-    let mut c = c;
-    for i in 0..n {
-        c = name_at(s, i, c, t, k);
+    let mut cursor = cursor;
+    for i in 0..count {
+        cursor = name_at(stream, i, cursor, table, chains);
     }
-    c
+    cursor
 }
 
-pub fn names(s: &[u8], n: usize, c: Cursor, t: &mut [u16]) -> Cursor
-    requires { ⌜ n ≤ 1024 ⌝ }
-    ensures { λ r. ⌜ reading r (now (t .exit)) ≡ names (now (s .entry)) n (reading c (now (t .entry))) ⌝ }
+pub fn names(stream: &[u8], count: usize, cursor: Cursor, table: &mut [u16]) -> Cursor
+    requires { ⌜ count ≤ 1024 ⌝ }
+    ensures { λ r. ⌜ reading r (now (table .exit)) ≡ names (now (stream .entry)) count (reading cursor (now (table .entry))) ⌝ }
 {
     let mut k = [0u16; CHAINS];
-    chained(s, n, c, t, &mut k)
+    chained(stream, count, cursor, table, &mut k)
 }

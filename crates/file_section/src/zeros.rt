@@ -9,16 +9,16 @@ ghost use lib.ListN.{length};
 ghost use Rattle.file_section.specs.Stream.{zeros, tail};
 
 // From a place on: the place of the first eight bytes that are not all zero, or of the last seven.
-fn past_zeros(s: &[u8], from: usize) -> usize
-    ensures { λ r. ⌜ zeros (length (now (s .entry)) - r) r (now (s .entry)) ≡ zeros (length (now (s .entry)) - from) from (now (s .entry)) ⌝ }
+fn past_zeros(stream: &[u8], from: usize) -> usize
+    ensures { λ r. ⌜ zeros (length (now (stream .entry)) - r) r (now (stream .entry)) ≡ zeros (length (now (stream .entry)) - from) from (now (stream .entry)) ⌝ }
 {
-    let n = s.len();
+    let n = stream.len();
     if n < 8 {
         return from;
     }
     let mut i = from;
     while i < n - 7 {
-        if eight(s, i) != 0 {
+        if eight(stream, i) != 0 {
             return i;
         }
         i += 8;
@@ -27,15 +27,15 @@ fn past_zeros(s: &[u8], from: usize) -> usize
 }
 
 // The stream after the cursor is zero.
-pub fn tail(s: &[u8], c: Cursor) -> Cursor
-    ensures { λ r. ⌜ r ≡ tail (now (s .entry)) c ⌝ }
+pub fn tail(stream: &[u8], cursor: Cursor) -> Cursor
+    ensures { λ r. ⌜ r ≡ tail (now (stream .entry)) cursor ⌝ }
 {
-    let mut i = past_zeros(s, c.at);
-    while i < s.len() {
-        if s[i] != 0 {
-            return refuse(refusal::MALFORMED, c);
+    let mut i = past_zeros(stream, cursor.at);
+    while i < stream.len() {
+        if stream[i] != 0 {
+            return refuse(refusal::MALFORMED, cursor);
         }
         i += 1;
     }
-    c
+    cursor
 }

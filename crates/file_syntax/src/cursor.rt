@@ -19,64 +19,75 @@ pub struct Cursor {
     pub val: u64,
 }
 
-pub fn refuse(k: u64, c: Cursor) -> Cursor
-    ensures { λ r. ⌜ r ≡ refuse k c ⌝ }
+pub fn refuse(refusal: u64, cursor: Cursor) -> Cursor
+    ensures { λ r. ⌜ r ≡ refuse refusal cursor ⌝ }
 {
-    if c.bad != 0 {
-        return c;
+    if cursor.bad != 0 {
+        return cursor;
     }
     Cursor {
-        at: c.at,
-        bad: k,
+        at: cursor.at,
+        bad: refusal,
         val: 0,
     }
 }
 
 // The number v, which stands in the next n bytes of len: cut is 3, and lim or more is k.
-fn number(v: u64, n: usize, len: usize, lim: u64, k: u64, c: Cursor) -> Cursor
-    ensures { λ r. ⌜ r ≡ number v n len lim k c ⌝ }
+fn number(value: u64, count: usize, len: usize, limit: u64, refusal: u64, cursor: Cursor) -> Cursor
+    ensures { λ r. ⌜ r ≡ number value count len limit refusal cursor ⌝ }
 {
-    if c.bad != 0 {
-        return c;
+    if cursor.bad != 0 {
+        return cursor;
     }
-    if len < c.at {
-        return refuse(refusal::MALFORMED, c);
+    if len < cursor.at {
+        return refuse(refusal::MALFORMED, cursor);
     }
-    if len - c.at < n {
-        return refuse(refusal::MALFORMED, c);
+    if len - cursor.at < count {
+        return refuse(refusal::MALFORMED, cursor);
     }
-    if v < lim {
+    if value < limit {
         return Cursor {
-            at: c.at + n,
+            at: cursor.at + count,
             bad: 0,
-            val: v,
+            val: value,
         };
     }
-    refuse(k, c)
+    refuse(refusal, cursor)
 }
 
-pub fn u8_below(s: &[u8], lim: u64, k: u64, c: Cursor) -> Cursor
-    ensures { λ r. ⌜ r ≡ u8 (now (s .entry)) lim k c ⌝ }
+pub fn u8_below(stream: &[u8], limit: u64, refusal: u64, cursor: Cursor) -> Cursor
+    ensures { λ r. ⌜ r ≡ u8 (now (stream .entry)) limit refusal cursor ⌝ }
 {
-    number(access::byte(s, c.at, 0), 1, s.len(), lim, k, c)
+    number(
+        access::byte(stream, cursor.at, 0),
+        1,
+        stream.len(),
+        limit,
+        refusal,
+        cursor,
+    )
 }
 
 // Read at once inside the stream. A refused cursor, and one at the end, is left to `number`, which then asks for no number.
-pub fn u16_below(s: &[u8], lim: u64, k: u64, c: Cursor) -> Cursor
-    ensures { λ r. ⌜ r ≡ u16 (now (s .entry)) lim k c ⌝ }
+pub fn u16_below(stream: &[u8], limit: u64, refusal: u64, cursor: Cursor) -> Cursor
+    ensures { λ r. ⌜ r ≡ u16 (now (stream .entry)) limit refusal cursor ⌝ }
 {
-    let at = c.at;
-    if (at < s.len()) & (c.bad == 0) {
-        if 2 <= s.len() - at {
-            let v = two(s, at);
-            if v < lim {
+    let at = cursor.at;
+    if (at < stream.len()) & (cursor.bad == 0) {
+        if 2 <= stream.len() - at {
+            let v = two(stream, at);
+            if v < limit {
                 return Cursor {
                     at: at + 2,
                     bad: 0,
                     val: v,
                 };
             }
-            return Cursor { at, bad: k, val: 0 };
+            return Cursor {
+                at,
+                bad: refusal,
+                val: 0,
+            };
         }
         return Cursor {
             at,
@@ -84,72 +95,72 @@ pub fn u16_below(s: &[u8], lim: u64, k: u64, c: Cursor) -> Cursor
             val: 0,
         };
     }
-    number(0, 2, s.len(), lim, k, c)
+    number(0, 2, stream.len(), limit, refusal, cursor)
 }
 
 // The same, or 65,535, which stands for absent.
-pub fn u16_or(s: &[u8], lim: u64, k: u64, c: Cursor) -> Cursor
-    ensures { λ r. ⌜ r ≡ u16or (now (s .entry)) lim k c ⌝ }
+pub fn u16_or(stream: &[u8], limit: u64, refusal: u64, cursor: Cursor) -> Cursor
+    ensures { λ r. ⌜ r ≡ u16or (now (stream .entry)) limit refusal cursor ⌝ }
 {
-    if access::u16_at(s, c.at) == NONE {
-        return u16_below(s, 65536, k, c);
+    if access::u16_at(stream, cursor.at) == NONE {
+        return u16_below(stream, 65536, refusal, cursor);
     }
-    u16_below(s, lim, k, c)
+    u16_below(stream, limit, refusal, cursor)
 }
 
-pub fn skip(s: &[u8], n: usize, c: Cursor) -> Cursor
-    ensures { λ r. ⌜ r ≡ skip (now (s .entry)) n c ⌝ }
+pub fn skip(stream: &[u8], count: usize, cursor: Cursor) -> Cursor
+    ensures { λ r. ⌜ r ≡ skip (now (stream .entry)) count cursor ⌝ }
 {
-    number(0, n, s.len(), 1, 0, c)
+    number(0, count, stream.len(), 1, 0, cursor)
 }
 
 // One of n codes.
-pub fn code(s: &[u8], n: u64, c: Cursor) -> Cursor
-    ensures { λ r. ⌜ r ≡ code (now (s .entry)) n c ⌝ }
+pub fn code(stream: &[u8], count: u64, cursor: Cursor) -> Cursor
+    ensures { λ r. ⌜ r ≡ code (now (stream .entry)) count cursor ⌝ }
 {
-    u8_below(s, n, refusal::MALFORMED, c)
+    u8_below(stream, count, refusal::MALFORMED, cursor)
 }
 
 // A count of arguments or parameters.
-pub fn small_count(s: &[u8], c: Cursor) -> Cursor
-    ensures { λ r. ⌜ r ≡ smallCount (now (s .entry)) c ⌝ }
+pub fn small_count(stream: &[u8], cursor: Cursor) -> Cursor
+    ensures { λ r. ⌜ r ≡ smallCount (now (stream .entry)) cursor ⌝ }
 {
-    u8_below(s, 9, refusal::OUTSIDE_LIMIT, c)
+    u8_below(stream, 9, refusal::OUTSIDE_LIMIT, cursor)
 }
 
 // One of m names.
-pub fn name(s: &[u8], m: u64, c: Cursor) -> Cursor
-    ensures { λ r. ⌜ r ≡ name (now (s .entry)) m c ⌝ }
+pub fn name(stream: &[u8], names: u64, cursor: Cursor) -> Cursor
+    ensures { λ r. ⌜ r ≡ name (now (stream .entry)) names cursor ⌝ }
 {
-    u16_below(s, m, refusal::NAMES_NOTHING, c)
+    u16_below(stream, names, refusal::NAMES_NOTHING, cursor)
 }
 
-pub fn name_or(s: &[u8], m: u64, c: Cursor) -> Cursor
-    ensures { λ r. ⌜ r ≡ nameOr (now (s .entry)) m c ⌝ }
+pub fn name_or(stream: &[u8], names: u64, cursor: Cursor) -> Cursor
+    ensures { λ r. ⌜ r ≡ nameOr (now (stream .entry)) names cursor ⌝ }
 {
-    u16_or(s, m, refusal::NAMES_NOTHING, c)
+    u16_or(stream, names, refusal::NAMES_NOTHING, cursor)
 }
 
-pub fn size(s: &[u8], c: Cursor) -> Cursor
-    ensures { λ r. ⌜ r ≡ size (now (s .entry)) c ⌝ }
+pub fn size(stream: &[u8], cursor: Cursor) -> Cursor
+    ensures { λ r. ⌜ r ≡ size (now (stream .entry)) cursor ⌝ }
 {
-    u16_below(s, SIZES, refusal::OUTSIDE_LIMIT, c)
+    u16_below(stream, SIZES, refusal::OUTSIDE_LIMIT, cursor)
 }
 
-pub fn size_or(s: &[u8], c: Cursor) -> Cursor
-    ensures { λ r. ⌜ r ≡ sizeOr (now (s .entry)) c ⌝ }
+pub fn size_or(stream: &[u8], cursor: Cursor) -> Cursor
+    ensures { λ r. ⌜ r ≡ sizeOr (now (stream .entry)) cursor ⌝ }
 {
-    u16_or(s, SIZES, refusal::OUTSIDE_LIMIT, c)
+    u16_or(stream, SIZES, refusal::OUTSIDE_LIMIT, cursor)
 }
 
 // A first bit and a bit count.
-pub fn bits(s: &[u8], c: Cursor) -> Cursor
-    ensures { λ r. ⌜ r ≡ bits (now (s .entry)) c ⌝ }
+pub fn bits(stream: &[u8], cursor: Cursor) -> Cursor
+    ensures { λ r. ⌜ r ≡ bits (now (stream .entry)) cursor ⌝ }
 {
     u16_below(
-        s,
+        stream,
         BITS,
         refusal::OUTSIDE_LIMIT,
-        u16_below(s, BITS, refusal::OUTSIDE_LIMIT, c),
+        u16_below(stream, BITS, refusal::OUTSIDE_LIMIT, cursor),
     )
 }

@@ -23,32 +23,32 @@ const IDENT: u8 = 0;
 
 const INTEGER: u8 = 1;
 
-fn address_of(s: &[u8], m: u64, c: Cursor) -> Cursor
-    ensures { λ r. ⌜ r ≡ addressOf (now (s .entry)) m c ⌝ }
+fn address_of(stream: &[u8], names: u64, cursor: Cursor) -> Cursor
+    ensures { λ r. ⌜ r ≡ addressOf (now (stream .entry)) names cursor ⌝ }
 {
-    name(s, m, size_or(s, c))
+    name(stream, names, size_or(stream, cursor))
 }
 
 // The space and the size of a dereference or a store.
-pub fn space(s: &[u8], m: u64, c: Cursor) -> Cursor
-    ensures { λ r. ⌜ r ≡ space (now (s .entry)) m c ⌝ }
+pub fn space(stream: &[u8], names: u64, cursor: Cursor) -> Cursor
+    ensures { λ r. ⌜ r ≡ space (now (stream .entry)) names cursor ⌝ }
 {
-    size_or(s, name_or(s, m, c))
+    size_or(stream, name_or(stream, names, cursor))
 }
 
 // The name and the count of arguments of a call.
-pub fn call(s: &[u8], m: u64, c: Cursor) -> Cursor
-    ensures { λ r. ⌜ r ≡ call (now (s .entry)) m c ⌝ }
+pub fn call(stream: &[u8], names: u64, cursor: Cursor) -> Cursor
+    ensures { λ r. ⌜ r ≡ call (now (stream .entry)) names cursor ⌝ }
 {
-    small_count(s, name(s, m, c))
+    small_count(stream, name(stream, names, cursor))
 }
 
 // The integer at a place of the stream, after its code, which is 1.
-fn integer_here(s: &[u8], at: usize) -> Cursor
-    requires { ⌜ at ≤ length (now s) ⌝ }
-    ensures { λ r. ⌜ r ≡ skip (now (s .entry)) 8 (cursor at 0 1) ⌝ }
+fn integer_here(stream: &[u8], at: usize) -> Cursor
+    requires { ⌜ at ≤ length (now stream) ⌝ }
+    ensures { λ r. ⌜ r ≡ skip (now (stream .entry)) 8 (cursor at 0 1) ⌝ }
 {
-    if s.len() - at < 8 {
+    if stream.len() - at < 8 {
         return Cursor {
             at: at,
             bad: refusal::MALFORMED,
@@ -63,60 +63,65 @@ fn integer_here(s: &[u8], at: usize) -> Cursor
 }
 
 // An expression that is nested at most `depth` deep.
-pub fn expr(depth: u64, s: &[u8], m: u64, c: Cursor) -> Cursor
-    ensures { λ r. ⌜ r ≡ expr depth (now (s .entry)) m c ⌝ }
+pub fn expr(depth: u64, stream: &[u8], names: u64, cursor: Cursor) -> Cursor
+    ensures { λ r. ⌜ r ≡ expr depth (now (stream .entry)) names cursor ⌝ }
 {
-    if (c.bad == 0) & (depth != 0) {
-        let at = c.at;
-        if at < s.len() {
-            let kind = s[at];
+    if (cursor.bad == 0) & (depth != 0) {
+        let at = cursor.at;
+        if at < stream.len() {
+            let kind = stream[at];
             if kind == IDENT {
                 let named = Cursor {
                     at: at + 1,
                     bad: 0,
                     val: 0,
                 };
-                return name(s, m, named);
+                return name(stream, names, named);
             }
             if kind == INTEGER {
-                return integer_here(s, at + 1);
+                return integer_here(stream, at + 1);
             }
         }
     }
-    longer(depth, s, m, c)
+    longer(depth, stream, names, cursor)
 }
 
 // An expression of any kind, read by the cursor.
-fn longer(depth: u64, s: &[u8], m: u64, c: Cursor) -> Cursor
-    ensures { λ r. ⌜ r ≡ expr depth (now (s .entry)) m c ⌝ }
+fn longer(depth: u64, stream: &[u8], names: u64, cursor: Cursor) -> Cursor
+    ensures { λ r. ⌜ r ≡ expr depth (now (stream .entry)) names cursor ⌝ }
 {
-    let k = code(s, 9, c);
+    let k = code(stream, 9, cursor);
     if depth == 0 {
         return refuse(refusal::OUTSIDE_LIMIT, k);
     }
     let d = depth - 1;
     let kind = k.val;
     match kind {
-        expression::IDENT => name(s, m, k),
-        expression::INTEGER => skip(s, 8, k),
-        expression::ADDRESS_OF => address_of(s, m, k),
-        expression::TRUNCATE => size(s, expr(d, s, m, k)),
-        expression::SLICE_BITS => bits(s, expr(d, s, m, k)),
-        expression::OP => expr(d, s, m, code(s, 39, expr(d, s, m, k))),
-        expression::DEREF => expr(d, s, m, space(s, m, k)),
-        expression::CONSTANT_POOL_REF => exprs(d, s, m, small_count(s, k)),
-        _ => exprs(d, s, m, call(s, m, k)),
+        expression::IDENT => name(stream, names, k),
+        expression::INTEGER => skip(stream, 8, k),
+        expression::ADDRESS_OF => address_of(stream, names, k),
+        expression::TRUNCATE => size(stream, expr(d, stream, names, k)),
+        expression::SLICE_BITS => bits(stream, expr(d, stream, names, k)),
+        expression::OP => expr(
+            d,
+            stream,
+            names,
+            code(stream, 39, expr(d, stream, names, k)),
+        ),
+        expression::DEREF => expr(d, stream, names, space(stream, names, k)),
+        expression::CONSTANT_POOL_REF => exprs(d, stream, names, small_count(stream, k)),
+        _ => exprs(d, stream, names, call(stream, names, k)),
     }
 }
 
 // As many expressions as the cursor's number says.
-pub fn exprs(depth: u64, s: &[u8], m: u64, c: Cursor) -> Cursor
-    ensures { λ r. ⌜ r ≡ exprs depth (now (s .entry)) m c ⌝ }
+pub fn exprs(depth: u64, stream: &[u8], names: u64, cursor: Cursor) -> Cursor
+    ensures { λ r. ⌜ r ≡ exprs depth (now (stream .entry)) names cursor ⌝ }
 {
-    let n = c.val;
-    let mut c = c;
+    let n = cursor.val;
+    let mut cursor = cursor;
     for i in 0..n {
-        c = expr(depth, s, m, c);
+        cursor = expr(depth, stream, names, cursor);
     }
-    c
+    cursor
 }

@@ -16,56 +16,70 @@ ghost use Rattle.file_syntax.specs.Statements.{jumpLabel, branchDst, sta
 // How deep expressions are nested at most.
 const DEPTH: u64 = 32;
 
-fn jump_label(s: &[u8], m: u64, c: Cursor) -> Cursor
-    ensures { λ r. ⌜ r ≡ jumpLabel (now (s .entry)) m c ⌝ }
+fn jump_label(stream: &[u8], names: u64, cursor: Cursor) -> Cursor
+    ensures { λ r. ⌜ r ≡ jumpLabel (now (stream .entry)) names cursor ⌝ }
 {
-    let k = code(s, 2, c);
+    let k = code(stream, 2, cursor);
     let kind = k.val;
     match kind {
-        statement::JUMP_IDENT => name(s, m, k),
-        _ => size(s, skip(s, 8, k)),
+        statement::JUMP_IDENT => name(stream, names, k),
+        _ => size(stream, skip(stream, 8, k)),
     }
 }
 
-fn branch_dst(s: &[u8], m: u64, c: Cursor) -> Cursor
-    ensures { λ r. ⌜ r ≡ branchDst (now (s .entry)) m c ⌝ }
+fn branch_dst(stream: &[u8], names: u64, cursor: Cursor) -> Cursor
+    ensures { λ r. ⌜ r ≡ branchDst (now (stream .entry)) names cursor ⌝ }
 {
-    let k = code(s, 3, c);
+    let k = code(stream, 3, cursor);
     let kind = k.val;
     match kind {
-        statement::DST_DIRECT => jump_label(s, m, k),
-        1 => jump_label(s, m, k),
-        _ => name(s, m, k),
+        statement::DST_DIRECT => jump_label(stream, names, k),
+        1 => jump_label(stream, names, k),
+        _ => name(stream, names, k),
     }
 }
 
-pub fn statement(s: &[u8], m: u64, c: Cursor) -> Cursor
-    ensures { λ r. ⌜ r ≡ statement (now (s .entry)) m c ⌝ }
+pub fn statement(stream: &[u8], names: u64, cursor: Cursor) -> Cursor
+    ensures { λ r. ⌜ r ≡ statement (now (stream .entry)) names cursor ⌝ }
 {
-    let k = code(s, 11, c);
+    let k = code(stream, 11, cursor);
     let kind = k.val;
     match kind {
         statement::UNIMPLEMENTED => k,
-        statement::EXPORT => expr(DEPTH, s, m, k),
-        statement::LOCAL => size_or(s, name(s, m, k)),
-        statement::LOCAL_ASSIGNMENT => expr(DEPTH, s, m, size_or(s, name(s, m, k))),
-        statement::BUILD => name(s, m, k),
-        statement::COPY => expr(DEPTH, s, m, expr(DEPTH, s, m, k)),
-        statement::STORE => expr(DEPTH, s, m, expr(DEPTH, s, m, space(s, m, k))),
-        statement::CALL => exprs(DEPTH, s, m, call(s, m, k)),
-        statement::BRANCH => code(s, 3, branch_dst(s, m, k)),
-        statement::COND_BRANCH => code(s, 3, branch_dst(s, m, expr(DEPTH, s, m, k))),
-        _ => name(s, m, k),
+        statement::EXPORT => expr(DEPTH, stream, names, k),
+        statement::LOCAL => size_or(stream, name(stream, names, k)),
+        statement::LOCAL_ASSIGNMENT => expr(
+            DEPTH,
+            stream,
+            names,
+            size_or(stream, name(stream, names, k)),
+        ),
+        statement::BUILD => name(stream, names, k),
+        statement::COPY => expr(DEPTH, stream, names, expr(DEPTH, stream, names, k)),
+        statement::STORE => expr(
+            DEPTH,
+            stream,
+            names,
+            expr(DEPTH, stream, names, space(stream, names, k)),
+        ),
+        statement::CALL => exprs(DEPTH, stream, names, call(stream, names, k)),
+        statement::BRANCH => code(stream, 3, branch_dst(stream, names, k)),
+        statement::COND_BRANCH => code(
+            stream,
+            3,
+            branch_dst(stream, names, expr(DEPTH, stream, names, k)),
+        ),
+        _ => name(stream, names, k),
     }
 }
 
 // n statements.
-pub fn body(s: &[u8], m: u64, n: u64, c: Cursor) -> Cursor
-    ensures { λ r. ⌜ r ≡ body (now (s .entry)) m n c ⌝ }
+pub fn body(stream: &[u8], names: u64, count: u64, cursor: Cursor) -> Cursor
+    ensures { λ r. ⌜ r ≡ body (now (stream .entry)) names count cursor ⌝ }
 {
-    let mut c = c;
-    for i in 0..n {
-        c = statement(s, m, c);
+    let mut cursor = cursor;
+    for i in 0..count {
+        cursor = statement(stream, names, cursor);
     }
-    c
+    cursor
 }

@@ -6,28 +6,28 @@ use libc::STDIN_FILENO;
 use libc::STDOUT_FILENO;
 ghost use Prim.Native.Nat.{_<_};
 
-fn put(s: &mut [u8; 65537], i: usize, v: u8) {
-    if i < 65537 {
-        s[i] = v;
+fn put(file: &mut [u8; 65537], index: usize, value: u8) {
+    if index < 65537 {
+        file[index] = value;
     }
 }
 
-fn low(x: u64) -> u8 {
-    (x % 256) as u8
+fn low(number: u64) -> u8 {
+    (number % 256) as u8
 }
 
 // n further on, as long as that is in reach of the input.
-fn further(at: usize, n: u64) -> usize {
+fn further(at: usize, count: u64) -> usize {
     if at < 1000000 {
-        return at + (n % 1000000) as usize;
+        return at + (count % 1000000) as usize;
     }
     at
 }
 
 // Where byte p of the stream stands in the file.
-fn place(p: usize) -> usize {
-    let p = p % 65536;
-    p / 510 * 512 + p % 510
+fn place(number: usize) -> usize {
+    let number = number % 65536;
+    number / 510 * 512 + number % 510
 }
 
 // One run; where the next one begins.
@@ -45,9 +45,9 @@ fn run(input: &[u8], at: usize, file: &mut [u8; 65537]) -> usize {
     further(from, n)
 }
 
-fn runs(input: &[u8], at: usize, n: u64, file: &mut [u8; 65537]) -> usize {
+fn runs(input: &[u8], at: usize, count: u64, file: &mut [u8; 65537]) -> usize {
     let mut at = at;
-    for i in 0..n {
+    for i in 0..count {
         at = run(input, at, file);
     }
     at
@@ -62,10 +62,10 @@ fn sum(file: &[u8; 65537], from: usize) -> u64 {
 }
 
 // The right check of the first n blocks.
-fn seal(file: &mut [u8; 65537], n: usize)
-    requires { ⌜ n < 129 ⌝ }
+fn seal(file: &mut [u8; 65537], count: usize)
+    requires { ⌜ count < 129 ⌝ }
 {
-    for k in 0..n {
+    for k in 0..count {
         let total = (sum(file, 512 * k) % 65536 + k as u64) % 65536;
         put(file, 512 * k + 510, low(total));
         put(file, 512 * k + 511, low(total / 256));
@@ -99,23 +99,23 @@ fn checked(len: usize, checks: u64) -> usize
 }
 
 // The last of n bytes raised.
-fn raise(file: &mut [u8; 65537], n: usize, by: u64) {
-    if 0 < n {
-        let last = access::byte(file, n - 1, 0) + by % 256;
-        put(file, n - 1, low(last));
+fn raise(file: &mut [u8; 65537], count: usize, by: u64) {
+    if 0 < count {
+        let last = access::byte(file, count - 1, 0) + by % 256;
+        put(file, count - 1, low(last));
     }
 }
 
 // The refusal of the first n bytes, which are there.
-fn judge_first(bytes: &[u8], n: usize) -> u64 {
-    if n <= bytes.len() {
-        return judge(&bytes[..n]);
+fn judge_first(bytes: &[u8], count: usize) -> u64 {
+    if count <= bytes.len() {
+        return judge(&bytes[..count]);
     }
     0
 }
 
-fn judge_file(file: &[u8; 65537], n: usize) -> u64 {
-    judge_first(file, n)
+fn judge_file(file: &[u8; 65537], count: usize) -> u64 {
+    judge_first(file, count)
 }
 
 // The file of a description whose runs begin at a place, judged and written; where the next description begins.

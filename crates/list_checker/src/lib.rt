@@ -73,18 +73,18 @@ fn value_fits(number: u64, word: u64, sized: bool, temporaries: u64, subtables: 
 }
 
 // The inputs, at most 8, and zeros behind them.
-fn inputs_fit(a: &[u64], sized: bool, temporaries: u64, subtables: u64) -> bool
-    requires { ⌜ length (now a) ≡ 24 ⌝ }
-    ensures { λ r. ⌜ r ≡ inputsFit temporaries subtables sized (now (a .entry)) ⌝ }
+fn inputs_fit(action: &[u64], sized: bool, temporaries: u64, subtables: u64) -> bool
+    requires { ⌜ length (now action) ≡ 24 ⌝ }
+    ensures { λ r. ⌜ r ≡ inputsFit temporaries subtables sized (now (action .entry)) ⌝ }
 {
-    if a[action::INPUT_COUNT] > MOST_INPUTS {
+    if action[action::INPUT_COUNT] > MOST_INPUTS {
         return false;
     }
-    let n = a[action::INPUT_COUNT] as usize;
+    let n = action[action::INPUT_COUNT] as usize;
     for i in 0..n {
         if !value_fits(
-            a[action::INPUT_0 + 2 * i],
-            a[INPUT_0_WORD + 2 * i],
+            action[action::INPUT_0 + 2 * i],
+            action[INPUT_0_WORD + 2 * i],
             sized,
             temporaries,
             subtables,
@@ -93,7 +93,7 @@ fn inputs_fit(a: &[u64], sized: bool, temporaries: u64, subtables: u64) -> bool
         }
     }
     let end = action::INPUT_0 + 2 * n;
-    zeros(&a[end..])
+    zeros(&action[end..])
 }
 
 // An operation without output has 0 and 255; StoreRegister, DelaySlot and Build have zeros.
@@ -108,19 +108,19 @@ fn has_output(kind: u64, number: u64, word: u64) -> bool
 }
 
 // An operation's input count, output and number, and the rule of its sizes.
-fn operation_fits(a: &[u64], output: bool, pointer: u64) -> bool
-    requires { ⌜ length (now a) ≡ 24 ⌝ }
-    ensures { λ r. ⌜ r ≡ operationFit pointer output (now (a .entry)) ⌝ }
+fn operation_fits(action: &[u64], output: bool, pointer: u64) -> bool
+    requires { ⌜ length (now action) ≡ 24 ⌝ }
+    ensures { λ r. ⌜ r ≡ operationFit pointer output (now (action .entry)) ⌝ }
 {
-    let number = a[action::NUMBER];
-    let n = a[action::INPUT_COUNT];
-    let in0 = a[INPUT_0_WORD] / SIZE_PLACE;
-    let in1 = a[INPUT_1_WORD] / SIZE_PLACE;
-    let out = a[OUTPUT_WORD] / SIZE_PLACE;
+    let number = action[action::NUMBER];
+    let n = action[action::INPUT_COUNT];
+    let in0 = action[INPUT_0_WORD] / SIZE_PLACE;
+    let in1 = action[INPUT_1_WORD] / SIZE_PLACE;
+    let out = action[OUTPUT_WORD] / SIZE_PLACE;
     let unary = (n == 1) & output & (number == 0);
     let binary = (n == 2) & output & (number == 0);
     let pair = (n == 2) & !output;
-    match a[action::OPERATION] {
+    match action[action::OPERATION] {
         // Arithmetic and bits.
         operation::INT_MUL..=operation::INT_SUB
         | operation::FLOAT_DIV..=operation::FLOAT_SUB
@@ -154,17 +154,17 @@ fn operation_fits(a: &[u64], output: bool, pointer: u64) -> bool
 }
 
 // The same of an action; only an Op has an operation. The base of an AddressOf is unsized at offset 0.
-fn head_fits(a: &[u64], output: bool, subtables: u64, pointer: u64) -> bool
-    requires { ⌜ length (now a) ≡ 24 ⌝ }
-    ensures { λ r. ⌜ r ≡ headFit subtables pointer output (now (a .entry)) ⌝ }
+fn head_fits(action: &[u64], output: bool, subtables: u64, pointer: u64) -> bool
+    requires { ⌜ length (now action) ≡ 24 ⌝ }
+    ensures { λ r. ⌜ r ≡ headFit subtables pointer output (now (action .entry)) ⌝ }
 {
-    let number = a[action::NUMBER];
-    let n = a[action::INPUT_COUNT];
-    let plain = a[action::OPERATION] == 0;
-    match a[action::KIND] {
-        action_kind::OP => operation_fits(a, output, pointer),
+    let number = action[action::NUMBER];
+    let n = action[action::INPUT_COUNT];
+    let plain = action[action::OPERATION] == 0;
+    match action[action::KIND] {
+        action_kind::OP => operation_fits(action, output, pointer),
         action_kind::ADDRESS_OF => {
-            plain & (number == 0) & (n == 1) & output & (a[INPUT_0_WORD] / 256 == UNSIZED)
+            plain & (number == 0) & (n == 1) & output & (action[INPUT_0_WORD] / 256 == UNSIZED)
         }
         action_kind::LOAD_REGISTER => plain & (number < SIZES) & (n == 1) & output,
         action_kind::STORE_REGISTER => plain & (number < SIZES) & (n == 2) & !output,
@@ -174,44 +174,50 @@ fn head_fits(a: &[u64], output: bool, subtables: u64, pointer: u64) -> bool
     }
 }
 
-fn action_fits(a: &[u64], temporaries: u64, subtables: u64, pointer: u64) -> bool
-    requires { ⌜ length (now a) ≡ 24 ⌝ }
-    ensures { λ r. ⌜ r ≡ actionFit temporaries subtables pointer (now (a .entry)) ⌝ }
+fn action_fits(action: &[u64], temporaries: u64, subtables: u64, pointer: u64) -> bool
+    requires { ⌜ length (now action) ≡ 24 ⌝ }
+    ensures { λ r. ⌜ r ≡ actionFit temporaries subtables pointer (now (action .entry)) ⌝ }
 {
-    let sized = a[action::KIND] == action_kind::OP;
-    let output = has_output(a[action::KIND], a[action::OUTPUT], a[OUTPUT_WORD]);
+    let sized = action[action::KIND] == action_kind::OP;
+    let output = has_output(
+        action[action::KIND],
+        action[action::OUTPUT],
+        action[OUTPUT_WORD],
+    );
     (!output
         | value_fits(
-            a[action::OUTPUT],
-            a[OUTPUT_WORD],
+            action[action::OUTPUT],
+            action[OUTPUT_WORD],
             sized,
             temporaries,
             subtables,
         ))
-        & inputs_fit(a, sized, temporaries, subtables)
-        & head_fits(a, output, subtables, pointer)
+        & inputs_fit(action, sized, temporaries, subtables)
+        & head_fits(action, output, subtables, pointer)
 }
 
 // Marks the label that a PcodeLabel places; false if it was marked before.
-fn note_label(a: &[u64], seen: &mut [u64]) -> bool
-    requires { ⌜ length (now a) ≡ 24 ⌝ }
-    ensures { λ r. ⌜ noted r (now (seen .exit)) ≡ noteLabel (now (a .entry)) (now (seen .entry)) ⌝ }
+fn note_label(action: &[u64], seen: &mut [u64]) -> bool
+    requires { ⌜ length (now action) ≡ 24 ⌝ }
+    ensures { λ r. ⌜ noted r (now (seen .exit)) ≡ noteLabel (now (action .entry)) (now (seen .entry)) ⌝ }
 {
-    if (a[action::KIND] != action_kind::OP) | (a[action::OPERATION] != operation::PCODE_LABEL) {
+    if (action[action::KIND] != action_kind::OP)
+        | (action[action::OPERATION] != operation::PCODE_LABEL)
+    {
         return true;
     }
-    let new = access::get(seen, a[action::NUMBER] as usize) == 0;
-    access::put(seen, a[action::NUMBER] as usize, 1);
+    let new = access::get(seen, action[action::NUMBER] as usize) == 0;
+    access::put(seen, action[action::NUMBER] as usize, 1);
     new
 }
 
 // Marks the subtable that a Build builds, counted from a number on.
-fn note_build(a: &[u64], base: u64, built: &mut [u64])
-    requires { ⌜ length (now a) ≡ 24 ⌝ }
-    ensures { λ _. ⌜ now (built .exit) ≡ noteBuild base (now (a .entry)) (now (built .entry)) ⌝ }
+fn note_build(action: &[u64], base: u64, built: &mut [u64])
+    requires { ⌜ length (now action) ≡ 24 ⌝ }
+    ensures { λ _. ⌜ now (built .exit) ≡ noteBuild base (now (action .entry)) (now (built .entry)) ⌝ }
 {
-    let number = a[action::NUMBER];
-    if (a[action::KIND] == action_kind::BUILD) & (base <= number) {
+    let number = action[action::NUMBER];
+    if (action[action::KIND] == action_kind::BUILD) & (base <= number) {
         access::put(built, (number - base) as usize, 1);
     }
 }
@@ -228,13 +234,20 @@ fn all_marked(built: &[u64], count: u64) -> bool
 }
 
 // One sweep over the actions, with a table for labels and one for the subtables from a number on, 256 at most.
-fn sweep(list: &[u64], n: usize, base: u64, temporaries: u64, subtables: u64, pointer: u64) -> bool
-    requires { ⌜ (24 * n ≤ length (now list)) × (base ≤ subtables) ⌝ }
-    ensures { λ r. ⌜ r ≡ sweep temporaries subtables pointer base n (now (list .entry)) (replicate 256 0) (replicate 256 0) ⌝ }
+fn sweep(
+    list: &[u64],
+    count: usize,
+    base: u64,
+    temporaries: u64,
+    subtables: u64,
+    pointer: u64,
+) -> bool
+    requires { ⌜ (24 * count ≤ length (now list)) × (base ≤ subtables) ⌝ }
+    ensures { λ r. ⌜ r ≡ sweep temporaries subtables pointer base count (now (list .entry)) (replicate 256 0) (replicate 256 0) ⌝ }
 {
     let mut seen = [0u64; 256];
     let mut built = [0u64; 256];
-    for i in 0..n {
+    for i in 0..count {
         let from = action::WORDS * i;
         let to = from + action::WORDS;
         let a = &list[from..to];

@@ -35,121 +35,155 @@ pub struct Fixed {
 
 // The known size, else the fallback, else an error.
 pub fn fix_size(
-    s: &[u8],
-    t: &[u16; table::LENGTH],
-    m: &[u64],
-    v: Value,
-    ptr: u64,
-    z: Sizing,
+    stream: &[u8],
+    table: &[u16; table::LENGTH],
+    temporaries: &[u64],
+    value: Value,
+    pointer: u64,
+    sizing: Sizing,
 ) -> Fixed
-    ensures { λ r. ⌜ r ≡ fixSize (now (s .entry)) (now (t .entry)) (now (m .entry)) v ptr z ⌝ }
+    ensures { λ r. ⌜ r ≡ fixSize (now (stream .entry)) (now (table .entry)) (now (temporaries .entry)) value pointer sizing ⌝ }
 {
-    let known = size_of(s, t, m, v);
+    let known = size_of(stream, table, temporaries, value);
     if known != NONE {
         return Fixed {
-            v: with_size(v, known),
-            z,
+            v: with_size(value, known),
+            z: sizing,
         };
     }
-    if falls_back(v) {
+    if falls_back(value) {
         return Fixed {
-            v: with_size(v, ptr),
-            z,
+            v: with_size(value, pointer),
+            z: sizing,
         };
     }
     Fixed {
-        v,
-        z: record_errors(z, 1),
+        v: value,
+        z: record_errors(sizing, 1),
     }
 }
 
 fn fix_operand(
-    s: &[u8],
-    t: &[u16; table::LENGTH],
-    a: &mut [u64],
-    m: &[u64],
+    stream: &[u8],
+    table: &[u16; table::LENGTH],
+    actions: &mut [u64],
+    temporaries: &[u64],
     at: usize,
-    i: usize,
-    ptr: u64,
-    z: Sizing,
+    index: usize,
+    pointer: u64,
+    sizing: Sizing,
 ) -> Sizing
-    requires { ⌜ i < 32 ⌝ }
-    ensures { λ r. ⌜ listed r (now (a .exit)) ≡ fixOperand (now (s .entry)) (now (t .entry)) (now (a .entry)) (now (m .entry)) at i ptr z ⌝ }
+    requires { ⌜ index < 32 ⌝ }
+    ensures { λ r. ⌜ listed r (now (actions .exit)) ≡ fixOperand (now (stream .entry)) (now (table .entry)) (now (actions .entry)) (now (temporaries .entry)) at index pointer sizing ⌝ }
 {
     // Most operands have a size of their own by now, and stay as they are.
-    if get(a, at, i + 1) / SIZE_PLACE < NONE {
-        return z;
+    if get(actions, at, index + 1) / SIZE_PLACE < NONE {
+        return sizing;
     }
-    let f = fix_size(s, t, m, value_at(a, at, i), ptr, z);
-    put_value(a, at, i, f.v);
+    let f = fix_size(
+        stream,
+        table,
+        temporaries,
+        value_at(actions, at, index),
+        pointer,
+        sizing,
+    );
+    put_value(actions, at, index, f.v);
     f.z
 }
 
 fn fix_inputs(
-    s: &[u8],
-    t: &[u16; table::LENGTH],
-    a: &mut [u64],
-    m: &[u64],
+    stream: &[u8],
+    table: &[u16; table::LENGTH],
+    actions: &mut [u64],
+    temporaries: &[u64],
     at: usize,
-    n: usize,
-    ptr: u64,
-    z: Sizing,
+    count: usize,
+    pointer: u64,
+    sizing: Sizing,
 ) -> Sizing
-    ensures { λ r. ⌜ listed r (now (a .exit)) ≡ fixInputs (now (s .entry)) (now (t .entry)) (now (a .entry)) (now (m .entry)) at n ptr z ⌝ }
+    ensures { λ r. ⌜ listed r (now (actions .exit)) ≡ fixInputs (now (stream .entry)) (now (table .entry)) (now (actions .entry)) (now (temporaries .entry)) at count pointer sizing ⌝ }
 {
-    let mut z = z;
-    for i in 0..n {
-        z = fix_operand(s, t, a, m, at, action::INPUT_0 + i % 8 * 2, ptr, z);
+    let mut sizing = sizing;
+    for i in 0..count {
+        sizing = fix_operand(
+            stream,
+            table,
+            actions,
+            temporaries,
+            at,
+            action::INPUT_0 + i % 8 * 2,
+            pointer,
+            sizing,
+        );
     }
-    z
+    sizing
 }
 
 fn fix_output(
-    s: &[u8],
-    t: &[u16; table::LENGTH],
-    a: &mut [u64],
-    m: &[u64],
+    stream: &[u8],
+    table: &[u16; table::LENGTH],
+    actions: &mut [u64],
+    temporaries: &[u64],
     at: usize,
-    ptr: u64,
-    z: Sizing,
+    pointer: u64,
+    sizing: Sizing,
 ) -> Sizing
-    ensures { λ r. ⌜ listed r (now (a .exit)) ≡ fixOutput (now (s .entry)) (now (t .entry)) (now (a .entry)) (now (m .entry)) at ptr z ⌝ }
+    ensures { λ r. ⌜ listed r (now (actions .exit)) ≡ fixOutput (now (stream .entry)) (now (table .entry)) (now (actions .entry)) (now (temporaries .entry)) at pointer sizing ⌝ }
 {
-    if get(a, at, OUTPUT_WORD) == NO_OUTPUT {
-        return z;
+    if get(actions, at, OUTPUT_WORD) == NO_OUTPUT {
+        return sizing;
     }
-    fix_operand(s, t, a, m, at, action::OUTPUT, ptr, z)
+    fix_operand(
+        stream,
+        table,
+        actions,
+        temporaries,
+        at,
+        action::OUTPUT,
+        pointer,
+        sizing,
+    )
 }
 
 fn fix_operands(
-    s: &[u8],
-    t: &[u16; table::LENGTH],
-    a: &mut [u64],
-    m: &[u64],
+    stream: &[u8],
+    table: &[u16; table::LENGTH],
+    actions: &mut [u64],
+    temporaries: &[u64],
     at: usize,
-    ptr: u64,
-    z: Sizing,
+    pointer: u64,
+    sizing: Sizing,
 ) -> Sizing
-    ensures { λ r. ⌜ listed r (now (a .exit)) ≡ fixOperands (now (s .entry)) (now (t .entry)) (now (a .entry)) (now (m .entry)) at ptr z ⌝ }
+    ensures { λ r. ⌜ listed r (now (actions .exit)) ≡ fixOperands (now (stream .entry)) (now (table .entry)) (now (actions .entry)) (now (temporaries .entry)) at pointer sizing ⌝ }
 {
-    let n = get(a, at, action::INPUT_COUNT) % 16;
-    let y = fix_inputs(s, t, a, m, at, n as usize, ptr, z);
-    fix_output(s, t, a, m, at, ptr, y)
+    let n = get(actions, at, action::INPUT_COUNT) % 16;
+    let y = fix_inputs(
+        stream,
+        table,
+        actions,
+        temporaries,
+        at,
+        n as usize,
+        pointer,
+        sizing,
+    );
+    fix_output(stream, table, actions, temporaries, at, pointer, y)
 }
 
 // The Copy of the part of a value that begins at an offset and has that size.
-fn write_copy(a: &mut [u64], at: usize, v: Value, offset: u64, size: u64)
-    ensures { λ _. ⌜ now (a .exit) ≡ writeCopy (now (a .entry)) at v offset size ⌝ }
+fn write_copy(actions: &mut [u64], at: usize, value: Value, offset: u64, size: u64)
+    ensures { λ _. ⌜ now (actions .exit) ≡ writeCopy (now (actions .entry)) at value offset size ⌝ }
 {
-    put(a, at, action::OPERATION, operation::COPY);
-    put(a, at, action::NUMBER, 0);
+    put(actions, at, action::OPERATION, operation::COPY);
+    put(actions, at, action::NUMBER, 0);
     put_value(
-        a,
+        actions,
         at,
         action::INPUT_0,
         Value {
-            kind: v.kind,
-            number: v.number,
+            kind: value.kind,
+            number: value.number,
             offset,
             size,
         },
@@ -157,19 +191,19 @@ fn write_copy(a: &mut [u64], at: usize, v: Value, offset: u64, size: u64)
 }
 
 // A subpiece becomes a Copy of part of its input: a refusal, or 0.
-fn subpiece_copy(a: &mut [u64], at: usize) -> u64
-    ensures { λ r. ⌜ listed r (now (a .exit)) ≡ subpieceCopy (now (a .entry)) at ⌝ }
+fn subpiece_copy(actions: &mut [u64], at: usize) -> u64
+    ensures { λ r. ⌜ listed r (now (actions .exit)) ≡ subpieceCopy (now (actions .entry)) at ⌝ }
 {
-    let size = value_at(a, at, action::OUTPUT).size;
+    let size = value_at(actions, at, action::OUTPUT).size;
     if size == NONE {
         return refusal::SUBPIECE_SIZE;
     }
-    let v = value_at(a, at, action::INPUT_0);
-    let offset = v.offset + get(a, at, action::NUMBER) % 65536;
+    let v = value_at(actions, at, action::INPUT_0);
+    let offset = v.offset + get(actions, at, action::NUMBER) % 65536;
     if LAST_OFFSET < offset {
         return refusal::OFFSET_TOO_FAR;
     }
-    write_copy(a, at, v, offset, size);
+    write_copy(actions, at, v, offset, size);
     0
 }
 
@@ -179,59 +213,77 @@ pub struct Finished {
 }
 
 fn finish_op(
-    s: &[u8],
-    t: &[u16; table::LENGTH],
-    a: &mut [u64],
-    m: &[u64],
+    stream: &[u8],
+    table: &[u16; table::LENGTH],
+    actions: &mut [u64],
+    temporaries: &[u64],
     at: usize,
-    ptr: u64,
-    z: Sizing,
+    pointer: u64,
+    sizing: Sizing,
 ) -> Finished
-    ensures { λ r. ⌜ listed r (now (a .exit)) ≡ finishOp (now (s .entry)) (now (t .entry)) (now (a .entry)) (now (m .entry)) at ptr z ⌝ }
+    ensures { λ r. ⌜ listed r (now (actions .exit)) ≡ finishOp (now (stream .entry)) (now (table .entry)) (now (actions .entry)) (now (temporaries .entry)) at pointer sizing ⌝ }
 {
-    if get(a, at, action::KIND) != action_kind::OP {
-        return Finished { refusal: 0, z };
+    if get(actions, at, action::KIND) != action_kind::OP {
+        return Finished {
+            refusal: 0,
+            z: sizing,
+        };
     }
-    let y = fix_operands(s, t, a, m, at, ptr, z);
-    if get(a, at, action::OPERATION) != operation::SUBPIECE {
+    let y = fix_operands(stream, table, actions, temporaries, at, pointer, sizing);
+    if get(actions, at, action::OPERATION) != operation::SUBPIECE {
         return Finished { refusal: 0, z: y };
     }
     Finished {
-        refusal: subpiece_copy(a, at),
+        refusal: subpiece_copy(actions, at),
         z: y,
     }
 }
 
 pub fn finish_actions(
-    s: &[u8],
-    t: &[u16; table::LENGTH],
-    a: &mut [u64],
-    m: &[u64],
+    stream: &[u8],
+    table: &[u16; table::LENGTH],
+    actions: &mut [u64],
+    temporaries: &[u64],
     base: usize,
-    n: usize,
-    ptr: u64,
-    z: Sizing,
+    count: usize,
+    pointer: u64,
+    sizing: Sizing,
 ) -> Finished
-    ensures { λ r. ⌜ listed r (now (a .exit)) ≡ finishActions (now (s .entry)) (now (t .entry)) (now (a .entry)) (now (m .entry)) base n ptr z ⌝ }
+    ensures { λ r. ⌜ listed r (now (actions .exit)) ≡ finishActions (now (stream .entry)) (now (table .entry)) (now (actions .entry)) (now (temporaries .entry)) base count pointer sizing ⌝ }
 {
-    let mut z = z;
-    for i in 0..n {
-        let f = finish_op(s, t, a, m, place(base, i), ptr, z);
+    let mut sizing = sizing;
+    for i in 0..count {
+        let f = finish_op(
+            stream,
+            table,
+            actions,
+            temporaries,
+            place(base, i),
+            pointer,
+            sizing,
+        );
         if f.refusal != 0 {
             return f;
         }
-        z = f.z;
+        sizing = f.z;
     }
-    Finished { refusal: 0, z }
+    Finished {
+        refusal: 0,
+        z: sizing,
+    }
 }
 
 // Marks the subtables that one of the n actions from a position on builds.
-fn mark_built(a: &[u64], base: usize, n: usize, built: &mut [u64])
-    ensures { λ _. ⌜ now (built .exit) ≡ markBuilt (now (a .entry)) base n (now (built .entry)) ⌝ }
+fn mark_built(actions: &[u64], base: usize, count: usize, built: &mut [u64])
+    ensures { λ _. ⌜ now (built .exit) ≡ markBuilt (now (actions .entry)) base count (now (built .entry)) ⌝ }
 {
-    for i in 0..n {
+    for i in 0..count {
         let at = place(base, i);
-        mark_build(get(a, at, action::KIND), get(a, at, action::NUMBER), built);
+        mark_build(
+            get(actions, at, action::KIND),
+            get(actions, at, action::NUMBER),
+            built,
+        );
     }
 }
 
@@ -244,76 +296,76 @@ fn mark_build(kind: u64, number: u64, built: &mut [u64])
     access::put(built, number as usize, 1);
 }
 
-fn zero_action(a: &mut [u64], at: usize)
-    ensures { λ _. ⌜ now (a .exit) ≡ zeroAction (now (a .entry)) at ⌝ }
+fn zero_action(actions: &mut [u64], at: usize)
+    ensures { λ _. ⌜ now (actions .exit) ≡ zeroAction (now (actions .entry)) at ⌝ }
 {
     for i in 0..action::WORDS {
-        put(a, at, i, 0);
+        put(actions, at, i, 0);
     }
 }
 
-fn write_build(a: &mut [u64], at: usize, number: u64)
-    ensures { λ _. ⌜ now (a .exit) ≡ writeBuild (now (a .entry)) at number ⌝ }
+fn write_build(actions: &mut [u64], at: usize, number: u64)
+    ensures { λ _. ⌜ now (actions .exit) ≡ writeBuild (now (actions .entry)) at number ⌝ }
 {
-    zero_action(a, at);
-    put(a, at, action::KIND, action_kind::BUILD);
-    put(a, at, action::NUMBER, number);
+    zero_action(actions, at);
+    put(actions, at, action::KIND, action_kind::BUILD);
+    put(actions, at, action::NUMBER, number);
 }
 
 // A Build of each of the first n subtables that is not built yet, from the list's start on: how many.
-fn implicit_builds(a: &mut [u64], built: &[u64], n: usize) -> usize
-    ensures { λ r. ⌜ listed r (now (a .exit)) ≡ implicitBuilds (now (a .entry)) (now (built .entry)) n ⌝ }
+fn implicit_builds(actions: &mut [u64], built: &[u64], count: usize) -> usize
+    ensures { λ r. ⌜ listed r (now (actions .exit)) ≡ implicitBuilds (now (actions .entry)) (now (built .entry)) count ⌝ }
 {
     let mut k = 0;
-    for i in 0..n {
-        k = implicit_build(a, built, i, k);
+    for i in 0..count {
+        k = implicit_build(actions, built, i, k);
     }
     k
 }
 
-fn implicit_build(a: &mut [u64], built: &[u64], i: usize, k: usize) -> usize
-    ensures { λ r. ⌜ listed r (now (a .exit)) ≡ implicitBuild (now (built .entry)) i (listed k (now (a .entry))) ⌝ }
+fn implicit_build(actions: &mut [u64], built: &[u64], index: usize, placed: usize) -> usize
+    ensures { λ r. ⌜ listed r (now (actions .exit)) ≡ implicitBuild (now (built .entry)) index (listed placed (now (actions .entry))) ⌝ }
 {
-    if access::get(built, i) != 0 {
-        return k;
+    if access::get(built, index) != 0 {
+        return placed;
     }
-    write_build(a, place(0, k), i as u64);
-    std::num::wrapping_add_usize(k, 1)
+    write_build(actions, place(0, placed), index as u64);
+    std::num::wrapping_add_usize(placed, 1)
 }
 
 // Moves the action at one position to another.
-fn move_action(a: &mut [u64], from: usize, to: usize)
-    ensures { λ _. ⌜ now (a .exit) ≡ moveAction (now (a .entry)) from to ⌝ }
+fn move_action(actions: &mut [u64], from: usize, to: usize)
+    ensures { λ _. ⌜ now (actions .exit) ≡ moveAction (now (actions .entry)) from to ⌝ }
 {
     for i in 0..action::WORDS {
-        let w = get(a, from, i);
-        put(a, to, i, w);
+        let w = get(actions, from, i);
+        put(actions, to, i, w);
     }
 }
 
 // Moves n actions down, from a position to behind k actions.
-fn move_down(a: &mut [u64], base: usize, k: usize, n: usize)
-    ensures { λ _. ⌜ now (a .exit) ≡ moveDown (now (a .entry)) base k n ⌝ }
+fn move_down(actions: &mut [u64], base: usize, builds: usize, count: usize)
+    ensures { λ _. ⌜ now (actions .exit) ≡ moveDown (now (actions .entry)) base builds count ⌝ }
 {
-    if base == place(0, k) {
+    if base == place(0, builds) {
         return;
     }
-    for i in 0..n {
-        move_action(a, place(base, i), place(place(0, k), i));
+    for i in 0..count {
+        move_action(actions, place(base, i), place(place(0, builds), i));
     }
 }
 
 // The list in its final order: the implicit Builds, the n actions that stand behind room for all subtables, zeros.
 // How many actions it has.
-pub fn assemble(a: &mut [u64], subtables: usize, n: usize) -> usize
-    ensures { λ r. ⌜ listed r (now (a .exit)) ≡ assemble (now (a .entry)) subtables n ⌝ }
+pub fn assemble(actions: &mut [u64], subtables: usize, pushed: usize) -> usize
+    ensures { λ r. ⌜ listed r (now (actions .exit)) ≡ assemble (now (actions .entry)) subtables pushed ⌝ }
 {
     let mut built = [0u64; 32];
     let base = place(0, subtables);
-    mark_built(a, base, n, &mut built);
-    let k = implicit_builds(a, &built, subtables);
-    move_down(a, base, k, n);
-    let count = std::num::wrapping_add_usize(k, n);
-    access::zero_from(a, place(0, count));
+    mark_built(actions, base, pushed, &mut built);
+    let k = implicit_builds(actions, &built, subtables);
+    move_down(actions, base, k, pushed);
+    let count = std::num::wrapping_add_usize(k, pushed);
+    access::zero_from(actions, place(0, count));
     count
 }

@@ -8,33 +8,51 @@ ghost use Rattle.list_values.specs.Sizes.{sized};
 ghost use Rattle.list_end.specs.Passes.{backwardPass, forwardPass};
 
 pub fn backward_pass(
-    s: &[u8],
-    t: &[u16; table::LENGTH],
-    a: &mut [u64],
-    m: &mut [u64],
+    stream: &[u8],
+    table: &[u16; table::LENGTH],
+    actions: &mut [u64],
+    temporaries: &mut [u64],
     base: usize,
-    n: usize,
-    ptr: u64,
-    z: Sizing,
+    count: usize,
+    pointer: u64,
+    sizing: Sizing,
 ) -> Sizing
-    ensures { λ r. ⌜ sized r (now (a .exit)) (now (m .exit)) ≡ backwardPass (now (s .entry)) (now (t .entry)) (now (a .entry)) (now (m .entry)) base n ptr z ⌝ }
+    ensures { λ r. ⌜ sized r (now (actions .exit)) (now (temporaries .exit)) ≡ backwardPass (now (stream .entry)) (now (table .entry)) (now (actions .entry)) (now (temporaries .entry)) base count pointer sizing ⌝ }
 {
-    let k = pass(s, t, false, a, m, base, n, ptr);
-    record_errors(z, k)
+    let k = pass(
+        stream,
+        table,
+        false,
+        actions,
+        temporaries,
+        base,
+        count,
+        pointer,
+    );
+    record_errors(sizing, k)
 }
 
 pub fn forward_pass(
-    s: &[u8],
-    t: &[u16; table::LENGTH],
-    a: &mut [u64],
-    m: &mut [u64],
+    stream: &[u8],
+    table: &[u16; table::LENGTH],
+    actions: &mut [u64],
+    temporaries: &mut [u64],
     base: usize,
-    n: usize,
-    ptr: u64,
-    z: Sizing,
+    count: usize,
+    pointer: u64,
+    sizing: Sizing,
 ) -> Sizing
-    ensures { λ r. ⌜ sized r (now (a .exit)) (now (m .exit)) ≡ forwardPass (now (s .entry)) (now (t .entry)) (now (a .entry)) (now (m .entry)) base n ptr z ⌝ }
+    ensures { λ r. ⌜ sized r (now (actions .exit)) (now (temporaries .exit)) ≡ forwardPass (now (stream .entry)) (now (table .entry)) (now (actions .entry)) (now (temporaries .entry)) base count pointer sizing ⌝ }
 {
-    let k = pass(s, t, true, a, m, base, n, ptr);
-    record_errors(z, k)
+    let k = pass(
+        stream,
+        table,
+        true,
+        actions,
+        temporaries,
+        base,
+        count,
+        pointer,
+    );
+    record_errors(sizing, k)
 }

@@ -10,37 +10,40 @@ ghost use Rattle.list_values.specs.Sizes.{Counted};
 ghost use Rattle.list_pushes.specs.Passes.{actionPlace, turn, pass};
 
 // Where action i stands of those from a position on; the first may stand anywhere.
-fn action_place(base: usize, i: usize) -> usize
-    ensures { λ r. ⌜ r ≡ actionPlace base i ⌝ }
+fn action_place(base: usize, index: usize) -> usize
+    ensures { λ r. ⌜ r ≡ actionPlace base index ⌝ }
 {
-    if i == 0 { base } else { place(base, i) }
+    if index == 0 { base } else { place(base, index) }
 }
 
 // Which of n actions is next after i of them, forward or backward.
-fn turn(forward: bool, n: usize, i: usize) -> usize
-    requires { ⌜ i < n ⌝ }
-    ensures { λ r. ⌜ r ≡ turn forward n i ⌝ }
+fn turn(forward: bool, count: usize, index: usize) -> usize
+    requires { ⌜ index < count ⌝ }
+    ensures { λ r. ⌜ r ≡ turn forward count index ⌝ }
 {
-    if forward { i } else { n - 1 - i }
+    if forward { index } else { count - 1 - index }
 }
 
 // The n actions from a position on, forward with fallback or backward without: how many errors.
 pub fn pass(
-    s: &[u8],
-    t: &[u16; table::LENGTH],
+    stream: &[u8],
+    table: &[u16; table::LENGTH],
     fallback: bool,
-    a: &mut [u64],
-    m: &mut [u64],
+    actions: &mut [u64],
+    temporaries: &mut [u64],
     base: usize,
-    n: usize,
-    ptr: u64,
+    count: usize,
+    pointer: u64,
 ) -> u64
-    ensures { λ r. ⌜ Counted r (now (a .exit)) (now (m .exit)) (pass (now (s .entry)) (now (t .entry)) fallback (now (a .entry)) (now (m .entry)) base n ptr) ⌝ }
+    ensures { λ r. ⌜ Counted r (now (actions .exit)) (now (temporaries .exit)) (pass (now (stream .entry)) (now (table .entry)) fallback (now (actions .entry)) (now (temporaries .entry)) base count pointer) ⌝ }
 {
     let mut k = 0;
-    for i in 0..n {
-        let at = action_place(base, turn(fallback, n, i));
-        k = sum_of_errors(k, update_operand_sizes(s, t, fallback, a, m, at, ptr));
+    for i in 0..count {
+        let at = action_place(base, turn(fallback, count, i));
+        k = sum_of_errors(
+            k,
+            update_operand_sizes(stream, table, fallback, actions, temporaries, at, pointer),
+        );
     }
     k
 }

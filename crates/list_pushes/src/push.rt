@@ -49,18 +49,18 @@ pub enum Pushed {
 }
 
 // A temporary with its name, size and the number of its scope.
-pub fn add_tmp(m: &mut [u64], name: u64, size: u64, scope: u64, st: State) -> Read
-    ensures { λ r. ⌜ listed r (now (m .exit)) ≡ addTmp (now (m .entry)) name size scope st ⌝ }
+pub fn add_tmp(temporaries: &mut [u64], name: u64, size: u64, scope: u64, state: State) -> Read
+    ensures { λ r. ⌜ listed r (now (temporaries .exit)) ≡ addTmp (now (temporaries .entry)) name size scope state ⌝ }
 {
-    let n = st.temporaries;
-    if n < m.len() {
+    let n = state.temporaries;
+    if n < temporaries.len() {
         if n < MOST_TEMPORARIES {
-            let z = st.sizing;
-            m[n] = name % 65536 + size % 65536 * 65536 + scope % 8192 * SCOPE_PLACE;
+            let z = state.sizing;
+            temporaries[n] = name % 65536 + size % 65536 * 65536 + scope % 8192 * SCOPE_PLACE;
             return Read::Value {
                 v: local(value_kind::PCODE_TMP, n as u64),
                 st: State {
-                    end: st.end,
+                    end: state.end,
                     temporaries: n + 1,
                     sizing: z,
                 },
@@ -71,57 +71,57 @@ pub fn add_tmp(m: &mut [u64], name: u64, size: u64, scope: u64, st: State) -> Re
 }
 
 // The output given, else a fresh temporary of that size.
-pub fn output_or(m: &mut [u64], given: bool, to: Value, size: u64, st: State) -> Read
-    ensures { λ r. ⌜ listed r (now (m .exit)) ≡ outputOr (now (m .entry)) given to size st ⌝ }
+pub fn output_or(temporaries: &mut [u64], given: bool, to: Value, size: u64, state: State) -> Read
+    ensures { λ r. ⌜ listed r (now (temporaries .exit)) ≡ outputOr (now (temporaries .entry)) given to size state ⌝ }
 {
     if given {
-        return Read::Value { v: to, st };
+        return Read::Value { v: to, st: state };
     }
-    add_tmp(m, NONE, size, 0, st)
+    add_tmp(temporaries, NONE, size, 0, state)
 }
 
-fn write_operands(a: &mut [u64], at: usize, out: Value, x: Value, y: Value)
-    ensures { λ _. ⌜ now (a .exit) ≡ writeOperands (now (a .entry)) at out x y ⌝ }
+fn write_operands(actions: &mut [u64], at: usize, out: Value, first: Value, second: Value)
+    ensures { λ _. ⌜ now (actions .exit) ≡ writeOperands (now (actions .entry)) at out first second ⌝ }
 {
-    put_value(a, at, action::OUTPUT, out);
-    put_value(a, at, action::INPUT_0, x);
-    put_value(a, at, action::INPUT_1, y);
+    put_value(actions, at, action::OUTPUT, out);
+    put_value(actions, at, action::INPUT_0, first);
+    put_value(actions, at, action::INPUT_1, second);
 }
 
-fn write_zeros(a: &mut [u64], at: usize)
-    ensures { λ _. ⌜ now (a .exit) ≡ writeZeros (now (a .entry)) at ⌝ }
+fn write_zeros(actions: &mut [u64], at: usize)
+    ensures { λ _. ⌜ now (actions .exit) ≡ writeZeros (now (actions .entry)) at ⌝ }
 {
     for i in 10..action::WORDS {
-        put(a, at, i, 0);
+        put(actions, at, i, 0);
     }
 }
 
-fn write_head(a: &mut [u64], at: usize, kind: u64, op: u64, number: u64, count: u64)
-    ensures { λ _. ⌜ now (a .exit) ≡ writeHead (now (a .entry)) at kind op number count ⌝ }
+fn write_head(actions: &mut [u64], at: usize, kind: u64, op: u64, number: u64, count: u64)
+    ensures { λ _. ⌜ now (actions .exit) ≡ writeHead (now (actions .entry)) at kind op number count ⌝ }
 {
-    put(a, at, action::KIND, kind);
-    put(a, at, action::OPERATION, op);
-    put(a, at, action::NUMBER, number);
-    put(a, at, action::INPUT_COUNT, count);
+    put(actions, at, action::KIND, kind);
+    put(actions, at, action::OPERATION, op);
+    put(actions, at, action::NUMBER, number);
+    put(actions, at, action::INPUT_COUNT, count);
 }
 
 // All 24 words of an action with at most two inputs.
 fn write(
-    a: &mut [u64],
+    actions: &mut [u64],
     at: usize,
     kind: u64,
     op: u64,
     number: u64,
     count: u64,
     out: Value,
-    x: Value,
-    y: Value,
+    first: Value,
+    second: Value,
 )
-    ensures { λ _. ⌜ now (a .exit) ≡ write (now (a .entry)) at kind op number count out x y ⌝ }
+    ensures { λ _. ⌜ now (actions .exit) ≡ write (now (actions .entry)) at kind op number count out first second ⌝ }
 {
-    write_head(a, at, kind, op, number, count);
-    write_operands(a, at, out, x, y);
-    write_zeros(a, at);
+    write_head(actions, at, kind, op, number, count);
+    write_operands(actions, at, out, first, second);
+    write_zeros(actions, at);
 }
 
 fn has_room(len: usize, end: usize) -> bool
@@ -136,26 +136,26 @@ fn has_room(len: usize, end: usize) -> bool
 
 // An action of any kind with at most two inputs, pushed as it is.
 pub fn push(
-    a: &mut [u64],
+    actions: &mut [u64],
     kind: u64,
     op: u64,
     number: u64,
     count: u64,
     out: Value,
-    x: Value,
-    y: Value,
-    st: State,
+    first: Value,
+    second: Value,
+    state: State,
 ) -> Pushed
-    ensures { λ r. ⌜ listed r (now (a .exit)) ≡ push (now (a .entry)) kind op number count out x y st ⌝ }
+    ensures { λ r. ⌜ listed r (now (actions .exit)) ≡ push (now (actions .entry)) kind op number count out first second state ⌝ }
 {
-    let at = st.end;
-    if has_room(a.len(), at) {
+    let at = state.end;
+    if has_room(actions.len(), at) {
         let end = at + action::WORDS;
-        let z = st.sizing;
-        write(a, at, kind, op, number, count, out, x, y);
+        let z = state.sizing;
+        write(actions, at, kind, op, number, count, out, first, second);
         return Pushed::Done(State {
             end,
-            temporaries: st.temporaries,
+            temporaries: state.temporaries,
             sizing: z,
         });
     }
@@ -164,70 +164,101 @@ pub fn push(
 
 // The rule of the action pushed last.
 fn update_last(
-    s: &[u8],
-    t: &[u16; table::LENGTH],
-    a: &mut [u64],
-    m: &mut [u64],
+    stream: &[u8],
+    table: &[u16; table::LENGTH],
+    actions: &mut [u64],
+    temporaries: &mut [u64],
     at: usize,
-    ptr: u64,
-    st: State,
+    pointer: u64,
+    before: State,
 ) -> State
-    ensures { λ r. ⌜ state r (now (a .exit)) (now (m .exit)) ≡ updateLast (now (s .entry)) (now (t .entry)) (now (a .entry)) (now (m .entry)) at ptr st ⌝ }
+    ensures { λ r. ⌜ state r (now (actions .exit)) (now (temporaries .exit)) ≡ updateLast (now (stream .entry)) (now (table .entry)) (now (actions .entry)) (now (temporaries .entry)) at pointer before ⌝ }
 {
-    let k = pass(s, t, false, a, m, at, 1, ptr);
-    let z = record_errors(st.sizing, k);
+    let k = pass(stream, table, false, actions, temporaries, at, 1, pointer);
+    let z = record_errors(before.sizing, k);
     State {
-        end: st.end,
-        temporaries: st.temporaries,
+        end: before.end,
+        temporaries: before.temporaries,
         sizing: z,
     }
 }
 
 pub fn push_op(
-    s: &[u8],
-    t: &[u16; table::LENGTH],
-    a: &mut [u64],
-    m: &mut [u64],
-    e: Env,
+    stream: &[u8],
+    table: &[u16; table::LENGTH],
+    actions: &mut [u64],
+    temporaries: &mut [u64],
+    env: Env,
     op: u64,
     number: u64,
     count: u64,
     out: Value,
-    x: Value,
-    y: Value,
-    st: State,
+    first: Value,
+    second: Value,
+    state: State,
 ) -> Pushed
-    ensures { λ r. ⌜ pushed r (now (a .exit)) (now (m .exit)) ≡ pushOp (now (s .entry)) (now (t .entry)) (now (a .entry)) (now (m .entry)) e op number count out x y st ⌝ }
+    ensures { λ r. ⌜ pushed r (now (actions .exit)) (now (temporaries .exit)) ≡ pushOp (now (stream .entry)) (now (table .entry)) (now (actions .entry)) (now (temporaries .entry)) env op number count out first second state ⌝ }
 {
-    let at = st.end;
-    match push(a, action_kind::OP, op, number, count, out, x, y, st) {
+    let at = state.end;
+    match push(
+        actions,
+        action_kind::OP,
+        op,
+        number,
+        count,
+        out,
+        first,
+        second,
+        state,
+    ) {
         Pushed::No(n) => Pushed::No(n),
-        Pushed::Done(next) => Pushed::Done(update_last(s, t, a, m, at, e.pointer, next)),
+        Pushed::Done(next) => Pushed::Done(update_last(
+            stream,
+            table,
+            actions,
+            temporaries,
+            at,
+            env.pointer,
+            next,
+        )),
     }
 }
 
 // An operation with an output, and the output as its rule left it.
 pub fn op_to(
-    s: &[u8],
-    t: &[u16; table::LENGTH],
-    a: &mut [u64],
-    m: &mut [u64],
-    e: Env,
+    stream: &[u8],
+    table: &[u16; table::LENGTH],
+    actions: &mut [u64],
+    temporaries: &mut [u64],
+    env: Env,
     op: u64,
     number: u64,
     count: u64,
     to: Value,
-    x: Value,
-    y: Value,
-    st: State,
+    first: Value,
+    second: Value,
+    state: State,
 ) -> Read
-    ensures { λ r. ⌜ read r (now (a .exit)) (now (m .exit)) ≡ opTo (now (s .entry)) (now (t .entry)) (now (a .entry)) (now (m .entry)) e op number count to x y st ⌝ }
+    ensures { λ r. ⌜ read r (now (actions .exit)) (now (temporaries .exit)) ≡ opTo (now (stream .entry)) (now (table .entry)) (now (actions .entry)) (now (temporaries .entry)) env op number count to first second state ⌝ }
 {
-    let at = st.end;
-    match push_op(s, t, a, m, e, op, number, count, to, x, y, st) {
+    let at = state.end;
+    match push_op(
+        stream,
+        table,
+        actions,
+        temporaries,
+        env,
+        op,
+        number,
+        count,
+        to,
+        first,
+        second,
+        state,
+    ) {
         Pushed::No(n) => Read::No(n),
         Pushed::Done(next) => Read::Value {
-            v: value_at(a, at, action::OUTPUT),
+            v: value_at(actions, at, action::OUTPUT),
             st: next,
         },
     }
@@ -235,24 +266,37 @@ pub fn op_to(
 
 // The same, with a fresh temporary where no output is given.
 pub fn op(
-    s: &[u8],
-    t: &[u16; table::LENGTH],
-    a: &mut [u64],
-    m: &mut [u64],
-    e: Env,
+    stream: &[u8],
+    table: &[u16; table::LENGTH],
+    actions: &mut [u64],
+    temporaries: &mut [u64],
+    env: Env,
     code: u64,
     number: u64,
     count: u64,
     given: bool,
     to: Value,
-    x: Value,
-    y: Value,
-    st: State,
+    first: Value,
+    second: Value,
+    state: State,
 ) -> Read
-    ensures { λ r. ⌜ read r (now (a .exit)) (now (m .exit)) ≡ op (now (s .entry)) (now (t .entry)) (now (a .entry)) (now (m .entry)) e code number count given to x y st ⌝ }
+    ensures { λ r. ⌜ read r (now (actions .exit)) (now (temporaries .exit)) ≡ op (now (stream .entry)) (now (table .entry)) (now (actions .entry)) (now (temporaries .entry)) env code number count given to first second state ⌝ }
 {
-    match output_or(m, given, to, NONE, st) {
+    match output_or(temporaries, given, to, NONE, state) {
         Read::No(n) => Read::No(n),
-        Read::Value { v, st: next } => op_to(s, t, a, m, e, code, number, count, v, x, y, next),
+        Read::Value { v, st: next } => op_to(
+            stream,
+            table,
+            actions,
+            temporaries,
+            env,
+            code,
+            number,
+            count,
+            v,
+            first,
+            second,
+            next,
+        ),
     }
 }

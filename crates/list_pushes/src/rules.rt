@@ -119,124 +119,169 @@ fn partner(rule: u64) -> usize
 
 // These three call `set_size_of_pair` from one place, so that it is compiled into it.
 fn pair_rule(
-    s: &[u8],
-    t: &[u16; table::LENGTH],
+    stream: &[u8],
+    table: &[u16; table::LENGTH],
     rule: u64,
     fallback: bool,
-    a: &mut [u64],
-    m: &mut [u64],
+    actions: &mut [u64],
+    temporaries: &mut [u64],
     at: usize,
-    ptr: u64,
+    pointer: u64,
 ) -> u64
-    ensures { λ r. ⌜ Counted r (now (a .exit)) (now (m .exit)) (pairRule (now (s .entry)) (now (t .entry)) rule fallback (now (a .entry)) (now (m .entry)) at ptr) ⌝ }
+    ensures { λ r. ⌜ Counted r (now (actions .exit)) (now (temporaries .exit)) (pairRule (now (stream .entry)) (now (table .entry)) rule fallback (now (actions .entry)) (now (temporaries .entry)) at pointer) ⌝ }
 {
     let x = set_size_of_pair(
-        s,
-        t,
+        stream,
+        table,
         fallback,
-        a,
-        m,
+        actions,
+        temporaries,
         at,
         action::INPUT_0,
         partner(rule),
-        ptr,
+        pointer,
     );
     match rule {
-        SHIFT => sum_of_errors(x, set_unsized(s, t, a, m, at, action::INPUT_1, ptr)),
-        COMPARISON => sum_of_errors(x, set_operand(s, t, a, m, at, action::OUTPUT, 1)),
+        SHIFT => sum_of_errors(
+            x,
+            set_unsized(
+                stream,
+                table,
+                actions,
+                temporaries,
+                at,
+                action::INPUT_1,
+                pointer,
+            ),
+        ),
+        COMPARISON => sum_of_errors(
+            x,
+            set_operand(stream, table, actions, temporaries, at, action::OUTPUT, 1),
+        ),
         _ => x,
     }
 }
 
-fn bool_not(s: &[u8], t: &[u16; table::LENGTH], a: &mut [u64], m: &mut [u64], at: usize) -> u64
-    ensures { λ r. ⌜ Counted r (now (a .exit)) (now (m .exit)) (boolNot (now (s .entry)) (now (t .entry)) (now (a .entry)) (now (m .entry)) at) ⌝ }
+fn bool_not(
+    stream: &[u8],
+    table: &[u16; table::LENGTH],
+    actions: &mut [u64],
+    temporaries: &mut [u64],
+    at: usize,
+) -> u64
+    ensures { λ r. ⌜ Counted r (now (actions .exit)) (now (temporaries .exit)) (boolNot (now (stream .entry)) (now (table .entry)) (now (actions .entry)) (now (temporaries .entry)) at) ⌝ }
 {
-    let x = set_operand(s, t, a, m, at, action::INPUT_0, 1);
-    let y = set_operand(s, t, a, m, at, action::OUTPUT, 1);
+    let x = set_operand(stream, table, actions, temporaries, at, action::INPUT_0, 1);
+    let y = set_operand(stream, table, actions, temporaries, at, action::OUTPUT, 1);
     sum_of_errors(x, y)
 }
 
 fn branch(
-    s: &[u8],
-    t: &[u16; table::LENGTH],
-    a: &mut [u64],
-    m: &mut [u64],
+    stream: &[u8],
+    table: &[u16; table::LENGTH],
+    actions: &mut [u64],
+    temporaries: &mut [u64],
     at: usize,
-    ptr: u64,
+    pointer: u64,
 ) -> u64
-    ensures { λ r. ⌜ Counted r (now (a .exit)) (now (m .exit)) (branch (now (s .entry)) (now (t .entry)) (now (a .entry)) (now (m .entry)) at ptr) ⌝ }
+    ensures { λ r. ⌜ Counted r (now (actions .exit)) (now (temporaries .exit)) (branch (now (stream .entry)) (now (table .entry)) (now (actions .entry)) (now (temporaries .entry)) at pointer) ⌝ }
 {
-    let x = set_operand(s, t, a, m, at, action::INPUT_0, 1);
-    let y = set_unsized(s, t, a, m, at, action::INPUT_1, ptr);
+    let x = set_operand(stream, table, actions, temporaries, at, action::INPUT_0, 1);
+    let y = set_unsized(
+        stream,
+        table,
+        actions,
+        temporaries,
+        at,
+        action::INPUT_1,
+        pointer,
+    );
     sum_of_errors(x, y)
 }
 
 fn few_operands(
-    s: &[u8],
-    t: &[u16; table::LENGTH],
+    stream: &[u8],
+    table: &[u16; table::LENGTH],
     rule: u64,
-    a: &mut [u64],
-    m: &mut [u64],
+    actions: &mut [u64],
+    temporaries: &mut [u64],
     at: usize,
-    ptr: u64,
+    pointer: u64,
 ) -> u64
-    ensures { λ r. ⌜ Counted r (now (a .exit)) (now (m .exit)) (fewOperands (now (s .entry)) (now (t .entry)) rule (now (a .entry)) (now (m .entry)) at ptr) ⌝ }
+    ensures { λ r. ⌜ Counted r (now (actions .exit)) (now (temporaries .exit)) (fewOperands (now (stream .entry)) (now (table .entry)) rule (now (actions .entry)) (now (temporaries .entry)) at pointer) ⌝ }
 {
     match rule {
-        NOT => bool_not(s, t, a, m, at),
-        NAN => set_operand(s, t, a, m, at, action::OUTPUT, 1),
-        POINTER => set_operand(s, t, a, m, at, action::INPUT_0, ptr),
-        BRANCH => branch(s, t, a, m, at, ptr),
-        CONDITION => set_operand(s, t, a, m, at, action::INPUT_0, 1),
+        NOT => bool_not(stream, table, actions, temporaries, at),
+        NAN => set_operand(stream, table, actions, temporaries, at, action::OUTPUT, 1),
+        POINTER => set_operand(
+            stream,
+            table,
+            actions,
+            temporaries,
+            at,
+            action::INPUT_0,
+            pointer,
+        ),
+        BRANCH => branch(stream, table, actions, temporaries, at, pointer),
+        CONDITION => set_operand(stream, table, actions, temporaries, at, action::INPUT_0, 1),
         _ => 0,
     }
 }
 
 fn apply_rule(
-    s: &[u8],
-    t: &[u16; table::LENGTH],
+    stream: &[u8],
+    table: &[u16; table::LENGTH],
     rule: u64,
     fallback: bool,
-    a: &mut [u64],
-    m: &mut [u64],
+    actions: &mut [u64],
+    temporaries: &mut [u64],
     at: usize,
-    ptr: u64,
+    pointer: u64,
 ) -> u64
-    ensures { λ r. ⌜ Counted r (now (a .exit)) (now (m .exit)) (applyRule (now (s .entry)) (now (t .entry)) rule fallback (now (a .entry)) (now (m .entry)) at ptr) ⌝ }
+    ensures { λ r. ⌜ Counted r (now (actions .exit)) (now (temporaries .exit)) (applyRule (now (stream .entry)) (now (table .entry)) rule fallback (now (actions .entry)) (now (temporaries .entry)) at pointer) ⌝ }
 {
     if pairs(rule) {
-        return pair_rule(s, t, rule, fallback, a, m, at, ptr);
+        return pair_rule(
+            stream,
+            table,
+            rule,
+            fallback,
+            actions,
+            temporaries,
+            at,
+            pointer,
+        );
     }
     match rule {
-        TRIPLE => set_size_of_triple(s, t, fallback, a, m, at, ptr),
-        BOOLEAN => set_three(s, t, a, m, at, 1),
-        _ => few_operands(s, t, rule, a, m, at, ptr),
+        TRIPLE => set_size_of_triple(stream, table, fallback, actions, temporaries, at, pointer),
+        BOOLEAN => set_three(stream, table, actions, temporaries, at, 1),
+        _ => few_operands(stream, table, rule, actions, temporaries, at, pointer),
     }
 }
 
 // The rule of the Op at a position; other actions are not sized here.
 pub fn update_operand_sizes(
-    s: &[u8],
-    t: &[u16; table::LENGTH],
+    stream: &[u8],
+    table: &[u16; table::LENGTH],
     fallback: bool,
-    a: &mut [u64],
-    m: &mut [u64],
+    actions: &mut [u64],
+    temporaries: &mut [u64],
     at: usize,
-    ptr: u64,
+    pointer: u64,
 ) -> u64
-    ensures { λ r. ⌜ Counted r (now (a .exit)) (now (m .exit)) (updateOperandSizes (now (s .entry)) (now (t .entry)) fallback (now (a .entry)) (now (m .entry)) at ptr) ⌝ }
+    ensures { λ r. ⌜ Counted r (now (actions .exit)) (now (temporaries .exit)) (updateOperandSizes (now (stream .entry)) (now (table .entry)) fallback (now (actions .entry)) (now (temporaries .entry)) at pointer) ⌝ }
 {
-    if get(a, at, action::KIND) != action_kind::OP {
+    if get(actions, at, action::KIND) != action_kind::OP {
         return 0;
     }
     apply_rule(
-        s,
-        t,
-        rule_of(get(a, at, action::OPERATION)),
+        stream,
+        table,
+        rule_of(get(actions, at, action::OPERATION)),
         fallback,
-        a,
-        m,
+        actions,
+        temporaries,
         at,
-        ptr,
+        pointer,
     )
 }

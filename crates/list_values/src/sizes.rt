@@ -24,134 +24,151 @@ pub struct Sizing {
 }
 
 // A position so many bytes into list k.
-pub fn entry(t: &[u16; table::LENGTH], k: usize, bytes: u64) -> usize
-    ensures { λ r. ⌜ r ≡ entry (now (t .entry)) k bytes ⌝ }
+pub fn entry(table: &[u16; table::LENGTH], list: usize, bytes: u64) -> usize
+    ensures { λ r. ⌜ r ≡ entry (now (table .entry)) list bytes ⌝ }
 {
-    access::get_u16(t, table::LISTS + k % 16) as usize + (bytes % 1048576) as usize
+    access::get_u16(table, table::LISTS + list % 16) as usize + (bytes % 1048576) as usize
 }
 
 // The size of entry i of list k, whose entries are a name and a size.
-fn list_size(s: &[u8], t: &[u16; table::LENGTH], k: usize, i: u64) -> u64
-    ensures { λ r. ⌜ r ≡ listSize (now (s .entry)) (now (t .entry)) k i ⌝ }
+fn list_size(stream: &[u8], table: &[u16; table::LENGTH], list: usize, index: u64) -> u64
+    ensures { λ r. ⌜ r ≡ listSize (now (stream .entry)) (now (table .entry)) list index ⌝ }
 {
-    access::u16_at(s, entry(t, k, i % 65536 * 4 + 2))
+    access::u16_at(stream, entry(table, list, index % 65536 * 4 + 2))
 }
 
 // The size of a subtable's table export.
-fn export_size(s: &[u8], t: &[u16; table::LENGTH], i: u64) -> u64
-    ensures { λ r. ⌜ r ≡ exportSizeOf (now (s .entry)) (now (t .entry)) i ⌝ }
+fn export_size(stream: &[u8], table: &[u16; table::LENGTH], index: u64) -> u64
+    ensures { λ r. ⌜ r ≡ exportSizeOf (now (stream .entry)) (now (table .entry)) index ⌝ }
 {
-    list_size(s, t, table::TABLES, list_size(s, t, table::SUBTABLES, i))
+    list_size(
+        stream,
+        table,
+        table::TABLES,
+        list_size(stream, table, table::SUBTABLES, index),
+    )
 }
 
-fn tmp_size(m: &[u64], i: u64) -> u64
-    ensures { λ r. ⌜ r ≡ tmpSize (now (m .entry)) i ⌝ }
+fn tmp_size(temporaries: &[u64], index: u64) -> u64
+    ensures { λ r. ⌜ r ≡ tmpSize (now (temporaries .entry)) index ⌝ }
 {
-    access::get(m, i as usize) / 65536 % 65536
+    access::get(temporaries, index as usize) / 65536 % 65536
 }
 
 // The size of a register, table export or field. It is called from two places below, so that what is tested before it stays
 // small enough to be compiled into every place that asks for a size.
-fn listed_size(s: &[u8], t: &[u16; table::LENGTH], kind: u64, number: u64) -> u64
-    ensures { λ r. ⌜ r ≡ listedSize (now (s .entry)) (now (t .entry)) kind number ⌝ }
+fn listed_size(stream: &[u8], table: &[u16; table::LENGTH], kind: u64, number: u64) -> u64
+    ensures { λ r. ⌜ r ≡ listedSize (now (stream .entry)) (now (table .entry)) kind number ⌝ }
 {
     match kind {
-        value_kind::REGISTER => list_size(s, t, table::REGISTERS, number),
-        value_kind::FIELD => list_size(s, t, table::FIELDS, number),
-        value_kind::SUBTABLE => export_size(s, t, number),
-        value_kind::SUBTABLE_REF => export_size(s, t, number),
+        value_kind::REGISTER => list_size(stream, table, table::REGISTERS, number),
+        value_kind::FIELD => list_size(stream, table, table::FIELDS, number),
+        value_kind::SUBTABLE => export_size(stream, table, number),
+        value_kind::SUBTABLE_REF => export_size(stream, table, number),
         _ => NONE,
     }
 }
 
 // The known size, 65,535 for none.
-pub fn size_of(s: &[u8], t: &[u16; table::LENGTH], m: &[u64], v: Value) -> u64
-    ensures { λ r. ⌜ r ≡ sizeOf (now (s .entry)) (now (t .entry)) (now (m .entry)) v ⌝ }
+pub fn size_of(
+    stream: &[u8],
+    table: &[u16; table::LENGTH],
+    temporaries: &[u64],
+    value: Value,
+) -> u64
+    ensures { λ r. ⌜ r ≡ sizeOf (now (stream .entry)) (now (table .entry)) (now (temporaries .entry)) value ⌝ }
 {
-    if v.size != NONE {
-        return v.size;
+    if value.size != NONE {
+        return value.size;
     }
-    if v.kind == value_kind::PCODE_TMP {
-        return tmp_size(m, v.number);
+    if value.kind == value_kind::PCODE_TMP {
+        return tmp_size(temporaries, value.number);
     }
-    listed_size(s, t, v.kind, v.number)
+    listed_size(stream, table, value.kind, value.number)
 }
 
-fn size_at(s: &[u8], t: &[u16; table::LENGTH], a: &[u64], m: &[u64], at: usize, i: usize) -> u64
-    requires { ⌜ i < 32 ⌝ }
-    ensures { λ r. ⌜ r ≡ sizeAt (now (s .entry)) (now (t .entry)) (now (a .entry)) (now (m .entry)) at i ⌝ }
+fn size_at(
+    stream: &[u8],
+    table: &[u16; table::LENGTH],
+    actions: &[u64],
+    temporaries: &[u64],
+    at: usize,
+    index: usize,
+) -> u64
+    requires { ⌜ index < 32 ⌝ }
+    ensures { λ r. ⌜ r ≡ sizeAt (now (stream .entry)) (now (table .entry)) (now (actions .entry)) (now (temporaries .entry)) at index ⌝ }
 {
-    let w = get(a, at, i + 1);
+    let w = get(actions, at, index + 1);
     let own = w / SIZE_PLACE % 65536;
     if own != NONE {
         return own;
     }
-    let number = get(a, at, i);
+    let number = get(actions, at, index);
     if w % 256 == value_kind::PCODE_TMP {
-        return tmp_size(m, number);
+        return tmp_size(temporaries, number);
     }
-    listed_size(s, t, w % 256, number)
+    listed_size(stream, table, w % 256, number)
 }
 
 // The sum, up to the greatest number of a word.
-pub fn sum_of_errors(x: u64, y: u64) -> u64
-    ensures { λ r. ⌜ r ≡ sumOfErrors x y ⌝ }
+pub fn sum_of_errors(errors: u64, more: u64) -> u64
+    ensures { λ r. ⌜ r ≡ sumOfErrors errors more ⌝ }
 {
-    if y <= MOST - x {
-        return x + y;
+    if more <= MOST - errors {
+        return errors + more;
     }
     MOST
 }
 
 // So many errors more.
-pub fn record_errors(z: Sizing, n: u64) -> Sizing
-    ensures { λ r. ⌜ r ≡ recorded n z ⌝ }
+pub fn record_errors(sizing: Sizing, count: u64) -> Sizing
+    ensures { λ r. ⌜ r ≡ recorded count sizing ⌝ }
 {
-    if n == 0 {
-        return z;
+    if count == 0 {
+        return sizing;
     }
-    let errors = sum_of_errors(z.errors, n);
-    if z.errors == 0 {
+    let errors = sum_of_errors(sizing.errors, count);
+    if sizing.errors == 0 {
         return Sizing {
-            begun: z.begun,
+            begun: sizing.begun,
             errors,
-            first: z.begun,
+            first: sizing.begun,
         };
     }
     Sizing {
-        begun: z.begun,
+        begun: sizing.begun,
         errors,
-        first: z.first,
+        first: sizing.first,
     }
 }
 
-fn size_temporary(m: &mut [u64], v: Value, size: u64)
-    ensures { λ _. ⌜ now (m .exit) ≡ sizeTemporary (now (m .entry)) v size ⌝ }
+fn size_temporary(temporaries: &mut [u64], value: Value, size: u64)
+    ensures { λ _. ⌜ now (temporaries .exit) ≡ sizeTemporary (now (temporaries .entry)) value size ⌝ }
 {
-    if v.kind != value_kind::PCODE_TMP {
+    if value.kind != value_kind::PCODE_TMP {
         return;
     }
-    let i = v.number as usize;
-    let w = access::get(m, i);
+    let i = value.number as usize;
+    let w = access::get(temporaries, i);
     access::put(
-        m,
+        temporaries,
         i,
         w % 65536 + size % 65536 * 65536 + w / 4294967296 * 4294967296,
     );
 }
 
 // A size set on a value whose known size was that one: 1 where that is an error, else 0.
-pub fn settle(m: &mut [u64], v: Value, known: u64, size: u64) -> u64
-    ensures { λ r. ⌜ Settles r (now (m .exit)) (settled (now (m .entry)) v known size) ⌝ }
+pub fn settle(temporaries: &mut [u64], value: Value, known: u64, size: u64) -> u64
+    ensures { λ r. ⌜ Settles r (now (temporaries .exit)) (settled (now (temporaries .entry)) value known size) ⌝ }
 {
     if known == NONE {
-        size_temporary(m, v, size);
+        size_temporary(temporaries, value, size);
         return 0;
     }
     if known == size {
         return 0;
     }
-    if v.kind == value_kind::SUBTABLE {
+    if value.kind == value_kind::SUBTABLE {
         return 0;
     }
     1
@@ -159,61 +176,78 @@ pub fn settle(m: &mut [u64], v: Value, known: u64, size: u64) -> u64
 
 // Sets the size of the operand i after a position.
 pub fn set_operand(
-    s: &[u8],
-    t: &[u16; table::LENGTH],
-    a: &mut [u64],
-    m: &mut [u64],
+    stream: &[u8],
+    table: &[u16; table::LENGTH],
+    actions: &mut [u64],
+    temporaries: &mut [u64],
     at: usize,
-    i: usize,
+    index: usize,
     size: u64,
 ) -> u64
-    requires { ⌜ i < 32 ⌝ }
-    ensures { λ r. ⌜ Counted r (now (a .exit)) (now (m .exit)) (setOperand (now (s .entry)) (now (t .entry)) (now (a .entry)) (now (m .entry)) at i size) ⌝ }
+    requires { ⌜ index < 32 ⌝ }
+    ensures { λ r. ⌜ Counted r (now (actions .exit)) (now (temporaries .exit)) (setOperand (now (stream .entry)) (now (table .entry)) (now (actions .entry)) (now (temporaries .entry)) at index size) ⌝ }
 {
-    let v = value_at(a, at, i);
-    let known = size_of(s, t, m, v);
-    put_size(a, at, i, size);
-    settle(m, v, known, size)
+    let v = value_at(actions, at, index);
+    let known = size_of(stream, table, temporaries, v);
+    put_size(actions, at, index, size);
+    settle(temporaries, v, known, size)
 }
 
 fn set_two(
-    s: &[u8],
-    t: &[u16; table::LENGTH],
-    a: &mut [u64],
-    m: &mut [u64],
+    stream: &[u8],
+    table: &[u16; table::LENGTH],
+    actions: &mut [u64],
+    temporaries: &mut [u64],
     at: usize,
-    i: usize,
-    j: usize,
+    index: usize,
+    other: usize,
     size: u64,
 ) -> u64
-    requires { ⌜ (i < 32) × (j < 32) ⌝ }
-    ensures { λ r. ⌜ Counted r (now (a .exit)) (now (m .exit)) (setTwo (now (s .entry)) (now (t .entry)) (now (a .entry)) (now (m .entry)) at i j size) ⌝ }
+    requires { ⌜ (index < 32) × (other < 32) ⌝ }
+    ensures { λ r. ⌜ Counted r (now (actions .exit)) (now (temporaries .exit)) (setTwo (now (stream .entry)) (now (table .entry)) (now (actions .entry)) (now (temporaries .entry)) at index other size) ⌝ }
 {
-    let x = set_operand(s, t, a, m, at, i, size);
-    let y = set_operand(s, t, a, m, at, j, size);
+    let x = set_operand(stream, table, actions, temporaries, at, index, size);
+    let y = set_operand(stream, table, actions, temporaries, at, other, size);
     sum_of_errors(x, y)
 }
 
 pub fn set_three(
-    s: &[u8],
-    t: &[u16; table::LENGTH],
-    a: &mut [u64],
-    m: &mut [u64],
+    stream: &[u8],
+    table: &[u16; table::LENGTH],
+    actions: &mut [u64],
+    temporaries: &mut [u64],
     at: usize,
     size: u64,
 ) -> u64
-    ensures { λ r. ⌜ Counted r (now (a .exit)) (now (m .exit)) (setThree (now (s .entry)) (now (t .entry)) (now (a .entry)) (now (m .entry)) at size) ⌝ }
+    ensures { λ r. ⌜ Counted r (now (actions .exit)) (now (temporaries .exit)) (setThree (now (stream .entry)) (now (table .entry)) (now (actions .entry)) (now (temporaries .entry)) at size) ⌝ }
 {
-    let x = set_two(s, t, a, m, at, action::INPUT_0, action::INPUT_1, size);
-    let y = set_operand(s, t, a, m, at, action::OUTPUT, size);
+    let x = set_two(
+        stream,
+        table,
+        actions,
+        temporaries,
+        at,
+        action::INPUT_0,
+        action::INPUT_1,
+        size,
+    );
+    let y = set_operand(
+        stream,
+        table,
+        actions,
+        temporaries,
+        at,
+        action::OUTPUT,
+        size,
+    );
     sum_of_errors(x, y)
 }
 
 // Whether a value falls back to pointer size: InstStart, InstNext, a field or a constant.
-pub fn falls_back(v: Value) -> bool
-    ensures { λ r. ⌜ r ≡ fallsBack v ⌝ }
+pub fn falls_back(value: Value) -> bool
+    ensures { λ r. ⌜ r ≡ fallsBack value ⌝ }
 {
-    let kind = v.kind;
+    let kind = value.kind;
     match kind {
         value_kind::INST_START => true,
         value_kind::INST_NEXT => true,
@@ -224,25 +258,43 @@ pub fn falls_back(v: Value) -> bool
 }
 
 fn pair_fallback(
-    s: &[u8],
-    t: &[u16; table::LENGTH],
+    stream: &[u8],
+    table: &[u16; table::LENGTH],
     fallback: bool,
-    a: &mut [u64],
-    m: &mut [u64],
+    actions: &mut [u64],
+    temporaries: &mut [u64],
     at: usize,
-    i: usize,
-    j: usize,
-    ptr: u64,
+    index: usize,
+    other: usize,
+    pointer: u64,
 ) -> u64
-    requires { ⌜ (i < 32) × (j < 32) ⌝ }
-    ensures { λ r. ⌜ Counted r (now (a .exit)) (now (m .exit)) (pairFallback (now (s .entry)) (now (t .entry)) fallback (now (a .entry)) (now (m .entry)) at i j ptr) ⌝ }
+    requires { ⌜ (index < 32) × (other < 32) ⌝ }
+    ensures { λ r. ⌜ Counted r (now (actions .exit)) (now (temporaries .exit)) (pairFallback (now (stream .entry)) (now (table .entry)) fallback (now (actions .entry)) (now (temporaries .entry)) at index other pointer) ⌝ }
 {
     if fallback {
-        if falls_back(value_at(a, at, i)) {
-            return set_two(s, t, a, m, at, i, j, ptr);
+        if falls_back(value_at(actions, at, index)) {
+            return set_two(
+                stream,
+                table,
+                actions,
+                temporaries,
+                at,
+                index,
+                other,
+                pointer,
+            );
         }
-        if falls_back(value_at(a, at, j)) {
-            return set_two(s, t, a, m, at, i, j, ptr);
+        if falls_back(value_at(actions, at, other)) {
+            return set_two(
+                stream,
+                table,
+                actions,
+                temporaries,
+                at,
+                index,
+                other,
+                pointer,
+            );
         }
     }
     0
@@ -250,59 +302,69 @@ fn pair_fallback(
 
 // Two operands have one size.
 pub fn set_size_of_pair(
-    s: &[u8],
-    t: &[u16; table::LENGTH],
+    stream: &[u8],
+    table: &[u16; table::LENGTH],
     fallback: bool,
-    a: &mut [u64],
-    m: &mut [u64],
+    actions: &mut [u64],
+    temporaries: &mut [u64],
     at: usize,
-    i: usize,
-    j: usize,
-    ptr: u64,
+    index: usize,
+    other: usize,
+    pointer: u64,
 ) -> u64
-    requires { ⌜ (i < 32) × (j < 32) ⌝ }
-    ensures { λ r. ⌜ Counted r (now (a .exit)) (now (m .exit)) (setSizeOfPair (now (s .entry)) (now (t .entry)) fallback (now (a .entry)) (now (m .entry)) at i j ptr) ⌝ }
+    requires { ⌜ (index < 32) × (other < 32) ⌝ }
+    ensures { λ r. ⌜ Counted r (now (actions .exit)) (now (temporaries .exit)) (setSizeOfPair (now (stream .entry)) (now (table .entry)) fallback (now (actions .entry)) (now (temporaries .entry)) at index other pointer) ⌝ }
 {
-    let x = size_at(s, t, a, m, at, i);
-    let y = size_at(s, t, a, m, at, j);
+    let x = size_at(stream, table, actions, temporaries, at, index);
+    let y = size_at(stream, table, actions, temporaries, at, other);
     if x == NONE {
         if y == NONE {
-            return pair_fallback(s, t, fallback, a, m, at, i, j, ptr);
+            return pair_fallback(
+                stream,
+                table,
+                fallback,
+                actions,
+                temporaries,
+                at,
+                index,
+                other,
+                pointer,
+            );
         }
-        return set_operand(s, t, a, m, at, i, y);
+        return set_operand(stream, table, actions, temporaries, at, index, y);
     }
     if x == y {
         return 0;
     }
-    set_operand(s, t, a, m, at, j, x)
+    set_operand(stream, table, actions, temporaries, at, other, x)
 }
 
-fn triple_falls_back(a: &[u64], at: usize) -> bool
-    ensures { λ r. ⌜ r ≡ tripleFallsBack (now (a .entry)) at ⌝ }
+fn triple_falls_back(actions: &[u64], at: usize) -> bool
+    ensures { λ r. ⌜ r ≡ tripleFallsBack (now (actions .entry)) at ⌝ }
 {
-    if falls_back(value_at(a, at, action::INPUT_0)) {
+    if falls_back(value_at(actions, at, action::INPUT_0)) {
         return true;
     }
-    if falls_back(value_at(a, at, action::INPUT_1)) {
+    if falls_back(value_at(actions, at, action::INPUT_1)) {
         return true;
     }
-    falls_back(value_at(a, at, action::OUTPUT))
+    falls_back(value_at(actions, at, action::OUTPUT))
 }
 
 fn triple_fallback(
-    s: &[u8],
-    t: &[u16; table::LENGTH],
+    stream: &[u8],
+    table: &[u16; table::LENGTH],
     fallback: bool,
-    a: &mut [u64],
-    m: &mut [u64],
+    actions: &mut [u64],
+    temporaries: &mut [u64],
     at: usize,
-    ptr: u64,
+    pointer: u64,
 ) -> u64
-    ensures { λ r. ⌜ Counted r (now (a .exit)) (now (m .exit)) (tripleFallback (now (s .entry)) (now (t .entry)) fallback (now (a .entry)) (now (m .entry)) at ptr) ⌝ }
+    ensures { λ r. ⌜ Counted r (now (actions .exit)) (now (temporaries .exit)) (tripleFallback (now (stream .entry)) (now (table .entry)) fallback (now (actions .entry)) (now (temporaries .entry)) at pointer) ⌝ }
 {
     if fallback {
-        if triple_falls_back(a, at) {
-            return set_three(s, t, a, m, at, ptr);
+        if triple_falls_back(actions, at) {
+            return set_three(stream, table, actions, temporaries, at, pointer);
         }
     }
     0
@@ -310,71 +372,102 @@ fn triple_fallback(
 
 // The other two take the size of the first known one.
 fn share_size(
-    s: &[u8],
-    t: &[u16; table::LENGTH],
-    a: &mut [u64],
-    m: &mut [u64],
+    stream: &[u8],
+    table: &[u16; table::LENGTH],
+    actions: &mut [u64],
+    temporaries: &mut [u64],
     at: usize,
-    x: u64,
-    y: u64,
-    w: u64,
+    first: u64,
+    second: u64,
+    third: u64,
 ) -> u64
-    ensures { λ r. ⌜ Counted r (now (a .exit)) (now (m .exit)) (shareSize (now (s .entry)) (now (t .entry)) (now (a .entry)) (now (m .entry)) at x y w) ⌝ }
+    ensures { λ r. ⌜ Counted r (now (actions .exit)) (now (temporaries .exit)) (shareSize (now (stream .entry)) (now (table .entry)) (now (actions .entry)) (now (temporaries .entry)) at first second third) ⌝ }
 {
-    if x != NONE {
-        return set_two(s, t, a, m, at, action::INPUT_1, action::OUTPUT, x);
+    if first != NONE {
+        return set_two(
+            stream,
+            table,
+            actions,
+            temporaries,
+            at,
+            action::INPUT_1,
+            action::OUTPUT,
+            first,
+        );
     }
-    if y != NONE {
-        return set_two(s, t, a, m, at, action::INPUT_0, action::OUTPUT, y);
+    if second != NONE {
+        return set_two(
+            stream,
+            table,
+            actions,
+            temporaries,
+            at,
+            action::INPUT_0,
+            action::OUTPUT,
+            second,
+        );
     }
-    set_two(s, t, a, m, at, action::INPUT_0, action::INPUT_1, w)
+    set_two(
+        stream,
+        table,
+        actions,
+        temporaries,
+        at,
+        action::INPUT_0,
+        action::INPUT_1,
+        third,
+    )
 }
 
-fn all_equal(x: u64, y: u64, w: u64) -> bool
-    ensures { λ r. ⌜ r ≡ allEqual x y w ⌝ }
+fn all_equal(first: u64, second: u64, third: u64) -> bool
+    ensures { λ r. ⌜ r ≡ allEqual first second third ⌝ }
 {
-    if x == y { y == w } else { false }
+    if first == second {
+        second == third
+    } else {
+        false
+    }
 }
 
 // Both inputs and the output have one size.
 pub fn set_size_of_triple(
-    s: &[u8],
-    t: &[u16; table::LENGTH],
+    stream: &[u8],
+    table: &[u16; table::LENGTH],
     fallback: bool,
-    a: &mut [u64],
-    m: &mut [u64],
+    actions: &mut [u64],
+    temporaries: &mut [u64],
     at: usize,
-    ptr: u64,
+    pointer: u64,
 ) -> u64
-    ensures { λ r. ⌜ Counted r (now (a .exit)) (now (m .exit)) (setSizeOfTriple (now (s .entry)) (now (t .entry)) fallback (now (a .entry)) (now (m .entry)) at ptr) ⌝ }
+    ensures { λ r. ⌜ Counted r (now (actions .exit)) (now (temporaries .exit)) (setSizeOfTriple (now (stream .entry)) (now (table .entry)) fallback (now (actions .entry)) (now (temporaries .entry)) at pointer) ⌝ }
 {
-    let x = size_at(s, t, a, m, at, action::INPUT_0);
-    let y = size_at(s, t, a, m, at, action::INPUT_1);
-    let w = size_at(s, t, a, m, at, action::OUTPUT);
+    let x = size_at(stream, table, actions, temporaries, at, action::INPUT_0);
+    let y = size_at(stream, table, actions, temporaries, at, action::INPUT_1);
+    let w = size_at(stream, table, actions, temporaries, at, action::OUTPUT);
     if all_equal(x, y, w) {
         if x == NONE {
-            return triple_fallback(s, t, fallback, a, m, at, ptr);
+            return triple_fallback(stream, table, fallback, actions, temporaries, at, pointer);
         }
         return 0;
     }
-    share_size(s, t, a, m, at, x, y, w)
+    share_size(stream, table, actions, temporaries, at, x, y, w)
 }
 
 // An operand with no known size takes pointer size.
 pub fn set_unsized(
-    s: &[u8],
-    t: &[u16; table::LENGTH],
-    a: &mut [u64],
-    m: &mut [u64],
+    stream: &[u8],
+    table: &[u16; table::LENGTH],
+    actions: &mut [u64],
+    temporaries: &mut [u64],
     at: usize,
-    i: usize,
-    ptr: u64,
+    index: usize,
+    pointer: u64,
 ) -> u64
-    requires { ⌜ i < 32 ⌝ }
-    ensures { λ r. ⌜ Counted r (now (a .exit)) (now (m .exit)) (setUnsized (now (s .entry)) (now (t .entry)) (now (a .entry)) (now (m .entry)) at i ptr) ⌝ }
+    requires { ⌜ index < 32 ⌝ }
+    ensures { λ r. ⌜ Counted r (now (actions .exit)) (now (temporaries .exit)) (setUnsized (now (stream .entry)) (now (table .entry)) (now (actions .entry)) (now (temporaries .entry)) at index pointer) ⌝ }
 {
-    if size_at(s, t, a, m, at, i) == NONE {
-        return set_operand(s, t, a, m, at, i, ptr);
+    if size_at(stream, table, actions, temporaries, at, index) == NONE {
+        return set_operand(stream, table, actions, temporaries, at, index, pointer);
     }
     0
 }

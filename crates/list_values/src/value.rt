@@ -33,13 +33,13 @@ pub fn local(kind: u64, number: u64) -> Value
     }
 }
 
-pub fn with_size(v: Value, size: u64) -> Value
-    ensures { λ r. ⌜ r ≡ withSize size v ⌝ }
+pub fn with_size(value: Value, size: u64) -> Value
+    ensures { λ r. ⌜ r ≡ withSize size value ⌝ }
 {
     Value {
-        kind: v.kind,
-        number: v.number,
-        offset: v.offset,
+        kind: value.kind,
+        number: value.number,
+        offset: value.offset,
         size,
     }
 }
@@ -69,71 +69,76 @@ pub fn no_output() -> Value
 }
 
 // The second word.
-pub fn word(v: Value) -> u64
-    ensures { λ r. ⌜ r ≡ word v ⌝ }
+pub fn word(value: Value) -> u64
+    ensures { λ r. ⌜ r ≡ word value ⌝ }
 {
-    v.kind % 256 + v.offset % 65536 * 256 + v.size % 65536 * SIZE_PLACE
+    value.kind % 256 + value.offset % 65536 * 256 + value.size % 65536 * SIZE_PLACE
 }
 
 // The element i after a position, and 0 past the end.
-pub fn get(list: &[u64], at: usize, i: usize) -> u64
-    ensures { λ r. ⌜ r ≡ getD (now (list .entry)) (at + i) 0 ⌝ }
+pub fn get(list: &[u64], at: usize, index: usize) -> u64
+    ensures { λ r. ⌜ r ≡ getD (now (list .entry)) (at + index) 0 ⌝ }
 {
     if at < list.len() {
-        if i < list.len() - at {
-            return list[at + i];
+        if index < list.len() - at {
+            return list[at + index];
         }
     }
     0
 }
 
-pub fn put(list: &mut [u64], at: usize, i: usize, w: u64)
-    ensures { λ _. ⌜ now (list .exit) ≡ set (now (list .entry)) (at + i) w ⌝ }
+pub fn put(list: &mut [u64], at: usize, index: usize, word: u64)
+    ensures { λ _. ⌜ now (list .exit) ≡ set (now (list .entry)) (at + index) word ⌝ }
 {
     if at < list.len() {
-        if i < list.len() - at {
-            list[at + i] = w;
+        if index < list.len() - at {
+            list[at + index] = word;
         }
     }
 }
 
 // The value whose first word is i after a position.
-pub fn value_at(list: &[u64], at: usize, i: usize) -> Value
-    requires { ⌜ i < 32 ⌝ }
-    ensures { λ r. ⌜ r ≡ valueAt (now (list .entry)) at i ⌝ }
+pub fn value_at(list: &[u64], at: usize, index: usize) -> Value
+    requires { ⌜ index < 32 ⌝ }
+    ensures { λ r. ⌜ r ≡ valueAt (now (list .entry)) at index ⌝ }
 {
-    let w = get(list, at, i + 1);
+    let w = get(list, at, index + 1);
     Value {
         kind: w % 256,
-        number: get(list, at, i),
+        number: get(list, at, index),
         offset: w / 256 % 65536,
         size: w / SIZE_PLACE % 65536,
     }
 }
 
-pub fn put_value(list: &mut [u64], at: usize, i: usize, v: Value)
-    requires { ⌜ i < 32 ⌝ }
-    ensures { λ _. ⌜ now (list .exit) ≡ putValue (now (list .entry)) at i v ⌝ }
+pub fn put_value(list: &mut [u64], at: usize, index: usize, value: Value)
+    requires { ⌜ index < 32 ⌝ }
+    ensures { λ _. ⌜ now (list .exit) ≡ putValue (now (list .entry)) at index value ⌝ }
 {
-    put(list, at, i, v.number);
-    put(list, at, i + 1, word(v));
+    put(list, at, index, value.number);
+    put(list, at, index + 1, word(value));
 }
 
-pub fn put_size(list: &mut [u64], at: usize, i: usize, size: u64)
-    requires { ⌜ i < 32 ⌝ }
-    ensures { λ _. ⌜ now (list .exit) ≡ putSize (now (list .entry)) at i size ⌝ }
+pub fn put_size(list: &mut [u64], at: usize, index: usize, size: u64)
+    requires { ⌜ index < 32 ⌝ }
+    ensures { λ _. ⌜ now (list .exit) ≡ putSize (now (list .entry)) at index size ⌝ }
 {
-    let w = get(list, at, i + 1);
-    put(list, at, i + 1, w % SIZE_PLACE + size % 65536 * SIZE_PLACE);
+    let w = get(list, at, index + 1);
+    put(
+        list,
+        at,
+        index + 1,
+        w % SIZE_PLACE + size % 65536 * SIZE_PLACE,
+    );
 }
 
 // Where action i stands in a list whose first is at a position.
-pub fn place(base: usize, i: usize) -> usize
-    ensures { λ r. ⌜ r ≡ place base i ⌝ }
+pub fn place(base: usize, index: usize) -> usize
+    ensures { λ r. ⌜ r ≡ place base index ⌝ }
 {
     if base < 4096 {
-        if i < 700000000000000000 {
-            return base + i * action::WORDS;
+        if index < 700000000000000000 {
+            return base + index * action::WORDS;
         }
     }
     0

@@ -19,40 +19,46 @@ const INPUT_0_WORD: usize = action::INPUT_0 + 1;
 // The second word of an output that is not there.
 const NO_OUTPUT: u64 = 255;
 
-fn input(s: &[u8], t: &[u16; table::LENGTH], temporaries: &[u64], a: &[u64], i: usize) {
-    let at = action::INPUT_0 + i % 8 * 2;
+fn input(
+    stream: &[u8],
+    table: &[u16; table::LENGTH],
+    temporaries: &[u64],
+    actions: &[u64],
+    index: usize,
+) {
+    let at = action::INPUT_0 + index % 8 * 2;
     value(
-        s,
-        t,
+        stream,
+        table,
         temporaries,
-        access::get(a, at),
-        access::get(a, at + 1),
+        access::get(actions, at),
+        access::get(actions, at + 1),
     );
 }
 
 // The output and an equals sign.
-fn output(s: &[u8], t: &[u16; table::LENGTH], temporaries: &[u64], a: &[u64]) {
+fn output(stream: &[u8], table: &[u16; table::LENGTH], temporaries: &[u64], actions: &[u64]) {
     value(
-        s,
-        t,
+        stream,
+        table,
         temporaries,
-        access::get(a, action::OUTPUT),
-        access::get(a, OUTPUT_WORD),
+        access::get(actions, action::OUTPUT),
+        access::get(actions, OUTPUT_WORD),
     );
     text(b" = ");
 }
 
 // An Op without output has 0 and 255.
-fn output_there(a: &[u64]) -> bool {
-    if access::get(a, action::OUTPUT) != 0 {
+fn output_there(actions: &[u64]) -> bool {
+    if access::get(actions, action::OUTPUT) != 0 {
         return true;
     }
-    access::get(a, OUTPUT_WORD) != NO_OUTPUT
+    access::get(actions, OUTPUT_WORD) != NO_OUTPUT
 }
 
-fn maybe_output(s: &[u8], t: &[u16; table::LENGTH], temporaries: &[u64], a: &[u64]) {
-    if output_there(a) {
-        output(s, t, temporaries, a);
+fn maybe_output(stream: &[u8], table: &[u16; table::LENGTH], temporaries: &[u64], actions: &[u64]) {
+    if output_there(actions) {
+        output(stream, table, temporaries, actions);
     }
 }
 
@@ -63,190 +69,218 @@ fn operation_name(op: u64) {
 }
 
 // What stands ahead of input i: a comma, but for the first.
-fn separator(i: u64, first: &[u8]) {
-    if i == 0 {
+fn separator(index: u64, first: &[u8]) {
+    if index == 0 {
         text(first);
         return;
     }
     text(b", ");
 }
 
-fn inputs(s: &[u8], t: &[u16; table::LENGTH], temporaries: &[u64], a: &[u64], first: &[u8]) {
-    let n = access::get(a, action::INPUT_COUNT) % 9;
+fn inputs(
+    stream: &[u8],
+    table: &[u16; table::LENGTH],
+    temporaries: &[u64],
+    actions: &[u64],
+    first: &[u8],
+) {
+    let n = access::get(actions, action::INPUT_COUNT) % 9;
     for i in 0..n {
         separator(i, first);
-        input(s, t, temporaries, a, i as usize);
+        input(stream, table, temporaries, actions, i as usize);
     }
 }
 
-fn plain(s: &[u8], t: &[u16; table::LENGTH], temporaries: &[u64], a: &[u64]) {
-    maybe_output(s, t, temporaries, a);
-    operation_name(access::get(a, action::OPERATION));
-    inputs(s, t, temporaries, a, b" ");
+fn plain(stream: &[u8], table: &[u16; table::LENGTH], temporaries: &[u64], actions: &[u64]) {
+    maybe_output(stream, table, temporaries, actions);
+    operation_name(access::get(actions, action::OPERATION));
+    inputs(stream, table, temporaries, actions, b" ");
 }
 
 // A pointer in round brackets, behind the space that it points into.
-fn pointer(s: &[u8], t: &[u16; table::LENGTH], temporaries: &[u64], a: &[u64], space: &[u8]) {
+fn pointer(
+    stream: &[u8],
+    table: &[u16; table::LENGTH],
+    temporaries: &[u64],
+    actions: &[u64],
+    space: &[u8],
+) {
     text(space);
-    input(s, t, temporaries, a, 0);
+    input(stream, table, temporaries, actions, 0);
     text(b")");
 }
 
-fn load(s: &[u8], t: &[u16; table::LENGTH], temporaries: &[u64], a: &[u64]) {
-    output(s, t, temporaries, a);
+fn load(stream: &[u8], table: &[u16; table::LENGTH], temporaries: &[u64], actions: &[u64]) {
+    output(stream, table, temporaries, actions);
     operation_name(operation::LOAD);
-    pointer(s, t, temporaries, a, b" ram(");
+    pointer(stream, table, temporaries, actions, b" ram(");
 }
 
-fn store(s: &[u8], t: &[u16; table::LENGTH], temporaries: &[u64], a: &[u64]) {
+fn store(stream: &[u8], table: &[u16; table::LENGTH], temporaries: &[u64], actions: &[u64]) {
     operation_name(operation::STORE);
-    pointer(s, t, temporaries, a, b" ram(");
+    pointer(stream, table, temporaries, actions, b" ram(");
     text(b", ");
-    input(s, t, temporaries, a, 1);
+    input(stream, table, temporaries, actions, 1);
 }
 
 // The condition of a branch stands in input 0, and is the constant 1 where there is none.
-fn is_conditional(a: &[u64]) -> bool {
-    if access::get(a, action::INPUT_0) != 1 {
+fn is_conditional(actions: &[u64]) -> bool {
+    if access::get(actions, action::INPUT_0) != 1 {
         return true;
     }
-    access::get(a, INPUT_0_WORD) % 256 != value_kind::CONSTANT
+    access::get(actions, INPUT_0_WORD) % 256 != value_kind::CONSTANT
 }
 
 // BRANCH, or CBRANCH with a condition.
-fn branch_name(a: &[u64]) {
-    if is_conditional(a) {
+fn branch_name(actions: &[u64]) {
+    if is_conditional(actions) {
         text(b"C");
     }
-    operation_name(access::get(a, action::OPERATION));
+    operation_name(access::get(actions, action::OPERATION));
     text(b" ");
 }
 
-fn condition(s: &[u8], t: &[u16; table::LENGTH], temporaries: &[u64], a: &[u64]) {
-    if is_conditional(a) {
+fn condition(stream: &[u8], table: &[u16; table::LENGTH], temporaries: &[u64], actions: &[u64]) {
+    if is_conditional(actions) {
         text(b", ");
-        input(s, t, temporaries, a, 0);
+        input(stream, table, temporaries, actions, 0);
     }
 }
 
-fn hint(n: u64) {
-    match n {
+fn hint(count: u64) {
+    match count {
         0 => text(b"jump "),
         1 => text(b"call "),
         _ => text(b"return "),
     }
 }
 
-fn branch(s: &[u8], t: &[u16; table::LENGTH], temporaries: &[u64], a: &[u64]) {
-    branch_name(a);
-    hint(access::get(a, action::NUMBER));
-    input(s, t, temporaries, a, 1);
-    condition(s, t, temporaries, a);
+fn branch(stream: &[u8], table: &[u16; table::LENGTH], temporaries: &[u64], actions: &[u64]) {
+    branch_name(actions);
+    hint(access::get(actions, action::NUMBER));
+    input(stream, table, temporaries, actions, 1);
+    condition(stream, table, temporaries, actions);
 }
 
-fn label(n: u64) {
+fn label(count: u64) {
     text(b"<");
-    number(n);
+    number(count);
     text(b">");
 }
 
-fn label_branch(s: &[u8], t: &[u16; table::LENGTH], temporaries: &[u64], a: &[u64]) {
-    branch_name(a);
-    label(access::get(a, action::NUMBER));
-    condition(s, t, temporaries, a);
+fn label_branch(stream: &[u8], table: &[u16; table::LENGTH], temporaries: &[u64], actions: &[u64]) {
+    branch_name(actions);
+    label(access::get(actions, action::NUMBER));
+    condition(stream, table, temporaries, actions);
 }
 
 // A user op by its name.
-fn user_op(s: &[u8], t: &[u16; table::LENGTH], temporaries: &[u64], a: &[u64]) {
-    maybe_output(s, t, temporaries, a);
+fn user_op(stream: &[u8], table: &[u16; table::LENGTH], temporaries: &[u64], actions: &[u64]) {
+    maybe_output(stream, table, temporaries, actions);
     operation_name(operation::PCODE_OP);
     text(b" ");
-    name(listing_names::names::user_op(s, t, access::get(a, action::NUMBER)));
-    inputs(s, t, temporaries, a, b", ");
+    name(listing_names::names::user_op(stream, table, access::get(actions, action::NUMBER)));
+    inputs(stream, table, temporaries, actions, b", ");
 }
 
 // An operand of the user op that follows.
-fn arg(s: &[u8], t: &[u16; table::LENGTH], temporaries: &[u64], a: &[u64]) {
+fn arg(stream: &[u8], table: &[u16; table::LENGTH], temporaries: &[u64], actions: &[u64]) {
     operation_name(operation::ARG);
     text(b" ");
-    number(access::get(a, action::NUMBER));
-    inputs(s, t, temporaries, a, b", ");
+    number(access::get(actions, action::NUMBER));
+    inputs(stream, table, temporaries, actions, b", ");
 }
 
-fn operation(s: &[u8], t: &[u16; table::LENGTH], temporaries: &[u64], a: &[u64]) {
-    match access::get(a, action::OPERATION) {
-        operation::LOAD => load(s, t, temporaries, a),
-        operation::STORE => store(s, t, temporaries, a),
-        operation::BRANCH => branch(s, t, temporaries, a),
-        operation::PCODE_BRANCH => label_branch(s, t, temporaries, a),
-        operation::PCODE_OP => user_op(s, t, temporaries, a),
-        operation::ARG => arg(s, t, temporaries, a),
-        _ => plain(s, t, temporaries, a),
+fn operation(stream: &[u8], table: &[u16; table::LENGTH], temporaries: &[u64], actions: &[u64]) {
+    match access::get(actions, action::OPERATION) {
+        operation::LOAD => load(stream, table, temporaries, actions),
+        operation::STORE => store(stream, table, temporaries, actions),
+        operation::BRANCH => branch(stream, table, temporaries, actions),
+        operation::PCODE_BRANCH => label_branch(stream, table, temporaries, actions),
+        operation::PCODE_OP => user_op(stream, table, temporaries, actions),
+        operation::ARG => arg(stream, table, temporaries, actions),
+        _ => plain(stream, table, temporaries, actions),
     }
 }
 
-fn address_of(s: &[u8], t: &[u16; table::LENGTH], temporaries: &[u64], a: &[u64]) {
-    output(s, t, temporaries, a);
+fn address_of(stream: &[u8], table: &[u16; table::LENGTH], temporaries: &[u64], actions: &[u64]) {
+    output(stream, table, temporaries, actions);
     text(b"ADDRESS_OF ");
-    input(s, t, temporaries, a, 0);
+    input(stream, table, temporaries, actions, 0);
 }
 
 // A register access has a size beside its pointer's.
-fn load_register(s: &[u8], t: &[u16; table::LENGTH], temporaries: &[u64], a: &[u64]) {
-    output(s, t, temporaries, a);
+fn load_register(
+    stream: &[u8],
+    table: &[u16; table::LENGTH],
+    temporaries: &[u64],
+    actions: &[u64],
+) {
+    output(stream, table, temporaries, actions);
     operation_name(operation::LOAD);
-    pointer(s, t, temporaries, a, b" register(");
-    size(access::get(a, action::NUMBER));
+    pointer(stream, table, temporaries, actions, b" register(");
+    size(access::get(actions, action::NUMBER));
 }
 
-fn store_register(s: &[u8], t: &[u16; table::LENGTH], temporaries: &[u64], a: &[u64]) {
+fn store_register(
+    stream: &[u8],
+    table: &[u16; table::LENGTH],
+    temporaries: &[u64],
+    actions: &[u64],
+) {
     operation_name(operation::STORE);
-    pointer(s, t, temporaries, a, b" register(");
-    size(access::get(a, action::NUMBER));
+    pointer(stream, table, temporaries, actions, b" register(");
+    size(access::get(actions, action::NUMBER));
     text(b", ");
-    input(s, t, temporaries, a, 1);
+    input(stream, table, temporaries, actions, 1);
 }
 
-fn build(s: &[u8], t: &[u16; table::LENGTH], a: &[u64]) {
+fn build(stream: &[u8], table: &[u16; table::LENGTH], actions: &[u64]) {
     text(b"BUILD ");
-    subtable(s, t, access::get(a, action::NUMBER));
+    subtable(stream, table, access::get(actions, action::NUMBER));
 }
 
-fn kind(s: &[u8], t: &[u16; table::LENGTH], temporaries: &[u64], a: &[u64]) {
-    match access::get(a, action::KIND) {
-        action_kind::OP => operation(s, t, temporaries, a),
-        action_kind::ADDRESS_OF => address_of(s, t, temporaries, a),
-        action_kind::LOAD_REGISTER => load_register(s, t, temporaries, a),
-        action_kind::STORE_REGISTER => store_register(s, t, temporaries, a),
+fn kind(stream: &[u8], table: &[u16; table::LENGTH], temporaries: &[u64], actions: &[u64]) {
+    match access::get(actions, action::KIND) {
+        action_kind::OP => operation(stream, table, temporaries, actions),
+        action_kind::ADDRESS_OF => address_of(stream, table, temporaries, actions),
+        action_kind::LOAD_REGISTER => load_register(stream, table, temporaries, actions),
+        action_kind::STORE_REGISTER => store_register(stream, table, temporaries, actions),
         action_kind::DELAY_SLOT => text(b"DELAYSLOT"),
-        _ => build(s, t, a),
+        _ => build(stream, table, actions),
     }
 }
 
-fn is_label(a: &[u64]) -> bool {
-    if access::get(a, action::KIND) != action_kind::OP {
+fn is_label(actions: &[u64]) -> bool {
+    if access::get(actions, action::KIND) != action_kind::OP {
         return false;
     }
-    access::get(a, action::OPERATION) == operation::PCODE_LABEL
+    access::get(actions, action::OPERATION) == operation::PCODE_LABEL
 }
 
 // An action of 24 words.
-fn action(s: &[u8], t: &[u16; table::LENGTH], temporaries: &[u64], a: &[u64]) {
-    if is_label(a) {
-        label(access::get(a, action::NUMBER));
+fn action(stream: &[u8], table: &[u16; table::LENGTH], temporaries: &[u64], actions: &[u64]) {
+    if is_label(actions) {
+        label(access::get(actions, action::NUMBER));
         text(b"\n");
         return;
     }
     text(b"  ");
-    kind(s, t, temporaries, a);
+    kind(stream, table, temporaries, actions);
     text(b"\n");
 }
 
-fn action_in(s: &[u8], t: &[u16; table::LENGTH], temporaries: &[u64], list: &[u64], i: usize) {
-    if i < list.len() / action::WORDS {
-        let from = action::WORDS * i;
-        let to = action::WORDS * i + action::WORDS;
-        action(s, t, temporaries, &list[from..to]);
+fn action_in(
+    stream: &[u8],
+    table: &[u16; table::LENGTH],
+    temporaries: &[u64],
+    list: &[u64],
+    index: usize,
+) {
+    if index < list.len() / action::WORDS {
+        let from = action::WORDS * index;
+        let to = action::WORDS * index + action::WORDS;
+        action(stream, table, temporaries, &list[from..to]);
     }
 }
 

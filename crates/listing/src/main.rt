@@ -31,26 +31,26 @@ fn say(text: &[u8]) {
 }
 
 // How the export is reached: it is a value, or stands behind a pointer.
-fn export_space(r: Answer) {
+fn export_space(answer: Answer) {
     text(b"  export ");
-    if r.kind == export_kind::COMPUTED {
+    if answer.kind == export_kind::COMPUTED {
         return;
     }
-    if r.kind == export_kind::RAM_REF {
+    if answer.kind == export_kind::RAM_REF {
         text(b"*[ram]");
     } else {
         text(b"*[register]");
     }
-    size(r.size);
+    size(answer.size);
     text(b" ");
 }
 
-fn export(s: &[u8], t: &[u16; table::LENGTH], temporaries: &[u64], r: Answer) {
-    if r.kind == 0 {
+fn export(stream: &[u8], table: &[u16; table::LENGTH], temporaries: &[u64], answer: Answer) {
+    if answer.kind == 0 {
         return;
     }
-    export_space(r);
-    value(s, t, temporaries, r.number, r.word);
+    export_space(answer);
+    value(stream, table, temporaries, answer.number, answer.word);
     text(b"\n");
 }
 
@@ -62,86 +62,104 @@ fn verdict(passes: bool) {
     text(b"the checker does not accept the list\n");
 }
 
-fn closing(r: Answer, passes: bool) {
-    count(r.actions, b"action", b"actions");
+fn closing(answer: Answer, passes: bool) {
+    count(answer.actions, b"action", b"actions");
     text(b", ");
-    count(r.temporaries, b"temporary", b"temporaries");
+    count(answer.temporaries, b"temporary", b"temporaries");
     text(b", ");
-    count(r.labels, b"label", b"labels");
+    count(answer.labels, b"label", b"labels");
     text(b", ");
-    count(r.statements, b"statement", b"statements");
+    count(answer.statements, b"statement", b"statements");
     text(b", ");
-    count(r.points, b"point", b"points");
+    count(answer.points, b"point", b"points");
     text(b"; ");
     verdict(passes);
 }
 
-fn accepted(s: &[u8], t: &[u16; table::LENGTH], list: &[u64], temporaries: &[u64], r: Checked) {
-    let a = r.answer;
-    actions(s, t, temporaries, list, a.actions);
-    export(s, t, temporaries, a);
-    closing(a, r.passes);
+fn accepted(
+    stream: &[u8],
+    table: &[u16; table::LENGTH],
+    list: &[u64],
+    temporaries: &[u64],
+    answer: Checked,
+) {
+    let a = answer.answer;
+    actions(stream, table, temporaries, list, a.actions);
+    export(stream, table, temporaries, a);
+    closing(a, answer.passes);
 }
 
 // The section of a stream and its table.
-fn list_section(s: &[u8], t: &[u16; table::LENGTH], list: &[u64], temporaries: &[u64], r: Checked) {
-    let a = r.answer;
+fn list_section(
+    stream: &[u8],
+    table: &[u16; table::LENGTH],
+    list: &[u64],
+    temporaries: &[u64],
+    answer: Checked,
+) {
+    let a = answer.answer;
     if a.refusal != 0 {
-        refusal_at(s, t, a);
+        refusal_at(stream, table, a);
         return;
     }
     let n = a.temporaries as usize;
     if n <= temporaries.len() {
-        accepted(s, t, list, &temporaries[..n], r);
+        accepted(stream, table, list, &temporaries[..n], answer);
     }
 }
 
 // The same, where the table is an array.
-fn list_table(s: &[u8], t: &[u16; table::LENGTH], list: &[u64], temporaries: &[u64], r: Checked) {
-    list_section(s, t, list, temporaries, r);
+fn list_table(
+    stream: &[u8],
+    table: &[u16; table::LENGTH],
+    list: &[u64],
+    temporaries: &[u64],
+    answer: Checked,
+) {
+    list_section(stream, table, list, temporaries, answer);
 }
 
-fn list_stream(s: &[u8], list: &[u64], temporaries: &[u64], r: Checked) {
+fn list_stream(stream: &[u8], list: &[u64], temporaries: &[u64], answer: Checked) {
     let mut t = [0u16; table::LENGTH];
-    let bad = file_section::read_stream(s, &mut t);
+    let bad = file_section::read_stream(stream, &mut t);
     if bad != 0 {
-        refusal(r.answer);
+        refusal(answer.answer);
         return;
     }
-    list_table(s, &t, list, temporaries, r);
+    list_table(stream, &t, list, temporaries, answer);
 }
 
 // The stream is the first n bytes, which are there.
-fn list_front(bytes: &[u8], n: usize, list: &[u64], temporaries: &[u64], r: Checked) {
-    if n <= bytes.len() {
-        list_stream(&bytes[..n], list, temporaries, r);
+fn list_front(bytes: &[u8], count: usize, list: &[u64], temporaries: &[u64], answer: Checked) {
+    if count <= bytes.len() {
+        list_stream(&bytes[..count], list, temporaries, answer);
     }
 }
 
 // A file of several blocks, whose payloads are joined.
-fn list_blocks(file: &[u8], list: &[u64], temporaries: &[u64], r: Checked) {
+fn list_blocks(file: &[u8], list: &[u64], temporaries: &[u64], answer: Checked) {
     let mut buf = [0u8; 65280];
     let n = file.len() / 512 * 510;
     if n <= 65280 {
         file_blocks::blocks::join(file, &mut buf);
-        list_front(&buf, n, list, temporaries, r);
+        list_front(&buf, n, list, temporaries, answer);
     }
 }
 
-fn list_file(file: &[u8], list: &[u64], temporaries: &[u64], r: Checked) {
+fn list_file(file: &[u8], list: &[u64], temporaries: &[u64], answer: Checked) {
     if file_blocks::blocks::check_blocks(file) != 0 {
-        refusal(r.answer);
+        refusal(answer.answer);
         return;
     }
     if file.len() == 512 {
-        list_front(file, 510, list, temporaries, r);
+        list_front(file, 510, list, temporaries, answer);
         return;
     }
-    list_blocks(file, list, temporaries, r);
+    list_blocks(file, list, temporaries, answer);
 }
 
-fn list_lists(file: &[u8], list: &[u64; WORDS], temporaries: &[u64; TEMPORARIES], r: Checked) {
-    list_file(file, list, temporaries, r);
+fn list_lists(file: &[u8], list: &[u64; WORDS], temporaries: &[u64; TEMPORARIES], answer: Checked) {
+    list_file(file, list, temporaries, answer);
 }
 
 fn resolve_lists(
@@ -166,14 +184,14 @@ fn listing(file: &[u8]) {
 }
 
 // The first n bytes, which are there.
-fn listing_first(file: &[u8], n: usize) {
-    if n <= file.len() {
-        listing(&file[..n]);
+fn listing_first(file: &[u8], count: usize) {
+    if count <= file.len() {
+        listing(&file[..count]);
     }
 }
 
-fn listing_read(file: &[u8; FILE], n: usize) {
-    listing_first(file, n);
+fn listing_read(file: &[u8; FILE], count: usize) {
+    listing_first(file, count);
 }
 
 fn read_failed(fd: i32, file: &mut [u8; FILE]) -> bool {

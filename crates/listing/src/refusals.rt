@@ -8,8 +8,8 @@ use codes::refusal;
 use codes::table;
 use resolve_answer::answer::Answer;
 
-fn of_file(n: u64) {
-    match n {
+fn of_file(count: u64) {
+    match count {
         refusal::BAD_LENGTH => text(
             b"the file is empty, has more than 65,536 bytes, or is not made of whole blocks of 512 bytes",
         ),
@@ -25,8 +25,8 @@ fn of_file(n: u64) {
     }
 }
 
-fn of_limit(n: u64) {
-    match n {
+fn of_limit(count: u64) {
+    match count {
         refusal::TOO_MANY_STATEMENTS => text(b"more than 4,096 statements are to be resolved"),
         refusal::MACRO_TOO_DEEP => text(b"macro calls are more than 16 deep"),
         refusal::LIST_FULL => text(b"the list has no room for another action"),
@@ -35,8 +35,8 @@ fn of_limit(n: u64) {
     }
 }
 
-fn of_name(n: u64) {
-    match n {
+fn of_name(count: u64) {
+    match count {
         refusal::AFTER_EXPORT => text(b"a statement follows an export"),
         refusal::REDECLARED => text(b"a name is declared again"),
         refusal::UNDEFINED => text(b"a name is not defined"),
@@ -48,8 +48,8 @@ fn of_name(n: u64) {
     }
 }
 
-fn of_operand(n: u64) {
-    match n {
+fn of_operand(count: u64) {
+    match count {
         refusal::STORE_TO_NO_ADDRESS => text(b"a store goes to no address"),
         refusal::JUMP_TO_NON_LOCAL => text(b"a direct jump goes to something that is no variable"),
         refusal::ADDRESS_OF_NON_LOCAL => text(
@@ -65,8 +65,8 @@ fn of_operand(n: u64) {
     }
 }
 
-fn of_access(n: u64) {
-    match n {
+fn of_access(count: u64) {
+    match count {
         refusal::SLICE_PAST_END => text(b"a slice goes past the end of its value"),
         refusal::NOT_ASSIGNABLE => text(b"the target of an assignment cannot be assigned to"),
         refusal::CONST_SPACE => text(
@@ -81,21 +81,21 @@ fn of_access(n: u64) {
     }
 }
 
-fn of_size(n: u64) {
-    match n {
+fn of_size(count: u64) {
+    match count {
         refusal::SUBPIECE_SIZE => text(b"the size of a subpiece stays unknown"),
         _ => text(b"sizes do not agree, or stay unknown"),
     }
 }
 
-fn sentence(n: u64) {
-    match n {
-        0..=9 => of_file(n),
-        10..=19 => of_limit(n),
-        20..=27 => of_name(n),
-        28..=35 => of_operand(n),
-        36..=49 => of_access(n),
-        _ => of_size(n),
+fn sentence(count: u64) {
+    match count {
+        0..=9 => of_file(count),
+        10..=19 => of_limit(count),
+        20..=27 => of_name(count),
+        28..=35 => of_operand(count),
+        36..=49 => of_access(count),
+        _ => of_size(count),
     }
 }
 

@@ -24,14 +24,14 @@ fn kind(code: u64) {
 }
 
 // Where statement n of those that begin at a place stands.
-fn place(s: &[u8], at: usize, n: u64) -> usize {
+fn place(stream: &[u8], at: usize, count: u64) -> usize {
     let c = Cursor { at, bad: 0, val: 0 };
-    file_syntax::statements::body(s, access::u16_at(s, header::NAMES), n, c).at
+    file_syntax::statements::body(stream, access::u16_at(stream, header::NAMES), count, c).at
 }
 
 // The kind of statement n of those that begin at a place.
-fn kind_at(s: &[u8], at: usize, n: u64) {
-    kind(access::byte(s, place(s, at, n), 0));
+fn kind_at(stream: &[u8], at: usize, count: u64) {
+    kind(access::byte(stream, place(stream, at, count), 0));
 }
 
 // The ordinals count from first.
@@ -43,51 +43,51 @@ fn since(ordinal: u64, first: u64) -> u64 {
 }
 
 // The last macro whose body begins at the ordinal or before.
-fn macro_of(s: &[u8], t: &[u16; table::LENGTH], ordinal: u64) -> usize {
-    let n = access::u16_at(s, header::MACROS) as usize;
+fn macro_of(stream: &[u8], table: &[u16; table::LENGTH], ordinal: u64) -> usize {
+    let n = access::u16_at(stream, header::MACROS) as usize;
     let mut last: usize = 0;
     for i in 0..n {
-        last = later(t, i, ordinal, last);
+        last = later(table, i, ordinal, last);
     }
     last
 }
 
-fn later(t: &[u16; table::LENGTH], i: usize, ordinal: u64, last: usize) -> usize {
-    if access::get_u16(t, table::MACRO_ORDINALS + i % 128) as u64 <= ordinal {
-        return i;
+fn later(table: &[u16; table::LENGTH], index: usize, ordinal: u64, last: usize) -> usize {
+    if access::get_u16(table, table::MACRO_ORDINALS + index % 128) as u64 <= ordinal {
+        return index;
     }
     last
 }
 
 // Where the statements of a macro begin, whose parameter count stands at a place.
-fn body_at(s: &[u8], at: u16) -> usize {
-    at as usize + 3 + 2 * access::byte(s, at as usize, 0) as usize
+fn body_at(stream: &[u8], at: u16) -> usize {
+    at as usize + 3 + 2 * access::byte(stream, at as usize, 0) as usize
 }
 
 // The name that stands at a place.
-fn macro_name(s: &[u8], t: &[u16; table::LENGTH], at: usize) {
-    name(listing_names::names::name(s, t, access::u16_at(s, at)));
+fn macro_name(stream: &[u8], table: &[u16; table::LENGTH], at: usize) {
+    name(listing_names::names::name(stream, table, access::u16_at(stream, at)));
 }
 
-fn in_macro(s: &[u8], t: &[u16; table::LENGTH], ordinal: u64) {
-    let i = macro_of(s, t, ordinal) % 128;
-    let first = access::get_u16(t, table::MACRO_ORDINALS + i) as u64;
-    let at = access::get_u16(t, table::MACROS + i);
-    kind_at(s, body_at(s, at), since(ordinal, first));
+fn in_macro(stream: &[u8], table: &[u16; table::LENGTH], ordinal: u64) {
+    let i = macro_of(stream, table, ordinal) % 128;
+    let first = access::get_u16(table, table::MACRO_ORDINALS + i) as u64;
+    let at = access::get_u16(table, table::MACROS + i);
+    kind_at(stream, body_at(stream, at), since(ordinal, first));
     text(b" in macro ");
     if 2 <= at {
-        macro_name(s, t, at as usize - 2);
+        macro_name(stream, table, at as usize - 2);
     }
 }
 
-fn described(s: &[u8], t: &[u16; table::LENGTH], ordinal: u64) {
-    let first = access::get_u16(t, table::FIRST_ORDINAL) as u64;
+fn described(stream: &[u8], table: &[u16; table::LENGTH], ordinal: u64) {
+    let first = access::get_u16(table, table::FIRST_ORDINAL) as u64;
     if ordinal < first {
-        in_macro(s, t, ordinal);
+        in_macro(stream, table, ordinal);
         return;
     }
-    let at = access::get_u16(t, table::STATEMENTS) as usize;
-    kind_at(s, at, since(ordinal, first));
+    let at = access::get_u16(table, table::STATEMENTS) as usize;
+    kind_at(stream, at, since(ordinal, first));
 }
 
 pub(crate) fn statement(s: &[u8], t: &[u16; table::LENGTH], ordinal: u64) {

@@ -12,10 +12,10 @@ use codes::value_kind;
 const SIZE_PLACE: u64 = 16777216;
 
 // Whether a temporary but the one at i has the name n, as where a macro that declares it is called twice.
-fn is_shared(temporaries: &[u64], i: u64, n: u64) -> bool {
+fn is_shared(temporaries: &[u64], index: u64, count: u64) -> bool {
     for j in 0..temporaries.len() {
-        if j as u64 != i {
-            if temporaries[j] % 65536 == n {
+        if j as u64 != index {
+            if temporaries[j] % 65536 == count {
                 return true;
             }
         }
@@ -24,23 +24,23 @@ fn is_shared(temporaries: &[u64], i: u64, n: u64) -> bool {
 }
 
 // Its name, and its number where another has that name too; t and its number where it has none.
-fn temporary(s: &[u8], t: &[u16; table::LENGTH], temporaries: &[u64], i: u64) {
-    let n = access::get(temporaries, i as usize) % 65536;
+fn temporary(stream: &[u8], table: &[u16; table::LENGTH], temporaries: &[u64], index: u64) {
+    let n = access::get(temporaries, index as usize) % 65536;
     if n == NONE {
         text(b"t");
-        number(i);
+        number(index);
         return;
     }
-    name(listing_names::names::name(s, t, n));
-    if is_shared(temporaries, i, n) {
+    name(listing_names::names::name(stream, table, n));
+    if is_shared(temporaries, index, n) {
         text(b"#");
-        number(i);
+        number(index);
     }
 }
 
 // The name that stands at a place of the header.
-fn header_name(s: &[u8], t: &[u16; table::LENGTH], at: usize) {
-    name(listing_names::names::name(s, t, access::u16_at(s, at)));
+fn header_name(stream: &[u8], table: &[u16; table::LENGTH], at: usize) {
+    name(listing_names::names::name(stream, table, access::u16_at(stream, at)));
 }
 
 pub(crate) fn subtable(s: &[u8], t: &[u16; table::LENGTH], i: u64) {
@@ -48,28 +48,28 @@ pub(crate) fn subtable(s: &[u8], t: &[u16; table::LENGTH], i: u64) {
 }
 
 // What a direct jump to a subtable goes to.
-fn reference(s: &[u8], t: &[u16; table::LENGTH], i: u64) {
+fn reference(stream: &[u8], table: &[u16; table::LENGTH], index: u64) {
     text(b"&");
-    subtable(s, t, i);
+    subtable(stream, table, index);
 }
 
-fn base(s: &[u8], t: &[u16; table::LENGTH], temporaries: &[u64], kind: u64, i: u64) {
+fn base(stream: &[u8], table: &[u16; table::LENGTH], temporaries: &[u64], kind: u64, index: u64) {
     match kind {
-        value_kind::INST_START => header_name(s, t, header::INST_START),
-        value_kind::INST_NEXT => header_name(s, t, header::INST_NEXT),
-        value_kind::REGISTER => name(listing_names::names::register(s, t, i)),
-        value_kind::FIELD => name(listing_names::names::field(s, t, i)),
-        value_kind::SUBTABLE => subtable(s, t, i),
-        value_kind::SUBTABLE_REF => reference(s, t, i),
-        value_kind::PCODE_TMP => temporary(s, t, temporaries, i),
-        _ => hexadecimal(i),
+        value_kind::INST_START => header_name(stream, table, header::INST_START),
+        value_kind::INST_NEXT => header_name(stream, table, header::INST_NEXT),
+        value_kind::REGISTER => name(listing_names::names::register(stream, table, index)),
+        value_kind::FIELD => name(listing_names::names::field(stream, table, index)),
+        value_kind::SUBTABLE => subtable(stream, table, index),
+        value_kind::SUBTABLE_REF => reference(stream, table, index),
+        value_kind::PCODE_TMP => temporary(stream, table, temporaries, index),
+        _ => hexadecimal(index),
     }
 }
 
-fn offset(n: u64) {
-    if n != 0 {
+fn offset(count: u64) {
+    if count != 0 {
         text(b"+");
-        number(n);
+        number(count);
     }
 }
 

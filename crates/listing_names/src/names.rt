@@ -6,56 +6,60 @@ ghost use Rattle.file_refinement.specs.Holds.{spelledAt};
 ghost use Rattle.listing_names.specs.Names.{nameOf, nameIn, registerName, userOpName, fieldName, subtableName};
 
 // The name whose length byte stands at a place, as far as the stream goes.
-fn spelled<'a>(s: &'a [u8], at: usize) -> &'a [u8]
-    ensures { λ r. ⌜ now r ≡ spelledAt (now (s .entry)) at ⌝ }
+fn spelled<'a>(stream: &'a [u8], at: usize) -> &'a [u8]
+    ensures { λ r. ⌜ now r ≡ spelledAt (now (stream .entry)) at ⌝ }
 {
-    let n = access::byte(s, at, 0) as usize;
-    if s.len() <= at {
-        return &s[..0];
+    let n = access::byte(stream, at, 0) as usize;
+    if stream.len() <= at {
+        return &stream[..0];
     }
     let from = at + 1;
-    if s.len() - from < n {
-        return &s[from..];
+    if stream.len() - from < n {
+        return &stream[from..];
     }
     let to = from + n;
-    &s[from..to]
+    &stream[from..to]
 }
 
 // Name n.
-pub fn name<'a>(s: &'a [u8], t: &[u16; table::LENGTH], n: u64) -> &'a [u8]
-    ensures { λ r. ⌜ now r ≡ nameOf (now (s .entry)) (now (t .entry)) n ⌝ }
+pub fn name<'a>(stream: &'a [u8], table: &[u16; table::LENGTH], number: u64) -> &'a [u8]
+    ensures { λ r. ⌜ now r ≡ nameOf (now (stream .entry)) (now (table .entry)) number ⌝ }
 {
-    let at = access::get_u16(t, n as usize) as usize;
-    spelled(s, at)
+    let at = access::get_u16(table, number as usize) as usize;
+    spelled(stream, at)
 }
 
 // The name of the entry that begins so many bytes into list k.
-fn name_in<'a>(s: &'a [u8], t: &[u16; table::LENGTH], k: usize, bytes: u64) -> &'a [u8]
-    ensures { λ r. ⌜ now r ≡ nameIn (now (s .entry)) (now (t .entry)) k bytes ⌝ }
+fn name_in<'a>(stream: &'a [u8], table: &[u16; table::LENGTH], list: usize, bytes: u64) -> &'a [u8]
+    ensures { λ r. ⌜ now r ≡ nameIn (now (stream .entry)) (now (table .entry)) list bytes ⌝ }
 {
-    name(s, t, access::u16_at(s, entry(t, k, bytes)))
+    name(
+        stream,
+        table,
+        access::u16_at(stream, entry(table, list, bytes)),
+    )
 }
 
-pub fn register<'a>(s: &'a [u8], t: &[u16; table::LENGTH], i: u64) -> &'a [u8]
-    ensures { λ r. ⌜ now r ≡ registerName (now (s .entry)) (now (t .entry)) i ⌝ }
+pub fn register<'a>(stream: &'a [u8], table: &[u16; table::LENGTH], index: u64) -> &'a [u8]
+    ensures { λ r. ⌜ now r ≡ registerName (now (stream .entry)) (now (table .entry)) index ⌝ }
 {
-    name_in(s, t, table::REGISTERS, i % 65536 * 4)
+    name_in(stream, table, table::REGISTERS, index % 65536 * 4)
 }
 
-pub fn user_op<'a>(s: &'a [u8], t: &[u16; table::LENGTH], i: u64) -> &'a [u8]
-    ensures { λ r. ⌜ now r ≡ userOpName (now (s .entry)) (now (t .entry)) i ⌝ }
+pub fn user_op<'a>(stream: &'a [u8], table: &[u16; table::LENGTH], index: u64) -> &'a [u8]
+    ensures { λ r. ⌜ now r ≡ userOpName (now (stream .entry)) (now (table .entry)) index ⌝ }
 {
-    name_in(s, t, table::USER_OPS, i % 65536 * 2)
+    name_in(stream, table, table::USER_OPS, index % 65536 * 2)
 }
 
-pub fn field<'a>(s: &'a [u8], t: &[u16; table::LENGTH], i: u64) -> &'a [u8]
-    ensures { λ r. ⌜ now r ≡ fieldName (now (s .entry)) (now (t .entry)) i ⌝ }
+pub fn field<'a>(stream: &'a [u8], table: &[u16; table::LENGTH], index: u64) -> &'a [u8]
+    ensures { λ r. ⌜ now r ≡ fieldName (now (stream .entry)) (now (table .entry)) index ⌝ }
 {
-    name_in(s, t, table::FIELDS, i % 65536 * 4)
+    name_in(stream, table, table::FIELDS, index % 65536 * 4)
 }
 
-pub fn subtable<'a>(s: &'a [u8], t: &[u16; table::LENGTH], i: u64) -> &'a [u8]
-    ensures { λ r. ⌜ now r ≡ subtableName (now (s .entry)) (now (t .entry)) i ⌝ }
+pub fn subtable<'a>(stream: &'a [u8], table: &[u16; table::LENGTH], index: u64) -> &'a [u8]
+    ensures { λ r. ⌜ now r ≡ subtableName (now (stream .entry)) (now (table .entry)) index ⌝ }
 {
-    name_in(s, t, table::SUBTABLES, i % 65536 * 4)
+    name_in(stream, table, table::SUBTABLES, index % 65536 * 4)
 }

@@ -22,11 +22,11 @@ fn left_after(byte: u8, left: u64) -> u64
 }
 
 // Where word n begins.
-fn begin(words: &[u8], n: u64) -> usize
-    ensures { λ r. ⌜ (r ≤ length (now (words .entry))) × (first (drop r (now (words .entry))) ≡ word n (now (words .entry))) ⌝ }
+fn begin(words: &[u8], number: u64) -> usize
+    ensures { λ r. ⌜ (r ≤ length (now (words .entry))) × (first (drop r (now (words .entry))) ≡ word number (now (words .entry))) ⌝ }
 {
     let mut at: usize = 0;
-    let mut left = n;
+    let mut left = number;
     while at < words.len() {
         if left == 0 {
             return at;
@@ -53,10 +53,10 @@ fn end(words: &[u8], at: usize) -> usize
 }
 
 // Word n of words with a space between them; empty past the last.
-fn word<'a>(words: &'a [u8], n: u64) -> &'a [u8]
-    ensures { λ r. ⌜ now r ≡ word n (now (words .entry)) ⌝ }
+fn word<'a>(words: &'a [u8], number: u64) -> &'a [u8]
+    ensures { λ r. ⌜ now r ≡ word number (now (words .entry)) ⌝ }
 {
-    let from = begin(words, n);
+    let from = begin(words, number);
     let to = end(words, from);
     &words[from..to]
 }

@@ -23,22 +23,22 @@ pub fn resolve(file: &[u8], actions: &mut [u64], temporaries: &mut [u64]) -> Ans
     resolve_words(file, actions, temporaries)
 }
 
-fn numbers(r: Answer) -> [u64; 12]
-    ensures { λ x. ⌜ x ≡ numbers r ⌝ }
+fn numbers(answer: Answer) -> [u64; 12]
+    ensures { λ x. ⌜ x ≡ numbers answer ⌝ }
 {
     [
-        r.refusal,
-        r.ordinal,
-        r.statements,
-        r.actions,
-        r.temporaries,
-        r.labels,
-        r.points,
-        r.errors,
-        r.kind,
-        r.number,
-        r.word,
-        r.size,
+        answer.refusal,
+        answer.ordinal,
+        answer.statements,
+        answer.actions,
+        answer.temporaries,
+        answer.labels,
+        answer.points,
+        answer.errors,
+        answer.kind,
+        answer.number,
+        answer.word,
+        answer.size,
     ]
 }
 

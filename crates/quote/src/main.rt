@@ -19,33 +19,33 @@ fn print_line(words: &[u64]) {
     io::write_all(STDOUT_FILENO, b"\n");
 }
 
-fn print_action(list: &[u64], i: usize) {
-    if i < list.len() / 24 {
-        let from = 24 * i;
-        let to = 24 * i + 4;
+fn print_action(list: &[u64], index: usize) {
+    if index < list.len() / 24 {
+        let from = 24 * index;
+        let to = 24 * index + 4;
         print_line(&list[from..to]);
     }
 }
 
-fn print_actions(list: &[u64], n: u64) {
-    for i in 0..n {
+fn print_actions(list: &[u64], count: u64) {
+    for i in 0..count {
         print_action(list, i as usize);
     }
 }
 
-fn print_answer(r: Answer, list: &[u64]) {
+fn print_answer(answer: Answer, list: &[u64]) {
     let first = [
-        r.refusal,
-        r.ordinal,
-        r.statements,
-        r.actions,
-        r.temporaries,
-        r.labels,
-        r.points,
-        r.errors,
+        answer.refusal,
+        answer.ordinal,
+        answer.statements,
+        answer.actions,
+        answer.temporaries,
+        answer.labels,
+        answer.points,
+        answer.errors,
     ];
     print_line(&first);
-    print_actions(list, r.actions);
+    print_actions(list, answer.actions);
 }
 
 fn resolve_usual(file: &[u8], actions: &mut [u64; 786432]) -> Answer {
@@ -53,8 +53,8 @@ fn resolve_usual(file: &[u8], actions: &mut [u64; 786432]) -> Answer {
     mizgalon::resolve(file, actions, &mut temporaries)
 }
 
-fn print_usual(r: Answer, list: &[u64; 786432]) {
-    print_answer(r, list);
+fn print_usual(answer: Answer, list: &[u64; 786432]) {
+    print_answer(answer, list);
 }
 
 // With room for 32,768 actions, which the usual stack of 8 MiB holds. Whether that was enough.
@@ -73,8 +73,8 @@ fn resolve_large(file: &[u8], actions: &mut [u64; 5013504]) -> Answer {
     mizgalon::resolve(file, actions, &mut temporaries)
 }
 
-fn print_large(r: Answer, list: &[u64; 5013504]) {
-    print_answer(r, list);
+fn print_large(answer: Answer, list: &[u64; 5013504]) {
+    print_answer(answer, list);
 }
 
 // With room for 208,896 actions, more than any section has (docs/DECISIONS.md), on a stack of 48 MiB.
@@ -104,14 +104,14 @@ fn quote(file: &[u8], large: bool, lists: u64) {
 }
 
 // The first n bytes, which are there.
-fn quote_first(file: &[u8], n: usize, large: bool) {
-    if n <= file.len() {
-        quote(&file[..n], large, 1);
+fn quote_first(file: &[u8], count: usize, large: bool) {
+    if count <= file.len() {
+        quote(&file[..count], large, 1);
     }
 }
 
-fn quote_read(file: &[u8; 65537], n: usize, large: bool) {
-    quote_first(file, n, large);
+fn quote_read(file: &[u8; 65537], count: usize, large: bool) {
+    quote_first(file, count, large);
 }
 
 fn read_failed(fd: i32, file: &mut [u8; 65537]) -> bool {
@@ -148,9 +148,9 @@ fn usage() {
 }
 
 // The file that argument i names.
-fn quote_argument(i: usize, large: bool) {
+fn quote_argument(index: usize, large: bool) {
     let mut path = io::buffer();
-    let n = os::arg(i, &mut path);
+    let n = os::arg(index, &mut path);
     if os::errno() != 0 {
         usage();
         return;
@@ -158,12 +158,12 @@ fn quote_argument(i: usize, large: bool) {
     quote_path(&path[..n], large);
 }
 
-fn same(a: &[u8], b: &[u8]) -> bool {
-    if a.len() != b.len() {
+fn same(left: &[u8], right: &[u8]) -> bool {
+    if left.len() != right.len() {
         return false;
     }
-    for i in 0..a.len() {
-        if a[i] != b[i] {
+    for i in 0..left.len() {
+        if left[i] != right[i] {
             return false;
         }
     }

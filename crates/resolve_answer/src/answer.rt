@@ -23,11 +23,17 @@ pub struct Answer {
     pub size: u64,
 }
 
-pub fn refused(a: &mut [u64], m: &mut [u64], refusal: u64, ordinal: u64, errors: u64) -> Answer
-    ensures { λ r. ⌜ resolvedTo r (now (a .exit)) (now (m .exit)) ≡ refused (now (a .entry)) (now (m .entry)) refusal ordinal errors ⌝ }
+pub fn refused(
+    actions: &mut [u64],
+    temporaries: &mut [u64],
+    refusal: u64,
+    ordinal: u64,
+    errors: u64,
+) -> Answer
+    ensures { λ r. ⌜ resolvedTo r (now (actions .exit)) (now (temporaries .exit)) ≡ refused (now (actions .entry)) (now (temporaries .entry)) refusal ordinal errors ⌝ }
 {
-    access::zero_from(a, 0);
-    access::zero_from(m, 0);
+    access::zero_from(actions, 0);
+    access::zero_from(temporaries, 0);
     Answer {
         refusal,
         ordinal,
@@ -55,19 +61,19 @@ fn points(actions: u64, temporaries: u64) -> u64
     0
 }
 
-fn clear_mark(m: &mut [u64], i: usize)
-    ensures { λ _. ⌜ now (m .exit) ≡ clearMark i (now (m .entry)) ⌝ }
+fn clear_mark(temporaries: &mut [u64], index: usize)
+    ensures { λ _. ⌜ now (temporaries .exit) ≡ clearMark index (now (temporaries .entry)) ⌝ }
 {
-    let w = access::get(m, i);
-    access::put(m, i, w % 4294967296);
+    let w = access::get(temporaries, index);
+    access::put(temporaries, index, w % 4294967296);
 }
 
 // The marks of the scopes are taken out of the first n temporaries' words.
-fn clear_marks(m: &mut [u64], n: usize)
-    ensures { λ _. ⌜ now (m .exit) ≡ clearMarks n (now (m .entry)) ⌝ }
+fn clear_marks(temporaries: &mut [u64], count: usize)
+    ensures { λ _. ⌜ now (temporaries .exit) ≡ clearMarks count (now (temporaries .entry)) ⌝ }
 {
-    for i in 0..n {
-        clear_mark(m, i);
+    for i in 0..count {
+        clear_mark(temporaries, i);
     }
 }
 
@@ -77,16 +83,16 @@ pub struct Words {
     pub second: u64,
 }
 
-fn export_words(x: Export) -> Words
-    ensures { λ r. ⌜ r ≡ exportWords x ⌝ }
+fn export_words(export: Export) -> Words
+    ensures { λ r. ⌜ r ≡ exportWords export ⌝ }
 {
-    if x.kind == 0 {
+    if export.kind == 0 {
         return Words {
             number: 0,
             second: 0,
         };
     }
-    let v = x.v;
+    let v = export.v;
     Words {
         number: v.number,
         second: word(v),
@@ -94,32 +100,32 @@ fn export_words(x: Export) -> Words
 }
 
 pub fn accepted(
-    a: &mut [u64],
-    m: &mut [u64],
+    actions: &mut [u64],
+    temporaries: &mut [u64],
     subtables: usize,
-    n: usize,
-    w: Walk,
-    x: Export,
+    count: usize,
+    walk: Walk,
+    export: Export,
 ) -> Answer
-    ensures { λ r. ⌜ resolvedTo r (now (a .exit)) (now (m .exit)) ≡ accepted (now (a .entry)) (now (m .entry)) subtables n w x ⌝ }
+    ensures { λ r. ⌜ resolvedTo r (now (actions .exit)) (now (temporaries .exit)) ≡ accepted (now (actions .entry)) (now (temporaries .entry)) subtables count walk export ⌝ }
 {
-    let k = list_end::end::assemble(a, subtables, n);
-    let nt = w.st.temporaries;
-    clear_marks(m, nt);
-    access::zero_from(m, nt);
-    let e = export_words(x);
+    let k = list_end::end::assemble(actions, subtables, count);
+    let nt = walk.st.temporaries;
+    clear_marks(temporaries, nt);
+    access::zero_from(temporaries, nt);
+    let e = export_words(export);
     Answer {
         refusal: 0,
         ordinal: NONE,
-        statements: w.statements,
+        statements: walk.statements,
         actions: k as u64,
         temporaries: nt as u64,
-        labels: w.placed,
+        labels: walk.placed,
         points: points(k as u64, nt as u64),
         errors: 0,
-        kind: x.kind,
+        kind: export.kind,
         number: e.number,
         word: e.second,
-        size: x.size,
+        size: export.size,
     }
 }

@@ -17,70 +17,95 @@ ghost use Rattle.resolve_answer.specs.Ends.{judged, finishExport, finish
 
 // Size errors refuse the section.
 fn judged(
-    a: &mut [u64],
-    m: &mut [u64],
+    actions: &mut [u64],
+    temporaries: &mut [u64],
     subtables: usize,
-    n: usize,
-    w: Walk,
-    x: Export,
-    z: Sizing,
+    count: usize,
+    walk: Walk,
+    export: Export,
+    sizing: Sizing,
 ) -> Answer
-    ensures { λ r. ⌜ resolvedTo r (now (a .exit)) (now (m .exit)) ≡ judged (now (a .entry)) (now (m .entry)) subtables n w x z ⌝ }
+    ensures { λ r. ⌜ resolvedTo r (now (actions .exit)) (now (temporaries .exit)) ≡ judged (now (actions .entry)) (now (temporaries .entry)) subtables count walk export sizing ⌝ }
 {
-    if z.errors != 0 {
-        return refused(a, m, refusal::ERRORS_RECORDED, z.first, z.errors);
+    if sizing.errors != 0 {
+        return refused(
+            actions,
+            temporaries,
+            refusal::ERRORS_RECORDED,
+            sizing.first,
+            sizing.errors,
+        );
     }
-    accepted(a, m, subtables, n, w, x)
+    accepted(actions, temporaries, subtables, count, walk, export)
 }
 
 fn finish_export(
-    s: &[u8],
-    t: &[u16; table::LENGTH],
-    a: &mut [u64],
-    m: &mut [u64],
+    stream: &[u8],
+    table: &[u16; table::LENGTH],
+    actions: &mut [u64],
+    temporaries: &mut [u64],
     subtables: usize,
-    n: usize,
-    ptr: u64,
-    w: Walk,
-    z: Sizing,
+    count: usize,
+    pointer: u64,
+    walk: Walk,
+    sizing: Sizing,
 ) -> Answer
-    ensures { λ r. ⌜ resolvedTo r (now (a .exit)) (now (m .exit)) ≡ finishExport (now (s .entry)) (now (t .entry)) (now (a .entry)) (now (m .entry)) subtables n ptr w z ⌝ }
+    ensures { λ r. ⌜ resolvedTo r (now (actions .exit)) (now (temporaries .exit)) ≡ finishExport (now (stream .entry)) (now (table .entry)) (now (actions .entry)) (now (temporaries .entry)) subtables count pointer walk sizing ⌝ }
 {
-    let x = w.export;
+    let x = walk.export;
     if x.kind == 0 {
-        return judged(a, m, subtables, n, w, x, z);
+        return judged(actions, temporaries, subtables, count, walk, x, sizing);
     }
     let v = x.v;
-    let f = list_end::end::fix_size(s, t, m, v, ptr, z);
+    let f = list_end::end::fix_size(stream, table, temporaries, v, pointer, sizing);
     let fixed = f.v;
     let y = Export {
         kind: x.kind,
         v: fixed,
         size: x.size,
     };
-    judged(a, m, subtables, n, w, y, f.z)
+    judged(actions, temporaries, subtables, count, walk, y, f.z)
 }
 
 // From the actions with the sizes that the passes found.
 fn finish_sized(
-    s: &[u8],
-    t: &[u16; table::LENGTH],
-    a: &mut [u64],
-    m: &mut [u64],
+    stream: &[u8],
+    table: &[u16; table::LENGTH],
+    actions: &mut [u64],
+    temporaries: &mut [u64],
     subtables: usize,
-    n: usize,
-    ptr: u64,
-    w: Walk,
-    z: Sizing,
+    count: usize,
+    pointer: u64,
+    walk: Walk,
+    sizing: Sizing,
 ) -> Answer
-    ensures { λ r. ⌜ resolvedTo r (now (a .exit)) (now (m .exit)) ≡ finishSized (now (s .entry)) (now (t .entry)) (now (a .entry)) (now (m .entry)) subtables n ptr w z ⌝ }
+    ensures { λ r. ⌜ resolvedTo r (now (actions .exit)) (now (temporaries .exit)) ≡ finishSized (now (stream .entry)) (now (table .entry)) (now (actions .entry)) (now (temporaries .entry)) subtables count pointer walk sizing ⌝ }
 {
-    let f = list_end::end::finish_actions(s, t, a, m, place(0, subtables), n, ptr, z);
+    let f = list_end::end::finish_actions(
+        stream,
+        table,
+        actions,
+        temporaries,
+        place(0, subtables),
+        count,
+        pointer,
+        sizing,
+    );
     if f.refusal != 0 {
         let y = f.z;
-        return refused(a, m, f.refusal, y.begun, 0);
+        return refused(actions, temporaries, f.refusal, y.begun, 0);
     }
-    finish_export(s, t, a, m, subtables, n, ptr, w, f.z)
+    finish_export(
+        stream,
+        table,
+        actions,
+        temporaries,
+        subtables,
+        count,
+        pointer,
+        walk,
+        f.z,
+    )
 }
 
 // How many actions stand between two positions.
@@ -94,34 +119,62 @@ fn actions_between(base: usize, end: usize) -> usize
 }
 
 fn both_passes(
-    s: &[u8],
-    t: &[u16; table::LENGTH],
-    a: &mut [u64],
-    m: &mut [u64],
+    stream: &[u8],
+    table: &[u16; table::LENGTH],
+    actions: &mut [u64],
+    temporaries: &mut [u64],
     base: usize,
-    n: usize,
-    ptr: u64,
-    z: Sizing,
+    count: usize,
+    pointer: u64,
+    sizing: Sizing,
 ) -> Sizing
-    ensures { λ r. ⌜ sized r (now (a .exit)) (now (m .exit)) ≡ bothPasses (now (s .entry)) (now (t .entry)) (now (a .entry)) (now (m .entry)) base n ptr z ⌝ }
+    ensures { λ r. ⌜ sized r (now (actions .exit)) (now (temporaries .exit)) ≡ bothPasses (now (stream .entry)) (now (table .entry)) (now (actions .entry)) (now (temporaries .entry)) base count pointer sizing ⌝ }
 {
-    let y = list_end::passes::backward_pass(s, t, a, m, base, n, ptr, z);
-    list_end::passes::forward_pass(s, t, a, m, base, n, ptr, y)
+    let y = list_end::passes::backward_pass(
+        stream,
+        table,
+        actions,
+        temporaries,
+        base,
+        count,
+        pointer,
+        sizing,
+    );
+    list_end::passes::forward_pass(stream, table, actions, temporaries, base, count, pointer, y)
 }
 
 pub fn finish(
-    s: &[u8],
-    t: &[u16; table::LENGTH],
-    a: &mut [u64],
-    m: &mut [u64],
-    ptr: u64,
-    w: Walk,
+    stream: &[u8],
+    table: &[u16; table::LENGTH],
+    actions: &mut [u64],
+    temporaries: &mut [u64],
+    pointer: u64,
+    walk: Walk,
 ) -> Answer
-    ensures { λ r. ⌜ resolvedTo r (now (a .exit)) (now (m .exit)) ≡ finish (now (s .entry)) (now (t .entry)) (now (a .entry)) (now (m .entry)) ptr w ⌝ }
+    ensures { λ r. ⌜ resolvedTo r (now (actions .exit)) (now (temporaries .exit)) ≡ finish (now (stream .entry)) (now (table .entry)) (now (actions .entry)) (now (temporaries .entry)) pointer walk ⌝ }
 {
-    let subtables = access::u16_at(s, header::SUBTABLES) as usize;
+    let subtables = access::u16_at(stream, header::SUBTABLES) as usize;
     let base = place(0, subtables);
-    let n = actions_between(base, w.st.end);
-    let z = both_passes(s, t, a, m, base, n, ptr, w.st.sizing);
-    finish_sized(s, t, a, m, subtables, n, ptr, w, z)
+    let n = actions_between(base, walk.st.end);
+    let z = both_passes(
+        stream,
+        table,
+        actions,
+        temporaries,
+        base,
+        n,
+        pointer,
+        walk.st.sizing,
+    );
+    finish_sized(
+        stream,
+        table,
+        actions,
+        temporaries,
+        subtables,
+        n,
+        pointer,
+        walk,
+        z,
+    )
 }

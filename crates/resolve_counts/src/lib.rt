@@ -16,34 +16,34 @@ pub struct Counts {
     pub pointer: u64,
 }
 
-fn table_counts(s: &[u8], t: &[u16; table::LENGTH]) -> Counts
-    ensures { λ r. ⌜ r ≡ tableCounts (now (s .entry)) (now (t .entry)) ⌝ }
+fn table_counts(stream: &[u8], table: &[u16; table::LENGTH]) -> Counts
+    ensures { λ r. ⌜ r ≡ tableCounts (now (stream .entry)) (now (table .entry)) ⌝ }
 {
-    let subtables = access::u16_at(s, header::SUBTABLES);
-    let pointer = pointer_size(s, t);
+    let subtables = access::u16_at(stream, header::SUBTABLES);
+    let pointer = pointer_size(stream, table);
     Counts { subtables, pointer }
 }
 
-fn stream_counts(s: &[u8]) -> Counts
-    ensures { λ r. ⌜ r ≡ streamCounts (now (s .entry)) ⌝ }
+fn stream_counts(stream: &[u8]) -> Counts
+    ensures { λ r. ⌜ r ≡ streamCounts (now (stream .entry)) ⌝ }
 {
     let mut t = [0u16; table::LENGTH];
-    let bad = file_section::read_stream(s, &mut t);
+    let bad = file_section::read_stream(stream, &mut t);
     if bad != 0 {
         return Counts {
             subtables: 0,
             pointer: 0,
         };
     }
-    table_counts(s, &t)
+    table_counts(stream, &t)
 }
 
 // The stream is the first n bytes.
-fn front_counts(bytes: &[u8], n: usize) -> Counts
-    requires { ⌜ n ≤ length (now bytes) ⌝ }
-    ensures { λ r. ⌜ r ≡ streamCounts (take n (now (bytes .entry))) ⌝ }
+fn front_counts(bytes: &[u8], count: usize) -> Counts
+    requires { ⌜ count ≤ length (now bytes) ⌝ }
+    ensures { λ r. ⌜ r ≡ streamCounts (take count (now (bytes .entry))) ⌝ }
 {
-    stream_counts(&bytes[..n])
+    stream_counts(&bytes[..count])
 }
 
 // A file of several blocks, whose payloads are joined.

@@ -28,14 +28,17 @@ ghost use Rattle.resolve_file.specs.Files.{pointerSize, atStart, startEn
 const DEPTH: u64 = 16;
 
 // The size of the default space's pointers, 8 where there is none.
-pub fn pointer_size(s: &[u8], t: &[u16; table::LENGTH]) -> u64
-    ensures { λ r. ⌜ r ≡ pointerSize (now (s .entry)) (now (t .entry)) ⌝ }
+pub fn pointer_size(stream: &[u8], table: &[u16; table::LENGTH]) -> u64
+    ensures { λ r. ⌜ r ≡ pointerSize (now (stream .entry)) (now (table .entry)) ⌝ }
 {
-    let i = access::u16_at(s, header::DEFAULT_SPACE);
+    let i = access::u16_at(stream, header::DEFAULT_SPACE);
     if i == NONE {
         return 8;
     }
-    access::u16_at(s, list_values::sizes::entry(t, table::SPACES, i * 5 + 3))
+    access::u16_at(
+        stream,
+        list_values::sizes::entry(table, table::SPACES, i * 5 + 3),
+    )
 }
 
 // Actions begin behind room for the Builds of all subtables.
@@ -64,11 +67,11 @@ fn at_start(subtables: usize) -> Walk
     }
 }
 
-fn start_env(ptr: u64) -> Env
-    ensures { λ r. ⌜ r ≡ startEnv ptr ⌝ }
+fn start_env(pointer: u64) -> Env
+    ensures { λ r. ⌜ r ≡ startEnv pointer ⌝ }
 {
     Env {
-        pointer: ptr,
+        pointer: pointer,
         scope: 0,
         count: 0,
     }
@@ -76,67 +79,85 @@ fn start_env(ptr: u64) -> Env
 
 // The section's own statements, which have no parameters, with macro calls 16 deep at most.
 fn walk_section(
-    s: &[u8],
-    t: &[u16; table::LENGTH],
-    a: &mut [u64],
-    m: &mut [u64],
+    stream: &[u8],
+    table: &[u16; table::LENGTH],
+    actions: &mut [u64],
+    temporaries: &mut [u64],
     subtables: usize,
-    ptr: u64,
+    pointer: u64,
 ) -> Step
-    ensures { λ r. ⌜ stepped r (now (a .exit)) (now (m .exit)) ≡ walkSection (now (s .entry)) (now (t .entry)) (now (a .entry)) (now (m .entry)) subtables ptr ⌝ }
+    ensures { λ r. ⌜ stepped r (now (actions .exit)) (now (temporaries .exit)) ≡ walkSection (now (stream .entry)) (now (table .entry)) (now (actions .entry)) (now (temporaries .entry)) subtables pointer ⌝ }
 {
     let p = [0u64; 1];
     let mut l = [0u64; 256];
-    let pos = access::get_u16(t, table::STATEMENTS) as usize;
-    let n = access::u16_at(s, header::STATEMENTS);
-    let ordinal = access::get_u16(t, table::FIRST_ORDINAL) as u64;
-    let e = start_env(ptr);
+    let pos = access::get_u16(table, table::STATEMENTS) as usize;
+    let n = access::u16_at(stream, header::STATEMENTS);
+    let ordinal = access::get_u16(table, table::FIRST_ORDINAL) as u64;
+    let e = start_env(pointer);
     let w = at_start(subtables);
-    stmt_bodies::statements::body(DEPTH, s, t, &p, &mut l, a, m, e, pos, n, ordinal, w)
+    stmt_bodies::statements::body(
+        DEPTH,
+        stream,
+        table,
+        &p,
+        &mut l,
+        actions,
+        temporaries,
+        e,
+        pos,
+        n,
+        ordinal,
+        w,
+    )
 }
 
-fn resolve_section(s: &[u8], t: &[u16; table::LENGTH], a: &mut [u64], m: &mut [u64]) -> Answer
-    ensures { λ r. ⌜ resolvedTo r (now (a .exit)) (now (m .exit)) ≡ resolveSection (now (s .entry)) (now (t .entry)) (now (a .entry)) (now (m .entry)) ⌝ }
+fn resolve_section(
+    stream: &[u8],
+    table: &[u16; table::LENGTH],
+    actions: &mut [u64],
+    temporaries: &mut [u64],
+) -> Answer
+    ensures { λ r. ⌜ resolvedTo r (now (actions .exit)) (now (temporaries .exit)) ≡ resolveSection (now (stream .entry)) (now (table .entry)) (now (actions .entry)) (now (temporaries .entry)) ⌝ }
 {
-    let subtables = access::u16_at(s, header::SUBTABLES) as usize;
-    if a.len() / action::WORDS < subtables {
-        return refused(a, m, refusal::LIST_FULL, NONE, 0);
+    let subtables = access::u16_at(stream, header::SUBTABLES) as usize;
+    if actions.len() / action::WORDS < subtables {
+        return refused(actions, temporaries, refusal::LIST_FULL, NONE, 0);
     }
-    let ptr = pointer_size(s, t);
-    match walk_section(s, t, a, m, subtables, ptr) {
-        Step::Stop { refusal, ordinal } => refused(a, m, refusal, ordinal, 0),
-        Step::Next { next: _, w } => finish(s, t, a, m, ptr, w),
+    let ptr = pointer_size(stream, table);
+    match walk_section(stream, table, actions, temporaries, subtables, ptr) {
+        Step::Stop { refusal, ordinal } => refused(actions, temporaries, refusal, ordinal, 0),
+        Step::Next { next: _, w } => finish(stream, table, actions, temporaries, ptr, w),
     }
 }
 
-fn resolve_stream(s: &[u8], a: &mut [u64], m: &mut [u64]) -> Answer
-    ensures { λ r. ⌜ resolvedTo r (now (a .exit)) (now (m .exit)) ≡ resolveStream (now (s .entry)) (now (a .entry)) (now (m .entry)) ⌝ }
+fn resolve_stream(stream: &[u8], actions: &mut [u64], temporaries: &mut [u64]) -> Answer
+    ensures { λ r. ⌜ resolvedTo r (now (actions .exit)) (now (temporaries .exit)) ≡ resolveStream (now (stream .entry)) (now (actions .entry)) (now (temporaries .entry)) ⌝ }
 {
     let mut t = [0u16; table::LENGTH];
-    let bad = file_section::read_stream(s, &mut t);
+    let bad = file_section::read_stream(stream, &mut t);
     if bad != 0 {
-        return refused(a, m, bad, NONE, 0);
+        return refused(actions, temporaries, bad, NONE, 0);
     }
-    resolve_section(s, &t, a, m)
+    resolve_section(stream, &t, actions, temporaries)
 }
 
 // The stream is the first n bytes.
-fn resolve_front(bytes: &[u8], n: usize, a: &mut [u64], m: &mut [u64]) -> Answer
-    requires { ⌜ n ≤ length (now bytes) ⌝ }
-    ensures { λ r. ⌜ resolvedTo r (now (a .exit)) (now (m .exit)) ≡ resolveStream (take n (now (bytes .entry))) (now (a .entry)) (now (m .entry)) ⌝ }
+fn resolve_front(bytes: &[u8], count: usize, actions: &mut [u64], temporaries: &mut [u64]) -> Answer
+    requires { ⌜ count ≤ length (now bytes) ⌝ }
+    ensures { λ r. ⌜ resolvedTo r (now (actions .exit)) (now (temporaries .exit)) ≡ resolveStream (take count (now (bytes .entry))) (now (actions .entry)) (now (temporaries .entry)) ⌝ }
 {
-    resolve_stream(&bytes[..n], a, m)
+    resolve_stream(&bytes[..count], actions, temporaries)
 }
 
 // A file of several blocks, whose payloads are joined.
-fn resolve_blocks(file: &[u8], a: &mut [u64], m: &mut [u64]) -> Answer
+fn resolve_blocks(file: &[u8], actions: &mut [u64], temporaries: &mut [u64]) -> Answer
     requires { ⌜ length (now file) / 512 * 510 ≤ 65280 ⌝ }
-    ensures { λ r. ⌜ resolvedTo r (now (a .exit)) (now (m .exit)) ≡ resolveStream (joined (length (now (file .entry)) / 512) (now (file .entry))) (now (a .entry)) (now (m .entry)) ⌝ }
+    ensures { λ r. ⌜ resolvedTo r (now (actions .exit)) (now (temporaries .exit)) ≡ resolveStream (joined (length (now (file .entry)) / 512) (now (file .entry))) (now (actions .entry)) (now (temporaries .entry)) ⌝ }
 {
     let mut buf = [0u8; 65280];
     file_blocks::blocks::join(file, &mut buf);
     let n = file.len() / 512 * 510;
-    resolve_front(&buf, n, a, m)
+    resolve_front(&buf, n, actions, temporaries)
 }
 
 pub fn resolve_words(file: &[u8], actions: &mut [u64], temporaries: &mut [u64]) -> Answer

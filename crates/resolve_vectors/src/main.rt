@@ -29,18 +29,18 @@ fn say(text: &[u8]) {
     io::write_all(STDOUT_FILENO, text);
 }
 
-fn say_number(n: u64) {
-    io::print_decimal(STDOUT_FILENO, n);
+fn say_number(count: u64) {
+    io::print_decimal(STDOUT_FILENO, count);
 }
 
 // A place past the end of all data, to which ill-formed data leads.
 const NOWHERE: usize = 8589934592;
 
 // n further on.
-fn further(at: usize, n: u64) -> usize {
+fn further(at: usize, count: u64) -> usize {
     if at < 4294967296 {
-        if n < 4294967296 {
-            return at + n as usize;
+        if count < 4294967296 {
+            return at + count as usize;
         }
     }
     NOWHERE
@@ -60,9 +60,9 @@ fn after_word(data: &[u8], at: usize) -> usize {
     NOWHERE
 }
 
-fn after_words(data: &[u8], at: usize, n: u64) -> usize {
+fn after_words(data: &[u8], at: usize, count: u64) -> usize {
     let mut at = at;
-    for i in 0..n {
+    for i in 0..count {
         if at >= data.len() {
             return NOWHERE;
         }
@@ -109,40 +109,40 @@ fn case_at(data: &[u8], at: usize) -> Case {
     }
 }
 
-fn is_well_formed(data: &[u8], c: Case) -> bool {
-    if c.next > data.len() {
+fn is_well_formed(data: &[u8], lent: Case) -> bool {
+    if lent.next > data.len() {
         return false;
     }
-    if c.body_length > before_last(c.length) {
+    if lent.body_length > before_last(lent.length) {
         return false;
     }
-    if access::u32_at(data, c.actions) > c.la {
+    if access::u32_at(data, lent.actions) > lent.la {
         return false;
     }
-    access::u32_at(data, c.temporaries) <= c.lt
+    access::u32_at(data, lent.temporaries) <= lent.lt
 }
 
 // Byte i of a case's file: the body, zeros, the last two.
-fn file_byte(data: &[u8], c: Case, i: u64) -> u64
+fn file_byte(data: &[u8], lent: Case, index: u64) -> u64
     ensures { λ r. ⌜ r < 256 ⌝ }
 {
-    if i < c.body_length {
-        return access::byte(data, c.body, i as usize);
+    if index < lent.body_length {
+        return access::byte(data, lent.body, index as usize);
     }
-    let zeros_end = before_last(c.length);
-    if i < zeros_end {
+    let zeros_end = before_last(lent.length);
+    if index < zeros_end {
         return 0;
     }
     access::byte(
         data,
-        further(c.body, c.body_length),
-        (i - zeros_end) as usize,
+        further(lent.body, lent.body_length),
+        (index - zeros_end) as usize,
     )
 }
 
-fn build(data: &[u8], c: Case, file: &mut [u8]) {
+fn build(data: &[u8], lent: Case, file: &mut [u8]) {
     for i in 0..file.len() {
-        file[i] = file_byte(data, c, i as u64) as u8;
+        file[i] = file_byte(data, lent, i as u64) as u8;
     }
 }
 
@@ -153,28 +153,28 @@ fn fill(list: &mut [u64]) {
     }
 }
 
-fn numbers(r: Answer) -> [u64; 12] {
+fn numbers(answer: Answer) -> [u64; 12] {
     [
-        r.refusal,
-        r.ordinal,
-        r.statements,
-        r.actions,
-        r.temporaries,
-        r.labels,
-        r.points,
-        r.errors,
-        r.kind,
-        r.number,
-        r.word,
-        r.size,
+        answer.refusal,
+        answer.ordinal,
+        answer.statements,
+        answer.actions,
+        answer.temporaries,
+        answer.labels,
+        answer.points,
+        answer.errors,
+        answer.kind,
+        answer.number,
+        answer.word,
+        answer.size,
     ]
 }
 
 // The first word that is not the right one; the length where all are. The right ones are n words of the data, then zeros.
-fn first_wrong(data: &[u8], at: usize, n: usize, words: &[u64]) -> usize {
+fn first_wrong(data: &[u8], at: usize, count: usize, words: &[u64]) -> usize {
     let mut at = at;
     for i in 0..words.len() {
-        if words[i] != right_word(data, at, n, i) {
+        if words[i] != right_word(data, at, count, i) {
             return i;
         }
         at = after_word(data, at);
@@ -182,8 +182,8 @@ fn first_wrong(data: &[u8], at: usize, n: usize, words: &[u64]) -> usize {
     words.len()
 }
 
-fn right_word(data: &[u8], at: usize, n: usize, i: usize) -> u64 {
-    if i < n {
+fn right_word(data: &[u8], at: usize, count: usize, index: usize) -> u64 {
+    if index < count {
         return short_word(data, at);
     }
     0
@@ -194,36 +194,36 @@ fn first_wrong_listed(data: &[u8], at: usize, list: &[u64]) -> usize {
     first_wrong(data, further(at, 4), n as usize, list)
 }
 
-fn report(case: u64, what: &[u8], i: usize) {
+fn report(case: u64, what: &[u8], index: usize) {
     say(b"case ");
     say_number(case);
     say(b" differs: ");
     say(what);
-    say_number(i as u64);
+    say_number(index as u64);
     say(b"\n");
 }
 
 // Whether the answer to a case is another one than the original's. The first difference is reported.
 fn differs(
     data: &[u8],
-    c: Case,
+    lent: Case,
     case: u64,
-    r: Answer,
+    answer: Answer,
     actions: &[u64],
     temporaries: &[u64],
 ) -> bool {
-    let result = numbers(r);
-    let i = first_wrong(data, c.result, 12, &result);
+    let result = numbers(answer);
+    let i = first_wrong(data, lent.result, 12, &result);
     if i < 12 {
         report(case, b"result ", i);
         return true;
     }
-    let i = first_wrong_listed(data, c.actions, actions);
+    let i = first_wrong_listed(data, lent.actions, actions);
     if i < actions.len() {
         report(case, b"action word ", i);
         return true;
     }
-    let i = first_wrong_listed(data, c.temporaries, temporaries);
+    let i = first_wrong_listed(data, lent.temporaries, temporaries);
     if i < temporaries.len() {
         report(case, b"temporary word ", i);
         return true;
@@ -233,31 +233,31 @@ fn differs(
 
 fn replay_lent(
     data: &[u8],
-    c: Case,
+    lent: Case,
     case: u64,
     file: &mut [u8],
     actions: &mut [u64],
     temporaries: &mut [u64],
 ) -> bool {
-    build(data, c, file);
+    build(data, lent, file);
     fill(actions);
     fill(temporaries);
     let r = mizgalon::resolve(file, actions, temporaries);
-    differs(data, c, case, r, actions, temporaries)
+    differs(data, lent, case, r, actions, temporaries)
 }
 
 fn replay_case(
     data: &[u8],
-    c: Case,
+    lent: Case,
     case: u64,
     file: &mut [u8],
     actions: &mut [u64],
     temporaries: &mut [u64],
 ) -> Outcome {
-    let length = c.length as usize;
-    let la = c.la as usize;
-    let lt = c.lt as usize;
-    if !is_well_formed(data, c) {
+    let length = lent.length as usize;
+    let la = lent.la as usize;
+    let lt = lent.lt as usize;
+    if !is_well_formed(data, lent) {
         return Outcome::IllFormed;
     }
     if length > file.len() {
@@ -271,7 +271,7 @@ fn replay_case(
     }
     if replay_lent(
         data,
-        c,
+        lent,
         case,
         &mut file[..length],
         &mut actions[..la],
@@ -292,38 +292,38 @@ fn complain_of(case: u64) {
     complain(b"\n");
 }
 
-fn counted(differ: u64, o: Outcome) -> u64
+fn counted(differ: u64, outcome: Outcome) -> u64
     requires { ⌜ differ < 4294967296 ⌝ }
     ensures { λ r. ⌜ r ≤ differ + 1 ⌝ }
 {
-    if let Outcome::Differs = o {
+    if let Outcome::Differs = outcome {
         differ + 1
     } else {
         differ
     }
 }
 
-fn tally(counts: &mut [u64], i: usize) {
-    let n = access::get(counts, i);
-    access::put(counts, i, std::num::wrapping_add_u64(n, 1));
+fn tally(counts: &mut [u64], index: usize) {
+    let n = access::get(counts, index);
+    access::put(counts, index, std::num::wrapping_add_u64(n, 1));
 }
 
 // How many cases have each refusal as their right answer.
-fn count_refusals(data: &[u8], n: u64, counts: &mut [u64]) {
+fn count_refusals(data: &[u8], count: u64, counts: &mut [u64]) {
     let mut at: usize = 4;
-    for i in 0..n {
+    for i in 0..count {
         let c = case_at(data, at);
         tally(counts, short_word(data, c.result) as usize);
         at = c.next;
     }
 }
 
-fn print_count(refusal: usize, n: u64) {
-    if n > 0 {
+fn print_count(refusal: usize, count: u64) {
+    if count > 0 {
         say(b" ");
         say_number(refusal as u64);
         say(b":");
-        say_number(n);
+        say_number(count);
     }
 }
 
@@ -335,11 +335,11 @@ fn print_counts(counts: &[u64]) {
     say(b"\n");
 }
 
-fn print_end(data: &[u8], n: u64, differ: u64) {
+fn print_end(data: &[u8], count: u64, differ: u64) {
     let mut counts = [0u64; 64];
-    count_refusals(data, n, &mut counts);
+    count_refusals(data, count, &mut counts);
     print_counts(&counts);
-    say_number(n);
+    say_number(count);
     say(b" cases, ");
     say_number(differ);
     say(b" differ\n");
@@ -376,17 +376,17 @@ fn replay_with(
 }
 
 // The first n bytes, which are there.
-fn replay_first(data: &[u8], n: usize) {
+fn replay_first(data: &[u8], count: usize) {
     let mut file = [0u8; 65537];
     let mut actions = [0u64; 131072];
     let mut temporaries = [0u64; 1024];
-    if n <= data.len() {
-        replay_with(&data[..n], &mut file, &mut actions, &mut temporaries);
+    if count <= data.len() {
+        replay_with(&data[..count], &mut file, &mut actions, &mut temporaries);
     }
 }
 
-fn replay_read(data: &[u8; 2621440], n: usize) {
-    replay_first(data, n);
+fn replay_read(data: &[u8; 2621440], count: usize) {
+    replay_first(data, count);
 }
 
 fn read(data: &mut [u8; 2621440]) -> usize {

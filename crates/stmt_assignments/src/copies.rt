@@ -52,40 +52,40 @@ fn mask_but(from: u64, bits: u64) -> u64
 
 // The bits of the value shifted to their place, and merged with the rest.
 fn merge_bits(
-    s: &[u8],
-    t: &[u16; table::LENGTH],
-    a: &mut [u64],
-    m: &mut [u64],
-    e: Env,
+    stream: &[u8],
+    table: &[u16; table::LENGTH],
+    actions: &mut [u64],
+    temporaries: &mut [u64],
+    env: Env,
     to: Value,
     prev: Value,
     tmp: Value,
     from: u64,
-    st: State,
+    state: State,
 ) -> Read
-    ensures { λ r. ⌜ read r (now (a .exit)) (now (m .exit)) ≡ mergeBits (now (s .entry)) (now (t .entry)) (now (a .entry)) (now (m .entry)) e to prev tmp from st ⌝ }
+    ensures { λ r. ⌜ read r (now (actions .exit)) (now (temporaries .exit)) ≡ mergeBits (now (stream .entry)) (now (table .entry)) (now (actions .entry)) (now (temporaries .entry)) env to prev tmp from state ⌝ }
 {
     match op_to(
-        s,
-        t,
-        a,
-        m,
-        e,
+        stream,
+        table,
+        actions,
+        temporaries,
+        env,
         operation::INT_LEFT,
         0,
         2,
         tmp,
         tmp,
         constant(from),
-        st,
+        state,
     ) {
         Read::No(n) => Read::No(n),
         Read::Value { v: _, st: st1 } => op_to(
-            s,
-            t,
-            a,
-            m,
-            e,
+            stream,
+            table,
+            actions,
+            temporaries,
+            env,
             operation::INT_OR,
             0,
             2,
@@ -98,39 +98,39 @@ fn merge_bits(
 }
 
 fn extend_bits(
-    s: &[u8],
-    t: &[u16; table::LENGTH],
-    a: &mut [u64],
-    m: &mut [u64],
-    e: Env,
-    v: Value,
+    stream: &[u8],
+    table: &[u16; table::LENGTH],
+    actions: &mut [u64],
+    temporaries: &mut [u64],
+    env: Env,
+    value: Value,
     tmp: Value,
     bits: u64,
-    st: State,
+    state: State,
 ) -> Read
-    ensures { λ r. ⌜ read r (now (a .exit)) (now (m .exit)) ≡ extendBits (now (s .entry)) (now (t .entry)) (now (a .entry)) (now (m .entry)) e v tmp bits st ⌝ }
+    ensures { λ r. ⌜ read r (now (actions .exit)) (now (temporaries .exit)) ≡ extendBits (now (stream .entry)) (now (table .entry)) (now (actions .entry)) (now (temporaries .entry)) env value tmp bits state ⌝ }
 {
     match op_to(
-        s,
-        t,
-        a,
-        m,
-        e,
+        stream,
+        table,
+        actions,
+        temporaries,
+        env,
         operation::ZERO_EXTEND,
         0,
         1,
         tmp,
-        v,
+        value,
         absent(),
-        st,
+        state,
     ) {
         Read::No(n) => Read::No(n),
         Read::Value { v: _, st: st1 } => op_to(
-            s,
-            t,
-            a,
-            m,
-            e,
+            stream,
+            table,
+            actions,
+            temporaries,
+            env,
             operation::INT_AND,
             0,
             2,
@@ -143,52 +143,73 @@ fn extend_bits(
 }
 
 fn insert_in(
-    s: &[u8],
-    t: &[u16; table::LENGTH],
-    a: &mut [u64],
-    m: &mut [u64],
-    e: Env,
-    v: Value,
+    stream: &[u8],
+    table: &[u16; table::LENGTH],
+    actions: &mut [u64],
+    temporaries: &mut [u64],
+    env: Env,
+    value: Value,
     to: Value,
     prev: Value,
     tmp: Value,
     from: u64,
     bits: u64,
-    st: State,
+    state: State,
 ) -> Read
-    ensures { λ r. ⌜ read r (now (a .exit)) (now (m .exit)) ≡ insertIn (now (s .entry)) (now (t .entry)) (now (a .entry)) (now (m .entry)) e v to prev tmp from bits st ⌝ }
+    ensures { λ r. ⌜ read r (now (actions .exit)) (now (temporaries .exit)) ≡ insertIn (now (stream .entry)) (now (table .entry)) (now (actions .entry)) (now (temporaries .entry)) env value to prev tmp from bits state ⌝ }
 {
-    match extend_bits(s, t, a, m, e, v, tmp, bits, st) {
+    match extend_bits(
+        stream,
+        table,
+        actions,
+        temporaries,
+        env,
+        value,
+        tmp,
+        bits,
+        state,
+    ) {
         Read::No(n) => Read::No(n),
-        Read::Value { v: _, st: st1 } => merge_bits(s, t, a, m, e, to, prev, tmp, from, st1),
+        Read::Value { v: _, st: st1 } => merge_bits(
+            stream,
+            table,
+            actions,
+            temporaries,
+            env,
+            to,
+            prev,
+            tmp,
+            from,
+            st1,
+        ),
     }
 }
 
 fn insert_bits(
-    s: &[u8],
-    t: &[u16; table::LENGTH],
-    a: &mut [u64],
-    m: &mut [u64],
-    e: Env,
-    v: Value,
+    stream: &[u8],
+    table: &[u16; table::LENGTH],
+    actions: &mut [u64],
+    temporaries: &mut [u64],
+    env: Env,
+    value: Value,
     to: Value,
     prev: Value,
     from: u64,
     bits: u64,
-    st: State,
+    state: State,
 ) -> Read
-    ensures { λ r. ⌜ read r (now (a .exit)) (now (m .exit)) ≡ insertBits (now (s .entry)) (now (t .entry)) (now (a .entry)) (now (m .entry)) e v to prev from bits st ⌝ }
+    ensures { λ r. ⌜ read r (now (actions .exit)) (now (temporaries .exit)) ≡ insertBits (now (stream .entry)) (now (table .entry)) (now (actions .entry)) (now (temporaries .entry)) env value to prev from bits state ⌝ }
 {
-    let size = size_of(s, t, m, to);
-    match add_tmp(m, NONE, size, 0, st) {
+    let size = size_of(stream, table, temporaries, to);
+    match add_tmp(temporaries, NONE, size, 0, state) {
         Read::No(n) => Read::No(n),
         Read::Value { v: tmp, st: st1 } => insert_in(
-            s,
-            t,
-            a,
-            m,
-            e,
-            v,
+            stream,
+            table,
+            actions,
+            temporaries,
+            env,
+            value,
             to,
             prev,
             tmp,
@@ -201,231 +222,335 @@ fn insert_bits(
 
 // The bits of the target that stay, in a temporary; then those of the value.
 fn keep_bits(
-    s: &[u8],
-    t: &[u16; table::LENGTH],
-    a: &mut [u64],
-    m: &mut [u64],
-    e: Env,
-    v: Value,
+    stream: &[u8],
+    table: &[u16; table::LENGTH],
+    actions: &mut [u64],
+    temporaries: &mut [u64],
+    env: Env,
+    value: Value,
     to: Value,
     prev: Value,
     from: u64,
     bits: u64,
-    st: State,
+    state: State,
 ) -> Read
     requires { ⌜ from < 64 ⌝ }
-    ensures { λ r. ⌜ read r (now (a .exit)) (now (m .exit)) ≡ keepBits (now (s .entry)) (now (t .entry)) (now (a .entry)) (now (m .entry)) e v to prev from bits st ⌝ }
+    ensures { λ r. ⌜ read r (now (actions .exit)) (now (temporaries .exit)) ≡ keepBits (now (stream .entry)) (now (table .entry)) (now (actions .entry)) (now (temporaries .entry)) env value to prev from bits state ⌝ }
 {
     match op_to(
-        s,
-        t,
-        a,
-        m,
-        e,
+        stream,
+        table,
+        actions,
+        temporaries,
+        env,
         operation::INT_AND,
         0,
         2,
         prev,
         to,
         constant(mask_but(from, bits)),
-        st,
+        state,
     ) {
         Read::No(n) => Read::No(n),
-        Read::Value { v: _, st: st1 } => insert_bits(s, t, a, m, e, v, to, prev, from, bits, st1),
+        Read::Value { v: _, st: st1 } => insert_bits(
+            stream,
+            table,
+            actions,
+            temporaries,
+            env,
+            value,
+            to,
+            prev,
+            from,
+            bits,
+            st1,
+        ),
     }
 }
 
 fn write_bits(
-    s: &[u8],
-    t: &[u16; table::LENGTH],
-    a: &mut [u64],
-    m: &mut [u64],
-    e: Env,
-    v: Value,
+    stream: &[u8],
+    table: &[u16; table::LENGTH],
+    actions: &mut [u64],
+    temporaries: &mut [u64],
+    env: Env,
+    value: Value,
     to: Value,
     from: u64,
     bits: u64,
-    st: State,
+    state: State,
 ) -> Read
-    ensures { λ r. ⌜ read r (now (a .exit)) (now (m .exit)) ≡ writeBits (now (s .entry)) (now (t .entry)) (now (a .entry)) (now (m .entry)) e v to from bits st ⌝ }
+    ensures { λ r. ⌜ read r (now (actions .exit)) (now (temporaries .exit)) ≡ writeBits (now (stream .entry)) (now (table .entry)) (now (actions .entry)) (now (temporaries .entry)) env value to from bits state ⌝ }
 {
     if 64 <= from {
         return Read::No(refusal::SHIFT_TOO_FAR);
     }
-    let size = size_of(s, t, m, to);
-    match add_tmp(m, NONE, size, 0, st) {
+    let size = size_of(stream, table, temporaries, to);
+    match add_tmp(temporaries, NONE, size, 0, state) {
         Read::No(n) => Read::No(n),
-        Read::Value { v: prev, st: st1 } => keep_bits(s, t, a, m, e, v, to, prev, from, bits, st1),
+        Read::Value { v: prev, st: st1 } => keep_bits(
+            stream,
+            table,
+            actions,
+            temporaries,
+            env,
+            value,
+            to,
+            prev,
+            from,
+            bits,
+            st1,
+        ),
     }
 }
 
 fn copy_bits(
-    s: &[u8],
-    t: &[u16; table::LENGTH],
-    a: &mut [u64],
-    m: &mut [u64],
-    e: Env,
-    x: ExprValue,
+    stream: &[u8],
+    table: &[u16; table::LENGTH],
+    actions: &mut [u64],
+    temporaries: &mut [u64],
+    env: Env,
+    expr: ExprValue,
     to: Value,
     from: u64,
     bits: u64,
-    st: State,
+    state: State,
 ) -> Read
-    ensures { λ r. ⌜ read r (now (a .exit)) (now (m .exit)) ≡ copyBits (now (s .entry)) (now (t .entry)) (now (a .entry)) (now (m .entry)) e x to from bits st ⌝ }
+    ensures { λ r. ⌜ read r (now (actions .exit)) (now (temporaries .exit)) ≡ copyBits (now (stream .entry)) (now (table .entry)) (now (actions .entry)) (now (temporaries .entry)) env expr to from bits state ⌝ }
 {
-    match read_operand(s, t, a, m, e, x, st) {
+    match read_operand(stream, table, actions, temporaries, env, expr, state) {
         Read::No(n) => Read::No(n),
-        Read::Value { v, st: st1 } => write_bits(s, t, a, m, e, v, to, from, bits, st1),
+        Read::Value { v, st: st1 } => write_bits(
+            stream,
+            table,
+            actions,
+            temporaries,
+            env,
+            v,
+            to,
+            from,
+            bits,
+            st1,
+        ),
     }
 }
 
 fn copy_bytes(
-    s: &[u8],
-    t: &[u16; table::LENGTH],
-    a: &mut [u64],
-    m: &mut [u64],
-    e: Env,
-    x: ExprValue,
+    stream: &[u8],
+    table: &[u16; table::LENGTH],
+    actions: &mut [u64],
+    temporaries: &mut [u64],
+    env: Env,
+    expr: ExprValue,
     to: Value,
     from: u64,
     bits: u64,
-    st: State,
+    state: State,
 ) -> Read
-    ensures { λ r. ⌜ read r (now (a .exit)) (now (m .exit)) ≡ copyBytes (now (s .entry)) (now (t .entry)) (now (a .entry)) (now (m .entry)) e x to from bits st ⌝ }
+    ensures { λ r. ⌜ read r (now (actions .exit)) (now (temporaries .exit)) ≡ copyBytes (now (stream .entry)) (now (table .entry)) (now (actions .entry)) (now (temporaries .entry)) env expr to from bits state ⌝ }
 {
-    match sliced(to, from / 8, bits / 8, st) {
+    match sliced(to, from / 8, bits / 8, state) {
         Read::No(n) => Read::No(n),
-        Read::Value { v, st: st1 } => read_value(s, t, a, m, e, x, true, v, st1),
+        Read::Value { v, st: st1 } => read_value(
+            stream,
+            table,
+            actions,
+            temporaries,
+            env,
+            expr,
+            true,
+            v,
+            st1,
+        ),
     }
 }
 
 fn copy_range(
-    s: &[u8],
-    t: &[u16; table::LENGTH],
-    a: &mut [u64],
-    m: &mut [u64],
-    e: Env,
-    x: ExprValue,
+    stream: &[u8],
+    table: &[u16; table::LENGTH],
+    actions: &mut [u64],
+    temporaries: &mut [u64],
+    env: Env,
+    expr: ExprValue,
     to: Value,
     from: u64,
     bits: u64,
-    st: State,
+    state: State,
 ) -> Read
-    ensures { λ r. ⌜ read r (now (a .exit)) (now (m .exit)) ≡ copyRange (now (s .entry)) (now (t .entry)) (now (a .entry)) (now (m .entry)) e x to from bits st ⌝ }
+    ensures { λ r. ⌜ read r (now (actions .exit)) (now (temporaries .exit)) ≡ copyRange (now (stream .entry)) (now (table .entry)) (now (actions .entry)) (now (temporaries .entry)) env expr to from bits state ⌝ }
 {
     if byte_aligned(from, bits) {
-        return copy_bytes(s, t, a, m, e, x, to, from, bits, st);
+        return copy_bytes(
+            stream,
+            table,
+            actions,
+            temporaries,
+            env,
+            expr,
+            to,
+            from,
+            bits,
+            state,
+        );
     }
-    copy_bits(s, t, a, m, e, x, to, from, bits, st)
+    copy_bits(
+        stream,
+        table,
+        actions,
+        temporaries,
+        env,
+        expr,
+        to,
+        from,
+        bits,
+        state,
+    )
 }
 
 fn copy_ram(
-    s: &[u8],
-    t: &[u16; table::LENGTH],
-    a: &mut [u64],
-    m: &mut [u64],
-    e: Env,
-    x: ExprValue,
+    stream: &[u8],
+    table: &[u16; table::LENGTH],
+    actions: &mut [u64],
+    temporaries: &mut [u64],
+    env: Env,
+    expr: ExprValue,
     pointer: Value,
     size: u64,
     next: usize,
-    st: State,
-    w: Walk,
+    state: State,
+    walk: Walk,
 ) -> Step
-    ensures { λ r. ⌜ stepped r (now (a .exit)) (now (m .exit)) ≡ copyRam (now (s .entry)) (now (t .entry)) (now (a .entry)) (now (m .entry)) e x pointer size next st w ⌝ }
+    ensures { λ r. ⌜ stepped r (now (actions .exit)) (now (temporaries .exit)) ≡ copyRam (now (stream .entry)) (now (table .entry)) (now (actions .entry)) (now (temporaries .entry)) env expr pointer size next state walk ⌝ }
 {
-    match read_operand(s, t, a, m, e, x, st) {
-        Read::No(n) => stop(w, n),
-        Read::Value { v, st: st1 } => store(s, t, a, m, e, pointer, size, v, next, st1, w),
+    match read_operand(stream, table, actions, temporaries, env, expr, state) {
+        Read::No(n) => stop(walk, n),
+        Read::Value { v, st: st1 } => store(
+            stream,
+            table,
+            actions,
+            temporaries,
+            env,
+            pointer,
+            size,
+            v,
+            next,
+            st1,
+            walk,
+        ),
     }
 }
 
 fn copy_into(
-    s: &[u8],
-    t: &[u16; table::LENGTH],
-    a: &mut [u64],
-    m: &mut [u64],
-    e: Env,
-    x: ExprValue,
-    d: ExprValue,
+    stream: &[u8],
+    table: &[u16; table::LENGTH],
+    actions: &mut [u64],
+    temporaries: &mut [u64],
+    env: Env,
+    source: ExprValue,
+    target: ExprValue,
     next: usize,
-    st: State,
-    w: Walk,
+    state: State,
+    walk: Walk,
 ) -> Step
-    ensures { λ r. ⌜ stepped r (now (a .exit)) (now (m .exit)) ≡ copyInto (now (s .entry)) (now (t .entry)) (now (a .entry)) (now (m .entry)) e x d next st w ⌝ }
+    ensures { λ r. ⌜ stepped r (now (actions .exit)) (now (temporaries .exit)) ≡ copyInto (now (stream .entry)) (now (table .entry)) (now (actions .entry)) (now (temporaries .entry)) env source target next state walk ⌝ }
 {
-    match d {
-        ExprValue::Local(v) => read_then(read_value(s, t, a, m, e, x, true, v, st), next, w),
+    match target {
+        ExprValue::Local(v) => read_then(
+            read_value(
+                stream,
+                table,
+                actions,
+                temporaries,
+                env,
+                source,
+                true,
+                v,
+                state,
+            ),
+            next,
+            walk,
+        ),
         ExprValue::RamRef { pointer, size } => copy_ram(
-            s,
-            t,
-            a,
-            m,
-            e,
-            x,
+            stream,
+            table,
+            actions,
+            temporaries,
+            env,
+            source,
             pointer,
             size,
             next,
-            st,
-            w,
+            state,
+            walk,
         ),
         ExprValue::BitRange { v, from, bits } => read_then(
-            copy_range(s, t, a, m, e, x, v, from, bits, st),
+            copy_range(
+                stream,
+                table,
+                actions,
+                temporaries,
+                env,
+                source,
+                v,
+                from,
+                bits,
+                state,
+            ),
             next,
-            w,
+            walk,
         ),
-        _ => stop(w, refusal::NOT_ASSIGNABLE),
+        _ => stop(walk, refusal::NOT_ASSIGNABLE),
     }
 }
 
 // The name of a target, bare or truncated, or 65,535.
-fn target_name(s: &[u8], pos: usize) -> u64
-    ensures { λ r. ⌜ r ≡ targetName (now (s .entry)) pos ⌝ }
+fn target_name(stream: &[u8], pos: usize) -> u64
+    ensures { λ r. ⌜ r ≡ targetName (now (stream .entry)) pos ⌝ }
 {
-    let code = access::byte(s, pos, 0);
+    let code = access::byte(stream, pos, 0);
     if code == codes::expression::IDENT {
-        return u16_in(s, pos, 1);
+        return u16_in(stream, pos, 1);
     }
     if code == codes::expression::TRUNCATE {
-        if access::byte(s, pos, 1) == codes::expression::IDENT {
-            return u16_in(s, pos, 2);
+        if access::byte(stream, pos, 1) == codes::expression::IDENT {
+            return u16_in(stream, pos, 2);
         }
     }
     NONE
 }
 
-fn target_size(s: &[u8], pos: usize) -> u64
-    ensures { λ r. ⌜ r ≡ targetSize (now (s .entry)) pos ⌝ }
+fn target_size(stream: &[u8], pos: usize) -> u64
+    ensures { λ r. ⌜ r ≡ targetSize (now (stream .entry)) pos ⌝ }
 {
-    if access::byte(s, pos, 0) == codes::expression::IDENT {
+    if access::byte(stream, pos, 0) == codes::expression::IDENT {
         return NONE;
     }
-    u16_in(s, pos, 4)
+    u16_in(stream, pos, 4)
 }
 
-fn after_target(s: &[u8], pos: usize) -> usize
-    ensures { λ r. ⌜ r ≡ afterTarget (now (s .entry)) pos ⌝ }
+fn after_target(stream: &[u8], pos: usize) -> usize
+    ensures { λ r. ⌜ r ≡ afterTarget (now (stream .entry)) pos ⌝ }
 {
-    if access::byte(s, pos, 0) == codes::expression::IDENT {
+    if access::byte(stream, pos, 0) == codes::expression::IDENT {
         return after(pos, 3);
     }
     after(pos, 6)
 }
 
 fn new_target(
-    s: &[u8],
-    t: &[u16; table::LENGTH],
-    m: &mut [u64],
-    e: Env,
+    stream: &[u8],
+    table: &[u16; table::LENGTH],
+    temporaries: &mut [u64],
+    env: Env,
     pos: usize,
     name: u64,
-    st: State,
+    state: State,
 ) -> Expr
-    ensures { λ r. ⌜ listed r (now (m .exit)) ≡ newTarget (now (s .entry)) (now (t .entry)) (now (m .entry)) e pos name st ⌝ }
+    ensures { λ r. ⌜ listed r (now (temporaries .exit)) ≡ newTarget (now (stream .entry)) (now (table .entry)) (now (temporaries .entry)) env pos name state ⌝ }
 {
-    let size = target_size(s, pos);
-    let next = after_target(s, pos);
-    match named_tmp(t, m, e, name, size, st) {
+    let size = target_size(stream, pos);
+    let next = after_target(stream, pos);
+    match named_tmp(table, temporaries, env, name, size, state) {
         Read::No(n) => Expr::No(n),
         Read::Value { v, st: st1 } => Expr::Value {
             x: ExprValue::Local(v),
@@ -435,123 +560,165 @@ fn new_target(
     }
 }
 
-fn is_wrong(r: Meaning) -> bool
-    ensures { λ b. ⌜ b ≡ isWrong r ⌝ }
+fn is_wrong(answer: Meaning) -> bool
+    ensures { λ b. ⌜ b ≡ isWrong answer ⌝ }
 {
-    match r {
+    match answer {
         Meaning::Wrong(_) => true,
         Meaning::Means(_) => false,
     }
 }
 
 fn is_new(
-    s: &[u8],
-    t: &[u16; table::LENGTH],
-    p: &[u64],
-    m: &[u64],
-    e: Env,
-    st: State,
+    stream: &[u8],
+    table: &[u16; table::LENGTH],
+    params: &[u64],
+    temporaries: &[u64],
+    env: Env,
+    state: State,
     name: u64,
 ) -> bool
-    ensures { λ r. ⌜ r ≡ isNew (now (s .entry)) (now (t .entry)) (now (p .entry)) (now (m .entry)) e st name ⌝ }
+    ensures { λ r. ⌜ r ≡ isNew (now (stream .entry)) (now (table .entry)) (now (params .entry)) (now (temporaries .entry)) env state name ⌝ }
 {
     if name == NONE {
         return false;
     }
-    is_wrong(resolve_ident(s, t, p, m, e, st, name))
+    is_wrong(resolve_ident(stream, table, params, temporaries, env, state, name))
 }
 
 // A bare name as target: its number as a plain local, 1 where it means nothing or a wrong thing, else 0.
 fn plain_target(
-    s: &[u8],
-    t: &[u16; table::LENGTH],
-    p: &[u64],
-    m: &[u64],
-    e: Env,
+    stream: &[u8],
+    table: &[u16; table::LENGTH],
+    params: &[u64],
+    temporaries: &[u64],
+    env: Env,
     pos: usize,
     name: u64,
-    st: State,
+    state: State,
 ) -> u64
-    ensures { λ r. ⌜ r ≡ plainTarget (now (s .entry)) (now (t .entry)) (now (p .entry)) (now (m .entry)) e pos name st ⌝ }
+    ensures { λ r. ⌜ r ≡ plainTarget (now (stream .entry)) (now (table .entry)) (now (params .entry)) (now (temporaries .entry)) env pos name state ⌝ }
 {
-    if access::byte(s, pos, 0) != codes::expression::IDENT {
+    if access::byte(stream, pos, 0) != codes::expression::IDENT {
         return 0;
     }
     if name == NONE {
         return 0;
     }
-    plain_local(s, t, p, m, e, st, name)
+    plain_local(stream, table, params, temporaries, env, state, name)
 }
 
 // An unknown or disallowed name as target becomes a temporary.
 fn resolve_dst(
-    s: &[u8],
-    t: &[u16; table::LENGTH],
-    p: &[u64],
-    a: &mut [u64],
-    m: &mut [u64],
-    e: Env,
+    stream: &[u8],
+    table: &[u16; table::LENGTH],
+    params: &[u64],
+    actions: &mut [u64],
+    temporaries: &mut [u64],
+    env: Env,
     pos: usize,
-    st: State,
+    state: State,
 ) -> Expr
-    ensures { λ r. ⌜ resolved r (now (a .exit)) (now (m .exit)) ≡ resolveDst (now (s .entry)) (now (t .entry)) (now (p .entry)) (now (a .entry)) (now (m .entry)) e pos st ⌝ }
+    ensures { λ r. ⌜ resolved r (now (actions .exit)) (now (temporaries .exit)) ≡ resolveDst (now (stream .entry)) (now (table .entry)) (now (params .entry)) (now (actions .entry)) (now (temporaries .entry)) env pos state ⌝ }
 {
-    let name = target_name(s, pos);
-    let q = plain_target(s, t, p, m, e, pos, name, st);
+    let name = target_name(stream, pos);
+    let q = plain_target(stream, table, params, temporaries, env, pos, name, state);
     if 8 <= q {
         return Expr::Value {
             x: ExprValue::Local(local(q % 8, q / 8 - 1)),
             next: after(pos, 3),
-            st,
+            st: state,
         };
     }
     if q == 1 {
-        return new_target(s, t, m, e, pos, name, st);
+        return new_target(stream, table, temporaries, env, pos, name, state);
     }
-    if is_new(s, t, p, m, e, st, name) {
-        return new_target(s, t, m, e, pos, name, st);
+    if is_new(stream, table, params, temporaries, env, state, name) {
+        return new_target(stream, table, temporaries, env, pos, name, state);
     }
-    resolve_expr(DEPTH, s, t, p, pos, e, a, m, st)
+    resolve_expr(
+        DEPTH,
+        stream,
+        table,
+        params,
+        pos,
+        env,
+        actions,
+        temporaries,
+        state,
+    )
 }
 
 fn copy_target(
-    s: &[u8],
-    t: &[u16; table::LENGTH],
-    p: &[u64],
-    a: &mut [u64],
-    m: &mut [u64],
-    e: Env,
-    x: ExprValue,
+    stream: &[u8],
+    table: &[u16; table::LENGTH],
+    params: &[u64],
+    actions: &mut [u64],
+    temporaries: &mut [u64],
+    env: Env,
+    expr: ExprValue,
     pos: usize,
-    st: State,
-    w: Walk,
+    state: State,
+    walk: Walk,
 ) -> Step
-    ensures { λ r. ⌜ stepped r (now (a .exit)) (now (m .exit)) ≡ copyTarget (now (s .entry)) (now (t .entry)) (now (p .entry)) (now (a .entry)) (now (m .entry)) e x pos st w ⌝ }
+    ensures { λ r. ⌜ stepped r (now (actions .exit)) (now (temporaries .exit)) ≡ copyTarget (now (stream .entry)) (now (table .entry)) (now (params .entry)) (now (actions .entry)) (now (temporaries .entry)) env expr pos state walk ⌝ }
 {
-    match resolve_dst(s, t, p, a, m, e, pos, st) {
-        Expr::No(n) => stop(w, n),
+    match resolve_dst(stream, table, params, actions, temporaries, env, pos, state) {
+        Expr::No(n) => stop(walk, n),
         Expr::Value {
             x: d,
             next,
             st: st1,
-        } => copy_into(s, t, a, m, e, x, d, next, st1, w),
+        } => copy_into(
+            stream,
+            table,
+            actions,
+            temporaries,
+            env,
+            expr,
+            d,
+            next,
+            st1,
+            walk,
+        ),
     }
 }
 
 pub fn copy_statement(
-    s: &[u8],
-    t: &[u16; table::LENGTH],
-    p: &[u64],
-    a: &mut [u64],
-    m: &mut [u64],
-    e: Env,
+    stream: &[u8],
+    table: &[u16; table::LENGTH],
+    params: &[u64],
+    actions: &mut [u64],
+    temporaries: &mut [u64],
+    env: Env,
     pos: usize,
-    w: Walk,
+    walk: Walk,
 ) -> Step
-    ensures { λ r. ⌜ stepped r (now (a .exit)) (now (m .exit)) ≡ copyStatement (now (s .entry)) (now (t .entry)) (now (p .entry)) (now (a .entry)) (now (m .entry)) e pos w ⌝ }
+    ensures { λ r. ⌜ stepped r (now (actions .exit)) (now (temporaries .exit)) ≡ copyStatement (now (stream .entry)) (now (table .entry)) (now (params .entry)) (now (actions .entry)) (now (temporaries .entry)) env pos walk ⌝ }
 {
-    match resolve_expr(DEPTH, s, t, p, after(pos, 1), e, a, m, w.st) {
-        Expr::No(n) => stop(w, n),
-        Expr::Value { x, next, st } => copy_target(s, t, p, a, m, e, x, next, st, w),
+    match resolve_expr(
+        DEPTH,
+        stream,
+        table,
+        params,
+        after(pos, 1),
+        env,
+        actions,
+        temporaries,
+        walk.st,
+    ) {
+        Expr::No(n) => stop(walk, n),
+        Expr::Value { x, next, st } => copy_target(
+            stream,
+            table,
+            params,
+            actions,
+            temporaries,
+            env,
+            x,
+            next,
+            st,
+            walk,
+        ),
     }
 }

@@ -31,28 +31,28 @@ ghost use Rattle.stmt_walk.specs.Walks.{stepped};
 ghost use Rattle.stmt_assignments.specs.Stores.{store, storeRegister, storeAt, storeIn, storePointer, storeStatement};
 
 pub fn store(
-    s: &[u8],
-    t: &[u16; table::LENGTH],
-    a: &mut [u64],
-    m: &mut [u64],
-    e: Env,
+    stream: &[u8],
+    table: &[u16; table::LENGTH],
+    actions: &mut [u64],
+    temporaries: &mut [u64],
+    env: Env,
     pointer: Value,
     size: u64,
-    v: Value,
+    value: Value,
     next: usize,
-    st: State,
-    w: Walk,
+    state: State,
+    walk: Walk,
 ) -> Step
-    ensures { λ r. ⌜ stepped r (now (a .exit)) (now (m .exit)) ≡ store (now (s .entry)) (now (t .entry)) (now (a .entry)) (now (m .entry)) e pointer size v next st w ⌝ }
+    ensures { λ r. ⌜ stepped r (now (actions .exit)) (now (temporaries .exit)) ≡ store (now (stream .entry)) (now (table .entry)) (now (actions .entry)) (now (temporaries .entry)) env pointer size value next state walk ⌝ }
 {
-    let x = take_stated(s, t, m, v, size, st);
+    let x = take_stated(stream, table, temporaries, value, size, state);
     pushed_then(
         push_op(
-            s,
-            t,
-            a,
-            m,
-            e,
+            stream,
+            table,
+            actions,
+            temporaries,
+            env,
             operation::STORE,
             0,
             2,
@@ -62,28 +62,28 @@ pub fn store(
             x.st,
         ),
         next,
-        w,
+        walk,
     )
 }
 
 fn store_register(
-    s: &[u8],
-    t: &[u16; table::LENGTH],
-    a: &mut [u64],
-    m: &mut [u64],
+    stream: &[u8],
+    table: &[u16; table::LENGTH],
+    actions: &mut [u64],
+    temporaries: &mut [u64],
     pointer: Value,
     size: u64,
-    v: Value,
+    value: Value,
     next: usize,
-    st: State,
-    w: Walk,
+    state: State,
+    walk: Walk,
 ) -> Step
-    ensures { λ r. ⌜ stepped r (now (a .exit)) (now (m .exit)) ≡ storeRegister (now (s .entry)) (now (t .entry)) (now (a .entry)) (now (m .entry)) pointer size v next st w ⌝ }
+    ensures { λ r. ⌜ stepped r (now (actions .exit)) (now (temporaries .exit)) ≡ storeRegister (now (stream .entry)) (now (table .entry)) (now (actions .entry)) (now (temporaries .entry)) pointer size value next state walk ⌝ }
 {
-    let x = set_stated(s, t, m, v, size, st);
+    let x = set_stated(stream, table, temporaries, value, size, state);
     pushed_then(
         push(
-            a,
+            actions,
             action_kind::STORE_REGISTER,
             0,
             size,
@@ -94,110 +94,188 @@ fn store_register(
             x.st,
         ),
         next,
-        w,
+        walk,
     )
 }
 
 fn store_at(
-    s: &[u8],
-    t: &[u16; table::LENGTH],
-    a: &mut [u64],
-    m: &mut [u64],
-    e: Env,
-    x: ExprValue,
-    v: Value,
+    stream: &[u8],
+    table: &[u16; table::LENGTH],
+    actions: &mut [u64],
+    temporaries: &mut [u64],
+    env: Env,
+    expr: ExprValue,
+    value: Value,
     next: usize,
-    st: State,
-    w: Walk,
+    state: State,
+    walk: Walk,
 ) -> Step
-    ensures { λ r. ⌜ stepped r (now (a .exit)) (now (m .exit)) ≡ storeAt (now (s .entry)) (now (t .entry)) (now (a .entry)) (now (m .entry)) e x v next st w ⌝ }
+    ensures { λ r. ⌜ stepped r (now (actions .exit)) (now (temporaries .exit)) ≡ storeAt (now (stream .entry)) (now (table .entry)) (now (actions .entry)) (now (temporaries .entry)) env expr value next state walk ⌝ }
 {
-    match x {
-        ExprValue::RamRef { pointer, size } => store(s, t, a, m, e, pointer, size, v, next, st, w),
-        ExprValue::RegisterRef { pointer, size } => store_register(
-            s,
-            t,
-            a,
-            m,
+    match expr {
+        ExprValue::RamRef { pointer, size } => store(
+            stream,
+            table,
+            actions,
+            temporaries,
+            env,
             pointer,
             size,
-            v,
+            value,
             next,
-            st,
-            w,
+            state,
+            walk,
         ),
-        _ => stop(w, refusal::STORE_TO_NO_ADDRESS),
+        ExprValue::RegisterRef { pointer, size } => store_register(
+            stream,
+            table,
+            actions,
+            temporaries,
+            pointer,
+            size,
+            value,
+            next,
+            state,
+            walk,
+        ),
+        _ => stop(walk, refusal::STORE_TO_NO_ADDRESS),
     }
 }
 
 fn store_in(
-    s: &[u8],
-    t: &[u16; table::LENGTH],
-    a: &mut [u64],
-    m: &mut [u64],
-    e: Env,
+    stream: &[u8],
+    table: &[u16; table::LENGTH],
+    actions: &mut [u64],
+    temporaries: &mut [u64],
+    env: Env,
     pos: usize,
-    x: ExprValue,
-    v: Value,
+    expr: ExprValue,
+    value: Value,
     end: usize,
-    st: State,
-    w: Walk,
+    state: State,
+    walk: Walk,
 ) -> Step
-    ensures { λ r. ⌜ stepped r (now (a .exit)) (now (m .exit)) ≡ storeIn (now (s .entry)) (now (t .entry)) (now (a .entry)) (now (m .entry)) e pos x v end st w ⌝ }
+    ensures { λ r. ⌜ stepped r (now (actions .exit)) (now (temporaries .exit)) ≡ storeIn (now (stream .entry)) (now (table .entry)) (now (actions .entry)) (now (temporaries .entry)) env pos expr value end state walk ⌝ }
 {
-    let space = u16_in(s, pos, 1);
-    let size = u16_in(s, pos, 3);
-    match resolve_address(s, t, a, m, e, space, size, x, end, st) {
-        Expr::No(n) => stop(w, n),
+    let space = u16_in(stream, pos, 1);
+    let size = u16_in(stream, pos, 3);
+    match resolve_address(
+        stream,
+        table,
+        actions,
+        temporaries,
+        env,
+        space,
+        size,
+        expr,
+        end,
+        state,
+    ) {
+        Expr::No(n) => stop(walk, n),
         Expr::Value {
             x: to,
             next,
             st: st1,
-        } => store_at(s, t, a, m, e, to, v, next, st1, w),
+        } => store_at(
+            stream,
+            table,
+            actions,
+            temporaries,
+            env,
+            to,
+            value,
+            next,
+            st1,
+            walk,
+        ),
     }
 }
 
 fn store_pointer(
-    s: &[u8],
-    t: &[u16; table::LENGTH],
-    p: &[u64],
-    a: &mut [u64],
-    m: &mut [u64],
-    e: Env,
+    stream: &[u8],
+    table: &[u16; table::LENGTH],
+    params: &[u64],
+    actions: &mut [u64],
+    temporaries: &mut [u64],
+    env: Env,
     pos: usize,
-    v: Value,
+    value: Value,
     end: usize,
-    st: State,
-    w: Walk,
+    state: State,
+    walk: Walk,
 ) -> Step
-    ensures { λ r. ⌜ stepped r (now (a .exit)) (now (m .exit)) ≡ storePointer (now (s .entry)) (now (t .entry)) (now (p .entry)) (now (a .entry)) (now (m .entry)) e pos v end st w ⌝ }
+    ensures { λ r. ⌜ stepped r (now (actions .exit)) (now (temporaries .exit)) ≡ storePointer (now (stream .entry)) (now (table .entry)) (now (params .entry)) (now (actions .entry)) (now (temporaries .entry)) env pos value end state walk ⌝ }
 {
-    match resolve_expr(DEPTH, s, t, p, after(pos, 5), e, a, m, st) {
-        Expr::No(n) => stop(w, n),
+    match resolve_expr(
+        DEPTH,
+        stream,
+        table,
+        params,
+        after(pos, 5),
+        env,
+        actions,
+        temporaries,
+        state,
+    ) {
+        Expr::No(n) => stop(walk, n),
         Expr::Value {
             x,
             next: _,
             st: st1,
-        } => store_in(s, t, a, m, e, pos, x, v, end, st1, w),
+        } => store_in(
+            stream,
+            table,
+            actions,
+            temporaries,
+            env,
+            pos,
+            x,
+            value,
+            end,
+            st1,
+            walk,
+        ),
     }
 }
 
 pub fn store_statement(
-    s: &[u8],
-    t: &[u16; table::LENGTH],
-    p: &[u64],
-    a: &mut [u64],
-    m: &mut [u64],
-    e: Env,
+    stream: &[u8],
+    table: &[u16; table::LENGTH],
+    params: &[u64],
+    actions: &mut [u64],
+    temporaries: &mut [u64],
+    env: Env,
     pos: usize,
-    w: Walk,
+    walk: Walk,
 ) -> Step
-    ensures { λ r. ⌜ stepped r (now (a .exit)) (now (m .exit)) ≡ storeStatement (now (s .entry)) (now (t .entry)) (now (p .entry)) (now (a .entry)) (now (m .entry)) e pos w ⌝ }
+    ensures { λ r. ⌜ stepped r (now (actions .exit)) (now (temporaries .exit)) ≡ storeStatement (now (stream .entry)) (now (table .entry)) (now (params .entry)) (now (actions .entry)) (now (temporaries .entry)) env pos walk ⌝ }
 {
     let pointer = after(pos, 5);
-    let value = skip_expr(s, pointer);
-    match expr_value(DEPTH, s, t, p, value, e, a, m, w.st) {
-        Operand::No(n) => stop(w, n),
-        Operand::Value { v, next, st } => store_pointer(s, t, p, a, m, e, pos, v, next, st, w),
+    let value_at = skip_expr(stream, pointer);
+    match expr_value(
+        DEPTH,
+        stream,
+        table,
+        params,
+        value_at,
+        env,
+        actions,
+        temporaries,
+        walk.st,
+    ) {
+        Operand::No(n) => stop(walk, n),
+        Operand::Value { v, next, st } => store_pointer(
+            stream,
+            table,
+            params,
+            actions,
+            temporaries,
+            env,
+            pos,
+            v,
+            next,
+            st,
+            walk,
+        ),
     }
 }

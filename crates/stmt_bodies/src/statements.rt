@@ -34,56 +34,130 @@ const MOST_STATEMENTS: u64 = 4096;
 
 fn simple(
     code: u64,
-    s: &[u8],
-    t: &[u16; table::LENGTH],
-    p: &[u64],
-    a: &mut [u64],
-    m: &mut [u64],
-    e: Env,
+    stream: &[u8],
+    table: &[u16; table::LENGTH],
+    params: &[u64],
+    actions: &mut [u64],
+    temporaries: &mut [u64],
+    env: Env,
     pos: usize,
-    w: Walk,
+    walk: Walk,
 ) -> Step
-    ensures { λ r. ⌜ stepped r (now (a .exit)) (now (m .exit)) ≡ simple code (now (s .entry)) (now (t .entry)) (now (p .entry)) (now (a .entry)) (now (m .entry)) e pos w ⌝ }
+    ensures { λ r. ⌜ stepped r (now (actions .exit)) (now (temporaries .exit)) ≡ simple code (now (stream .entry)) (now (table .entry)) (now (params .entry)) (now (actions .entry)) (now (temporaries .entry)) env pos walk ⌝ }
 {
     match code {
-        statement::UNIMPLEMENTED => unimplemented(s, t, a, m, e, pos, w),
-        statement::EXPORT => export_statement(s, t, p, a, m, e, pos, w),
-        statement::LOCAL => local_statement(s, t, m, e, pos, w),
-        statement::LOCAL_ASSIGNMENT => local_assignment(s, t, p, a, m, e, pos, w),
-        statement::BUILD => build(s, t, a, pos, w),
-        statement::COPY => copy_statement(s, t, p, a, m, e, pos, w),
-        _ => store_statement(s, t, p, a, m, e, pos, w),
+        statement::UNIMPLEMENTED => unimplemented(
+            stream,
+            table,
+            actions,
+            temporaries,
+            env,
+            pos,
+            walk,
+        ),
+        statement::EXPORT => export_statement(
+            stream,
+            table,
+            params,
+            actions,
+            temporaries,
+            env,
+            pos,
+            walk,
+        ),
+        statement::LOCAL => local_statement(stream, table, temporaries, env, pos, walk),
+        statement::LOCAL_ASSIGNMENT => local_assignment(
+            stream,
+            table,
+            params,
+            actions,
+            temporaries,
+            env,
+            pos,
+            walk,
+        ),
+        statement::BUILD => build(stream, table, actions, pos, walk),
+        statement::COPY => copy_statement(
+            stream,
+            table,
+            params,
+            actions,
+            temporaries,
+            env,
+            pos,
+            walk,
+        ),
+        _ => store_statement(stream, table, params, actions, temporaries, env, pos, walk),
     }
 }
 
 // A statement that is no call.
 fn other_statement(
     code: u64,
-    s: &[u8],
-    t: &[u16; table::LENGTH],
-    p: &[u64],
-    l: &mut [u64],
-    a: &mut [u64],
-    m: &mut [u64],
-    e: Env,
+    stream: &[u8],
+    table: &[u16; table::LENGTH],
+    params: &[u64],
+    labels: &mut [u64],
+    actions: &mut [u64],
+    temporaries: &mut [u64],
+    env: Env,
     pos: usize,
-    w: Walk,
+    walk: Walk,
 ) -> Step
-    ensures { λ r. ⌜ walked r (now (l .exit)) (now (a .exit)) (now (m .exit)) ≡ otherStatement code (now (s .entry)) (now (t .entry)) (now (p .entry)) (now (l .entry)) (now (a .entry)) (now (m .entry)) e pos w ⌝ }
+    ensures { λ r. ⌜ walked r (now (labels .exit)) (now (actions .exit)) (now (temporaries .exit)) ≡ otherStatement code (now (stream .entry)) (now (table .entry)) (now (params .entry)) (now (labels .entry)) (now (actions .entry)) (now (temporaries .entry)) env pos walk ⌝ }
 {
     match code {
-        statement::BRANCH => branch(s, t, p, l, a, m, e, pos, w),
-        statement::COND_BRANCH => cond_branch(s, t, p, l, a, m, e, pos, w),
-        statement::LABEL => label_statement(s, t, l, a, m, e, pos, w),
-        _ => simple(code, s, t, p, a, m, e, pos, w),
+        statement::BRANCH => branch(
+            stream,
+            table,
+            params,
+            labels,
+            actions,
+            temporaries,
+            env,
+            pos,
+            walk,
+        ),
+        statement::COND_BRANCH => cond_branch(
+            stream,
+            table,
+            params,
+            labels,
+            actions,
+            temporaries,
+            env,
+            pos,
+            walk,
+        ),
+        statement::LABEL => label_statement(
+            stream,
+            table,
+            labels,
+            actions,
+            temporaries,
+            env,
+            pos,
+            walk,
+        ),
+        _ => simple(
+            code,
+            stream,
+            table,
+            params,
+            actions,
+            temporaries,
+            env,
+            pos,
+            walk,
+        ),
     }
 }
 
-fn begun(w: Walk, ordinal: u64, statements: u64) -> Walk
-    ensures { λ r. ⌜ r ≡ begun ordinal statements w ⌝ }
+fn begun(walk: Walk, ordinal: u64, statements: u64) -> Walk
+    ensures { λ r. ⌜ r ≡ begun ordinal statements walk ⌝ }
 {
-    let export = w.export;
-    let st = w.st;
+    let export = walk.export;
+    let st = walk.st;
     let z = st.sizing;
     Walk {
         st: State {
@@ -95,25 +169,25 @@ fn begun(w: Walk, ordinal: u64, statements: u64) -> Walk
                 first: z.first,
             },
         },
-        labels: w.labels,
-        placed: w.placed,
+        labels: walk.labels,
+        placed: walk.placed,
         statements,
-        scopes: w.scopes,
+        scopes: walk.scopes,
         export,
     }
 }
 
 // A statement begins: it has its ordinal, may not follow an export, and is counted up to 4,096.
-fn begin(w: Walk, ordinal: u64) -> Step
-    ensures { λ r. ⌜ r ≡ begin ordinal w ⌝ }
+fn begin(walk: Walk, ordinal: u64) -> Step
+    ensures { λ r. ⌜ r ≡ begin ordinal walk ⌝ }
 {
-    if w.export.kind != 0 {
+    if walk.export.kind != 0 {
         return Step::Stop {
             refusal: refusal::AFTER_EXPORT,
             ordinal,
         };
     }
-    if MOST_STATEMENTS <= w.statements {
+    if MOST_STATEMENTS <= walk.statements {
         return Step::Stop {
             refusal: refusal::TOO_MANY_STATEMENTS,
             ordinal,
@@ -121,153 +195,216 @@ fn begin(w: Walk, ordinal: u64) -> Step
     }
     Step::Next {
         next: 0,
-        w: begun(w, ordinal, w.statements + 1),
+        w: begun(walk, ordinal, walk.statements + 1),
     }
 }
 
-fn entered(w: Walk, st: State, scopes: u64) -> Walk
-    ensures { λ r. ⌜ r ≡ entered st scopes w ⌝ }
+fn entered(walk: Walk, state: State, scopes: u64) -> Walk
+    ensures { λ r. ⌜ r ≡ entered state scopes walk ⌝ }
 {
-    let export = w.export;
+    let export = walk.export;
     Walk {
-        st,
-        labels: w.labels,
-        placed: w.placed,
-        statements: w.statements,
+        st: state,
+        labels: walk.labels,
+        placed: walk.placed,
+        statements: walk.statements,
         scopes,
         export,
     }
 }
 
 // Goes on behind the call after a macro's body.
-fn returned(r: Step, next: usize) -> Step
-    ensures { λ x. ⌜ x ≡ returned next r ⌝ }
+fn returned(answer: Step, next: usize) -> Step
+    ensures { λ x. ⌜ x ≡ returned next answer ⌝ }
 {
-    match r {
+    match answer {
         Step::Stop { refusal, ordinal } => Step::Stop { refusal, ordinal },
         Step::Next { next: _, w } => Step::Next { next, w },
     }
 }
 
 // A macro's parameters stand in the words of its own call.
-fn macro_env(e: Env, scope: u64, count: u64) -> Env
-    ensures { λ r. ⌜ r ≡ macroEnv scope count e ⌝ }
+fn macro_env(env: Env, scope: u64, count: u64) -> Env
+    ensures { λ r. ⌜ r ≡ macroEnv scope count env ⌝ }
 {
     Env {
-        pointer: e.pointer,
+        pointer: env.pointer,
         scope,
         count: count as usize,
     }
 }
 
 // Where the body of a macro with n parameters begins, behind their names.
-fn body_at(at: usize, n: u64) -> usize
-    ensures { λ r. ⌜ r ≡ bodyAt at n ⌝ }
+fn body_at(at: usize, parameters: u64) -> usize
+    ensures { λ r. ⌜ r ≡ bodyAt at parameters ⌝ }
 {
-    after(at, 1 + 2 * (n % 16) as usize)
+    after(at, 1 + 2 * (parameters % 16) as usize)
 }
 
 // The ordinal of the first statement of macro number `id`.
-fn first_ordinal(t: &[u16; table::LENGTH], id: u64) -> u64
-    ensures { λ r. ⌜ r ≡ firstOrdinal (now (t .entry)) id ⌝ }
+fn first_ordinal(table: &[u16; table::LENGTH], id: u64) -> u64
+    ensures { λ r. ⌜ r ≡ firstOrdinal (now (table .entry)) id ⌝ }
 {
-    access::get_u16(t, table::MACRO_ORDINALS + (id % 128) as usize) as u64
+    access::get_u16(table, table::MACRO_ORDINALS + (id % 128) as usize) as u64
 }
 
 fn enter(
     deep: u64,
-    s: &[u8],
-    t: &[u16; table::LENGTH],
-    l: &mut [u64],
-    a: &mut [u64],
-    m: &mut [u64],
-    e: Env,
+    stream: &[u8],
+    table: &[u16; table::LENGTH],
+    labels: &mut [u64],
+    actions: &mut [u64],
+    temporaries: &mut [u64],
+    env: Env,
     id: u64,
     args: &[u64],
-    n: u64,
+    arguments: u64,
     next: usize,
-    st: State,
-    w: Walk,
+    state: State,
+    walk: Walk,
 ) -> Step
-    ensures { λ r. ⌜ walked r (now (l .exit)) (now (a .exit)) (now (m .exit)) ≡ enterMacro deep (now (s .entry)) (now (t .entry)) (now (l .entry)) (now (a .entry)) (now (m .entry)) e id (now (args .entry)) n next st w ⌝ }
+    ensures { λ r. ⌜ walked r (now (labels .exit)) (now (actions .exit)) (now (temporaries .exit)) ≡ enterMacro deep (now (stream .entry)) (now (table .entry)) (now (labels .entry)) (now (actions .entry)) (now (temporaries .entry)) env id (now (args .entry)) arguments next state walk ⌝ }
 {
     if deep == 0 {
-        return stop(w, refusal::MACRO_TOO_DEEP);
+        return stop(walk, refusal::MACRO_TOO_DEEP);
     }
-    let at = macro_at(t, id);
-    let scope = std::num::wrapping_add_u64(w.scopes, 1);
-    let start = body_at(at, n);
-    let count = u16_in(s, start, 0);
-    let inner = macro_env(e, scope, n);
-    let first = first_ordinal(t, id);
+    let at = macro_at(table, id);
+    let scope = std::num::wrapping_add_u64(walk.scopes, 1);
+    let start = body_at(at, arguments);
+    let count = u16_in(stream, start, 0);
+    let inner = macro_env(env, scope, arguments);
+    let first = first_ordinal(table, id);
     let below = deep - 1;
     let from = after(start, 2);
-    let w = entered(w, st, scope);
-    let r = body(below, s, t, args, l, a, m, inner, from, count, first, w);
+    let walk = entered(walk, state, scope);
+    let r = body(
+        below,
+        stream,
+        table,
+        args,
+        labels,
+        actions,
+        temporaries,
+        inner,
+        from,
+        count,
+        first,
+        walk,
+    );
     returned(r, next)
 }
 
 fn macro_statement(
     deep: u64,
-    s: &[u8],
-    t: &[u16; table::LENGTH],
-    p: &[u64],
-    l: &mut [u64],
-    a: &mut [u64],
-    m: &mut [u64],
-    e: Env,
+    stream: &[u8],
+    table: &[u16; table::LENGTH],
+    params: &[u64],
+    labels: &mut [u64],
+    actions: &mut [u64],
+    temporaries: &mut [u64],
+    env: Env,
     pos: usize,
     id: u64,
-    n: u64,
-    w: Walk,
+    arguments: u64,
+    walk: Walk,
 ) -> Step
-    ensures { λ r. ⌜ walked r (now (l .exit)) (now (a .exit)) (now (m .exit)) ≡ macroStatement (enterMacro deep (now (s .entry)) (now (t .entry))) (now (s .entry)) (now (t .entry)) (now (p .entry)) (now (l .entry)) (now (a .entry)) (now (m .entry)) e pos id n w ⌝ }
+    ensures { λ r. ⌜ walked r (now (labels .exit)) (now (actions .exit)) (now (temporaries .exit)) ≡ macroStatement (enterMacro deep (now (stream .entry)) (now (table .entry))) (now (stream .entry)) (now (table .entry)) (now (params .entry)) (now (labels .entry)) (now (actions .entry)) (now (temporaries .entry)) env pos id arguments walk ⌝ }
 {
     let mut args = [0u64; 64];
-    match macro_args(s, t, p, a, m, &mut args, e, pos, id, n, w.st) {
-        Args::No(k) => stop(w, k),
-        Args::Done { next, st } => enter(deep, s, t, l, a, m, e, id, &args, n, next, st, w),
+    match macro_args(
+        stream,
+        table,
+        params,
+        actions,
+        temporaries,
+        &mut args,
+        env,
+        pos,
+        id,
+        arguments,
+        walk.st,
+    ) {
+        Args::No(k) => stop(walk, k),
+        Args::Done { next, st } => enter(
+            deep,
+            stream,
+            table,
+            labels,
+            actions,
+            temporaries,
+            env,
+            id,
+            &args,
+            arguments,
+            next,
+            st,
+            walk,
+        ),
     }
 }
 
 fn call_statement(
     deep: u64,
-    s: &[u8],
-    t: &[u16; table::LENGTH],
-    p: &[u64],
-    l: &mut [u64],
-    a: &mut [u64],
-    m: &mut [u64],
-    e: Env,
+    stream: &[u8],
+    table: &[u16; table::LENGTH],
+    params: &[u64],
+    labels: &mut [u64],
+    actions: &mut [u64],
+    temporaries: &mut [u64],
+    env: Env,
     pos: usize,
-    w: Walk,
+    walk: Walk,
 ) -> Step
-    ensures { λ r. ⌜ walked r (now (l .exit)) (now (a .exit)) (now (m .exit)) ≡ callStatement (enterMacro deep (now (s .entry)) (now (t .entry))) (now (s .entry)) (now (t .entry)) (now (p .entry)) (now (l .entry)) (now (a .entry)) (now (m .entry)) e pos w ⌝ }
+    ensures { λ r. ⌜ walked r (now (labels .exit)) (now (actions .exit)) (now (temporaries .exit)) ≡ callStatement (enterMacro deep (now (stream .entry)) (now (table .entry))) (now (stream .entry)) (now (table .entry)) (now (params .entry)) (now (labels .entry)) (now (actions .entry)) (now (temporaries .entry)) env pos walk ⌝ }
 {
-    let n = access::byte(s, pos, 3);
-    let c = called_of(s, t, u16_in(s, pos, 1));
+    let n = access::byte(stream, pos, 3);
+    let c = called_of(stream, table, u16_in(stream, pos, 1));
     if c.kind == MACRO {
-        return macro_statement(deep, s, t, p, l, a, m, e, pos, c.number, n, w);
+        return macro_statement(
+            deep,
+            stream,
+            table,
+            params,
+            labels,
+            actions,
+            temporaries,
+            env,
+            pos,
+            c.number,
+            n,
+            walk,
+        );
     }
-    other_call(c, s, t, p, a, m, e, pos, n, w)
+    other_call(
+        c,
+        stream,
+        table,
+        params,
+        actions,
+        temporaries,
+        env,
+        pos,
+        n,
+        walk,
+    )
 }
 
 fn statement(
     deep: u64,
-    s: &[u8],
-    t: &[u16; table::LENGTH],
-    p: &[u64],
-    l: &mut [u64],
-    a: &mut [u64],
-    m: &mut [u64],
-    e: Env,
+    stream: &[u8],
+    table: &[u16; table::LENGTH],
+    params: &[u64],
+    labels: &mut [u64],
+    actions: &mut [u64],
+    temporaries: &mut [u64],
+    env: Env,
     pos: usize,
     ordinal: u64,
-    w: Walk,
+    walk: Walk,
 ) -> Step
-    ensures { λ r. ⌜ walked r (now (l .exit)) (now (a .exit)) (now (m .exit)) ≡ resolveStatement (enterMacro deep (now (s .entry)) (now (t .entry))) (now (s .entry)) (now (t .entry)) (now (p .entry)) e pos ordinal (now (l .entry)) (now (a .entry)) (now (m .entry)) w ⌝ }
+    ensures { λ r. ⌜ walked r (now (labels .exit)) (now (actions .exit)) (now (temporaries .exit)) ≡ resolveStatement (enterMacro deep (now (stream .entry)) (now (table .entry))) (now (stream .entry)) (now (table .entry)) (now (params .entry)) env pos ordinal (now (labels .entry)) (now (actions .entry)) (now (temporaries .entry)) walk ⌝ }
 {
-    match begin(w, ordinal) {
+    match begin(walk, ordinal) {
         Step::Stop {
             refusal,
             ordinal: o,
@@ -276,11 +413,33 @@ fn statement(
             ordinal: o,
         },
         Step::Next { next: _, w: b } => {
-            let code = access::byte(s, pos, 0);
+            let code = access::byte(stream, pos, 0);
             if code == statement::CALL {
-                return call_statement(deep, s, t, p, l, a, m, e, pos, b);
+                return call_statement(
+                    deep,
+                    stream,
+                    table,
+                    params,
+                    labels,
+                    actions,
+                    temporaries,
+                    env,
+                    pos,
+                    b,
+                );
             }
-            other_statement(code, s, t, p, l, a, m, e, pos, b)
+            other_statement(
+                code,
+                stream,
+                table,
+                params,
+                labels,
+                actions,
+                temporaries,
+                env,
+                pos,
+                b,
+            )
         }
     }
 }
@@ -296,26 +455,38 @@ fn forward(pos: usize, next: usize, len: usize) -> bool
 // the bytes left of the stream fall; a statement that took none would be refused as cut.
 pub fn body(
     deep: u64,
-    s: &[u8],
-    t: &[u16; table::LENGTH],
-    p: &[u64],
-    l: &mut [u64],
-    a: &mut [u64],
-    m: &mut [u64],
-    e: Env,
+    stream: &[u8],
+    table: &[u16; table::LENGTH],
+    params: &[u64],
+    labels: &mut [u64],
+    actions: &mut [u64],
+    temporaries: &mut [u64],
+    env: Env,
     pos: usize,
-    n: u64,
+    count: u64,
     ordinal: u64,
-    w: Walk,
+    walk: Walk,
 ) -> Step
-    ensures { λ r. ⌜ walked r (now (l .exit)) (now (a .exit)) (now (m .exit)) ≡ resolveBody deep (now (s .entry)) (now (t .entry)) (now (p .entry)) (now (l .entry)) (now (a .entry)) (now (m .entry)) e pos n ordinal w ⌝ }
+    ensures { λ r. ⌜ walked r (now (labels .exit)) (now (actions .exit)) (now (temporaries .exit)) ≡ resolveBody deep (now (stream .entry)) (now (table .entry)) (now (params .entry)) (now (labels .entry)) (now (actions .entry)) (now (temporaries .entry)) env pos count ordinal walk ⌝ }
 {
     let mut at = pos;
-    let mut w = w;
+    let mut walk = walk;
     let mut i = 0;
-    while i < n {
+    while i < count {
         let own = std::num::wrapping_add_u64(ordinal, i);
-        match statement(deep, s, t, p, l, a, m, e, at, own, w) {
+        match statement(
+            deep,
+            stream,
+            table,
+            params,
+            labels,
+            actions,
+            temporaries,
+            env,
+            at,
+            own,
+            walk,
+        ) {
             Step::Stop {
                 refusal,
                 ordinal: o,
@@ -324,14 +495,14 @@ pub fn body(
                 ordinal: o,
             },
             Step::Next { next, w: w1 } => {
-                if !forward(at, next, s.len()) {
+                if !forward(at, next, stream.len()) {
                     return stop(w1, refusal::MALFORMED);
                 }
                 at = next;
-                w = w1;
+                walk = w1;
                 i += 1;
             }
         }
     }
-    Step::Next { next: at, w }
+    Step::Next { next: at, w: walk }
 }

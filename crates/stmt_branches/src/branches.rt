@@ -34,32 +34,32 @@ ghost use Rattle.stmt_walk.specs.Walks.{stepped, walked};
 ghost use Rattle.stmt_branches.specs.Branches.{pushLabel, labelStatement, branchTo, branchLabel, labelBranch, jumpValue, afterJump, directAddress, direct, indirect, jumpTo, jump, resolveBranch, branch, condBranch};
 
 fn push_label(
-    s: &[u8],
-    t: &[u16; table::LENGTH],
-    a: &mut [u64],
-    m: &mut [u64],
-    e: Env,
+    stream: &[u8],
+    table: &[u16; table::LENGTH],
+    actions: &mut [u64],
+    temporaries: &mut [u64],
+    env: Env,
     id: u64,
     next: usize,
-    w: Walk,
+    walk: Walk,
 ) -> Step
-    ensures { λ r. ⌜ stepped r (now (a .exit)) (now (m .exit)) ≡ pushLabel (now (s .entry)) (now (t .entry)) (now (a .entry)) (now (m .entry)) e id next w ⌝ }
+    ensures { λ r. ⌜ stepped r (now (actions .exit)) (now (temporaries .exit)) ≡ pushLabel (now (stream .entry)) (now (table .entry)) (now (actions .entry)) (now (temporaries .entry)) env id next walk ⌝ }
 {
-    let here = labelled(w, w.st, id, 1);
+    let here = labelled(walk, walk.st, id, 1);
     pushed_then(
         push_op(
-            s,
-            t,
-            a,
-            m,
-            e,
+            stream,
+            table,
+            actions,
+            temporaries,
+            env,
             operation::PCODE_LABEL,
             id,
             0,
             no_output(),
             absent(),
             absent(),
-            w.st,
+            walk.st,
         ),
         next,
         here,
@@ -67,87 +67,96 @@ fn push_label(
 }
 
 pub fn label_statement(
-    s: &[u8],
-    t: &[u16; table::LENGTH],
-    l: &mut [u64],
-    a: &mut [u64],
-    m: &mut [u64],
-    e: Env,
+    stream: &[u8],
+    table: &[u16; table::LENGTH],
+    labels: &mut [u64],
+    actions: &mut [u64],
+    temporaries: &mut [u64],
+    env: Env,
     pos: usize,
-    w: Walk,
+    walk: Walk,
 ) -> Step
-    ensures { λ r. ⌜ walked r (now (l .exit)) (now (a .exit)) (now (m .exit)) ≡ labelStatement (now (s .entry)) (now (t .entry)) (now (l .entry)) (now (a .entry)) (now (m .entry)) e pos w ⌝ }
+    ensures { λ r. ⌜ walked r (now (labels .exit)) (now (actions .exit)) (now (temporaries .exit)) ≡ labelStatement (now (stream .entry)) (now (table .entry)) (now (labels .entry)) (now (actions .entry)) (now (temporaries .entry)) env pos walk ⌝ }
 {
-    match resolve_label(l, u16_in(s, pos, 1), e.scope, w.labels) {
-        Label::No(n) => stop(w, n),
-        Label::Is(id) => push_label(s, t, a, m, e, id, after(pos, 3), w),
+    match resolve_label(labels, u16_in(stream, pos, 1), env.scope, walk.labels) {
+        Label::No(n) => stop(walk, n),
+        Label::Is(id) => push_label(
+            stream,
+            table,
+            actions,
+            temporaries,
+            env,
+            id,
+            after(pos, 3),
+            walk,
+        ),
     }
 }
 
 fn branch_to(
-    s: &[u8],
-    t: &[u16; table::LENGTH],
-    a: &mut [u64],
-    m: &mut [u64],
-    e: Env,
+    stream: &[u8],
+    table: &[u16; table::LENGTH],
+    actions: &mut [u64],
+    temporaries: &mut [u64],
+    env: Env,
     cond: Value,
     address: Value,
     hint: usize,
-    st: State,
-    w: Walk,
+    state: State,
+    walk: Walk,
 ) -> Step
-    ensures { λ r. ⌜ stepped r (now (a .exit)) (now (m .exit)) ≡ branchTo (now (s .entry)) (now (t .entry)) (now (a .entry)) (now (m .entry)) e cond address hint st w ⌝ }
+    ensures { λ r. ⌜ stepped r (now (actions .exit)) (now (temporaries .exit)) ≡ branchTo (now (stream .entry)) (now (table .entry)) (now (actions .entry)) (now (temporaries .entry)) env cond address hint state walk ⌝ }
 {
-    let number = access::byte(s, hint, 0);
+    let number = access::byte(stream, hint, 0);
     pushed_then(
         push_op(
-            s,
-            t,
-            a,
-            m,
-            e,
+            stream,
+            table,
+            actions,
+            temporaries,
+            env,
             operation::BRANCH,
             number,
             2,
             no_output(),
             cond,
             address,
-            st,
+            state,
         ),
         after(hint, 1),
-        w,
+        walk,
     )
 }
 
 fn branch_label(
-    s: &[u8],
-    t: &[u16; table::LENGTH],
-    a: &mut [u64],
-    m: &mut [u64],
-    e: Env,
+    stream: &[u8],
+    table: &[u16; table::LENGTH],
+    actions: &mut [u64],
+    temporaries: &mut [u64],
+    env: Env,
     id: u64,
     cond: Value,
     next: usize,
-    st: State,
-    w: Walk,
+    state: State,
+    walk: Walk,
 ) -> Step
-    ensures { λ r. ⌜ stepped r (now (a .exit)) (now (m .exit)) ≡ branchLabel (now (s .entry)) (now (t .entry)) (now (a .entry)) (now (m .entry)) e id cond next st w ⌝ }
+    ensures { λ r. ⌜ stepped r (now (actions .exit)) (now (temporaries .exit)) ≡ branchLabel (now (stream .entry)) (now (table .entry)) (now (actions .entry)) (now (temporaries .entry)) env id cond next state walk ⌝ }
 {
-    let here = labelled(w, st, id, 0);
+    let here = labelled(walk, state, id, 0);
     pushed_then(
         push_op(
-            s,
-            t,
-            a,
-            m,
-            e,
+            stream,
+            table,
+            actions,
+            temporaries,
+            env,
             operation::PCODE_BRANCH,
             id,
             2,
             no_output(),
             cond,
             constant(0),
-            st,
+            state,
         ),
         next,
         here,
@@ -155,216 +164,336 @@ fn branch_label(
 }
 
 fn label_branch(
-    s: &[u8],
-    t: &[u16; table::LENGTH],
-    l: &mut [u64],
-    a: &mut [u64],
-    m: &mut [u64],
-    e: Env,
+    stream: &[u8],
+    table: &[u16; table::LENGTH],
+    labels: &mut [u64],
+    actions: &mut [u64],
+    temporaries: &mut [u64],
+    env: Env,
     pos: usize,
     cond: Value,
-    st: State,
-    w: Walk,
+    state: State,
+    walk: Walk,
 ) -> Step
-    ensures { λ r. ⌜ walked r (now (l .exit)) (now (a .exit)) (now (m .exit)) ≡ labelBranch (now (s .entry)) (now (t .entry)) (now (l .entry)) (now (a .entry)) (now (m .entry)) e pos cond st w ⌝ }
+    ensures { λ r. ⌜ walked r (now (labels .exit)) (now (actions .exit)) (now (temporaries .exit)) ≡ labelBranch (now (stream .entry)) (now (table .entry)) (now (labels .entry)) (now (actions .entry)) (now (temporaries .entry)) env pos cond state walk ⌝ }
 {
-    match get_or_insert_label(l, u16_in(s, pos, 1), e.scope, w.labels) {
-        Label::No(n) => stop(w, n),
-        Label::Is(id) => branch_label(s, t, a, m, e, id, cond, after(pos, 4), st, w),
+    match get_or_insert_label(labels, u16_in(stream, pos, 1), env.scope, walk.labels) {
+        Label::No(n) => stop(walk, n),
+        Label::Is(id) => branch_label(
+            stream,
+            table,
+            actions,
+            temporaries,
+            env,
+            id,
+            cond,
+            after(pos, 4),
+            state,
+            walk,
+        ),
     }
 }
 
 // What a jump goes to: a name, or an integer with a size.
 fn jump_value(
-    s: &[u8],
-    t: &[u16; table::LENGTH],
-    p: &[u64],
-    m: &[u64],
+    stream: &[u8],
+    table: &[u16; table::LENGTH],
+    params: &[u64],
+    temporaries: &[u64],
     pos: usize,
-    e: Env,
-    st: State,
+    env: Env,
+    state: State,
 ) -> Meaning
-    ensures { λ r. ⌜ r ≡ jumpValue (now (s .entry)) (now (t .entry)) (now (p .entry)) (now (m .entry)) pos e st ⌝ }
+    ensures { λ r. ⌜ r ≡ jumpValue (now (stream .entry)) (now (table .entry)) (now (params .entry)) (now (temporaries .entry)) pos env state ⌝ }
 {
-    if access::byte(s, pos, 0) == statement::JUMP_IDENT {
-        return resolve_ident(s, t, p, m, e, st, u16_in(s, pos, 1));
+    if access::byte(stream, pos, 0) == statement::JUMP_IDENT {
+        return resolve_ident(
+            stream,
+            table,
+            params,
+            temporaries,
+            env,
+            state,
+            u16_in(stream, pos, 1),
+        );
     }
     Meaning::Means(ExprValue::Const {
-        value: access::u64_at(s, after(pos, 1)),
-        size: u16_in(s, pos, 9),
+        value: access::u64_at(stream, after(pos, 1)),
+        size: u16_in(stream, pos, 9),
     })
 }
 
-fn after_jump(s: &[u8], pos: usize) -> usize
-    ensures { λ r. ⌜ r ≡ afterJump (now (s .entry)) pos ⌝ }
+fn after_jump(stream: &[u8], pos: usize) -> usize
+    ensures { λ r. ⌜ r ≡ afterJump (now (stream .entry)) pos ⌝ }
 {
-    if access::byte(s, pos, 0) == statement::JUMP_IDENT {
+    if access::byte(stream, pos, 0) == statement::JUMP_IDENT {
         return after(pos, 3);
     }
     after(pos, 11)
 }
 
 // A direct jump to a subtable takes its SubtableRef at pointer size.
-fn direct_address(v: Value, pointer: u64) -> Value
-    ensures { λ r. ⌜ r ≡ directAddress pointer v ⌝ }
+fn direct_address(value: Value, pointer: u64) -> Value
+    ensures { λ r. ⌜ r ≡ directAddress pointer value ⌝ }
 {
-    if v.kind == value_kind::SUBTABLE {
+    if value.kind == value_kind::SUBTABLE {
         return Value {
             kind: value_kind::SUBTABLE_REF,
-            number: v.number,
-            offset: v.offset,
+            number: value.number,
+            offset: value.offset,
             size: pointer,
         };
     }
-    v
+    value
 }
 
 fn direct(
-    s: &[u8],
-    t: &[u16; table::LENGTH],
-    a: &mut [u64],
-    m: &mut [u64],
-    e: Env,
-    x: ExprValue,
+    stream: &[u8],
+    table: &[u16; table::LENGTH],
+    actions: &mut [u64],
+    temporaries: &mut [u64],
+    env: Env,
+    expr: ExprValue,
     cond: Value,
     hint: usize,
-    st: State,
-    w: Walk,
+    state: State,
+    walk: Walk,
 ) -> Step
-    ensures { λ r. ⌜ stepped r (now (a .exit)) (now (m .exit)) ≡ direct (now (s .entry)) (now (t .entry)) (now (a .entry)) (now (m .entry)) e x cond hint st w ⌝ }
+    ensures { λ r. ⌜ stepped r (now (actions .exit)) (now (temporaries .exit)) ≡ direct (now (stream .entry)) (now (table .entry)) (now (actions .entry)) (now (temporaries .entry)) env expr cond hint state walk ⌝ }
 {
-    match x {
+    match expr {
         ExprValue::Local(v) => branch_to(
-            s,
-            t,
-            a,
-            m,
-            e,
+            stream,
+            table,
+            actions,
+            temporaries,
+            env,
             cond,
-            direct_address(v, e.pointer),
+            direct_address(v, env.pointer),
             hint,
-            st,
-            w,
+            state,
+            walk,
         ),
-        _ => stop(w, refusal::JUMP_TO_NON_LOCAL),
+        _ => stop(walk, refusal::JUMP_TO_NON_LOCAL),
     }
 }
 
 fn indirect(
-    s: &[u8],
-    t: &[u16; table::LENGTH],
-    a: &mut [u64],
-    m: &mut [u64],
-    e: Env,
-    x: ExprValue,
+    stream: &[u8],
+    table: &[u16; table::LENGTH],
+    actions: &mut [u64],
+    temporaries: &mut [u64],
+    env: Env,
+    expr: ExprValue,
     cond: Value,
     hint: usize,
-    st: State,
-    w: Walk,
+    state: State,
+    walk: Walk,
 ) -> Step
-    ensures { λ r. ⌜ stepped r (now (a .exit)) (now (m .exit)) ≡ indirect (now (s .entry)) (now (t .entry)) (now (a .entry)) (now (m .entry)) e x cond hint st w ⌝ }
+    ensures { λ r. ⌜ stepped r (now (actions .exit)) (now (temporaries .exit)) ≡ indirect (now (stream .entry)) (now (table .entry)) (now (actions .entry)) (now (temporaries .entry)) env expr cond hint state walk ⌝ }
 {
-    match read_operand(s, t, a, m, e, x, st) {
-        Read::No(n) => stop(w, n),
-        Read::Value { v, st: st1 } => branch_to(s, t, a, m, e, cond, v, hint, st1, w),
+    match read_operand(stream, table, actions, temporaries, env, expr, state) {
+        Read::No(n) => stop(walk, n),
+        Read::Value { v, st: st1 } => branch_to(
+            stream,
+            table,
+            actions,
+            temporaries,
+            env,
+            cond,
+            v,
+            hint,
+            st1,
+            walk,
+        ),
     }
 }
 
 fn jump_to(
     code: u64,
-    s: &[u8],
-    t: &[u16; table::LENGTH],
-    a: &mut [u64],
-    m: &mut [u64],
-    e: Env,
-    x: ExprValue,
+    stream: &[u8],
+    table: &[u16; table::LENGTH],
+    actions: &mut [u64],
+    temporaries: &mut [u64],
+    env: Env,
+    expr: ExprValue,
     cond: Value,
     hint: usize,
-    st: State,
-    w: Walk,
+    state: State,
+    walk: Walk,
 ) -> Step
-    ensures { λ r. ⌜ stepped r (now (a .exit)) (now (m .exit)) ≡ jumpTo code (now (s .entry)) (now (t .entry)) (now (a .entry)) (now (m .entry)) e x cond hint st w ⌝ }
+    ensures { λ r. ⌜ stepped r (now (actions .exit)) (now (temporaries .exit)) ≡ jumpTo code (now (stream .entry)) (now (table .entry)) (now (actions .entry)) (now (temporaries .entry)) env expr cond hint state walk ⌝ }
 {
     if code == statement::DST_DIRECT {
-        return direct(s, t, a, m, e, x, cond, hint, st, w);
+        return direct(
+            stream,
+            table,
+            actions,
+            temporaries,
+            env,
+            expr,
+            cond,
+            hint,
+            state,
+            walk,
+        );
     }
-    indirect(s, t, a, m, e, x, cond, hint, st, w)
+    indirect(
+        stream,
+        table,
+        actions,
+        temporaries,
+        env,
+        expr,
+        cond,
+        hint,
+        state,
+        walk,
+    )
 }
 
 fn jump(
-    s: &[u8],
-    t: &[u16; table::LENGTH],
-    p: &[u64],
-    a: &mut [u64],
-    m: &mut [u64],
-    e: Env,
+    stream: &[u8],
+    table: &[u16; table::LENGTH],
+    params: &[u64],
+    actions: &mut [u64],
+    temporaries: &mut [u64],
+    env: Env,
     pos: usize,
     cond: Value,
-    st: State,
-    w: Walk,
+    state: State,
+    walk: Walk,
 ) -> Step
-    ensures { λ r. ⌜ stepped r (now (a .exit)) (now (m .exit)) ≡ jump (now (s .entry)) (now (t .entry)) (now (p .entry)) (now (a .entry)) (now (m .entry)) e pos cond st w ⌝ }
+    ensures { λ r. ⌜ stepped r (now (actions .exit)) (now (temporaries .exit)) ≡ jump (now (stream .entry)) (now (table .entry)) (now (params .entry)) (now (actions .entry)) (now (temporaries .entry)) env pos cond state walk ⌝ }
 {
     let target = after(pos, 1);
-    let code = access::byte(s, pos, 0);
-    match jump_value(s, t, p, m, target, e, st) {
-        Meaning::Wrong(n) => stop(w, n),
-        Meaning::Means(x) => jump_to(code, s, t, a, m, e, x, cond, after_jump(s, target), st, w),
+    let code = access::byte(stream, pos, 0);
+    match jump_value(stream, table, params, temporaries, target, env, state) {
+        Meaning::Wrong(n) => stop(walk, n),
+        Meaning::Means(x) => jump_to(
+            code,
+            stream,
+            table,
+            actions,
+            temporaries,
+            env,
+            x,
+            cond,
+            after_jump(stream, target),
+            state,
+            walk,
+        ),
     }
 }
 
 fn resolve_branch(
-    s: &[u8],
-    t: &[u16; table::LENGTH],
-    p: &[u64],
-    l: &mut [u64],
-    a: &mut [u64],
-    m: &mut [u64],
-    e: Env,
+    stream: &[u8],
+    table: &[u16; table::LENGTH],
+    params: &[u64],
+    labels: &mut [u64],
+    actions: &mut [u64],
+    temporaries: &mut [u64],
+    env: Env,
     pos: usize,
     cond: Value,
-    st: State,
-    w: Walk,
+    state: State,
+    walk: Walk,
 ) -> Step
-    ensures { λ r. ⌜ walked r (now (l .exit)) (now (a .exit)) (now (m .exit)) ≡ resolveBranch (now (s .entry)) (now (t .entry)) (now (p .entry)) (now (l .entry)) (now (a .entry)) (now (m .entry)) e pos cond st w ⌝ }
+    ensures { λ r. ⌜ walked r (now (labels .exit)) (now (actions .exit)) (now (temporaries .exit)) ≡ resolveBranch (now (stream .entry)) (now (table .entry)) (now (params .entry)) (now (labels .entry)) (now (actions .entry)) (now (temporaries .entry)) env pos cond state walk ⌝ }
 {
-    if access::byte(s, pos, 0) == statement::DST_LABEL {
-        return label_branch(s, t, l, a, m, e, pos, cond, st, w);
+    if access::byte(stream, pos, 0) == statement::DST_LABEL {
+        return label_branch(
+            stream,
+            table,
+            labels,
+            actions,
+            temporaries,
+            env,
+            pos,
+            cond,
+            state,
+            walk,
+        );
     }
-    jump(s, t, p, a, m, e, pos, cond, st, w)
+    jump(
+        stream,
+        table,
+        params,
+        actions,
+        temporaries,
+        env,
+        pos,
+        cond,
+        state,
+        walk,
+    )
 }
 
 pub fn branch(
-    s: &[u8],
-    t: &[u16; table::LENGTH],
-    p: &[u64],
-    l: &mut [u64],
-    a: &mut [u64],
-    m: &mut [u64],
-    e: Env,
+    stream: &[u8],
+    table: &[u16; table::LENGTH],
+    params: &[u64],
+    labels: &mut [u64],
+    actions: &mut [u64],
+    temporaries: &mut [u64],
+    env: Env,
     pos: usize,
-    w: Walk,
+    walk: Walk,
 ) -> Step
-    ensures { λ r. ⌜ walked r (now (l .exit)) (now (a .exit)) (now (m .exit)) ≡ branch (now (s .entry)) (now (t .entry)) (now (p .entry)) (now (l .entry)) (now (a .entry)) (now (m .entry)) e pos w ⌝ }
+    ensures { λ r. ⌜ walked r (now (labels .exit)) (now (actions .exit)) (now (temporaries .exit)) ≡ branch (now (stream .entry)) (now (table .entry)) (now (params .entry)) (now (labels .entry)) (now (actions .entry)) (now (temporaries .entry)) env pos walk ⌝ }
 {
-    resolve_branch(s, t, p, l, a, m, e, after(pos, 1), constant(1), w.st, w)
+    resolve_branch(
+        stream,
+        table,
+        params,
+        labels,
+        actions,
+        temporaries,
+        env,
+        after(pos, 1),
+        constant(1),
+        walk.st,
+        walk,
+    )
 }
 
 pub fn cond_branch(
-    s: &[u8],
-    t: &[u16; table::LENGTH],
-    p: &[u64],
-    l: &mut [u64],
-    a: &mut [u64],
-    m: &mut [u64],
-    e: Env,
+    stream: &[u8],
+    table: &[u16; table::LENGTH],
+    params: &[u64],
+    labels: &mut [u64],
+    actions: &mut [u64],
+    temporaries: &mut [u64],
+    env: Env,
     pos: usize,
-    w: Walk,
+    walk: Walk,
 ) -> Step
-    ensures { λ r. ⌜ walked r (now (l .exit)) (now (a .exit)) (now (m .exit)) ≡ condBranch (now (s .entry)) (now (t .entry)) (now (p .entry)) (now (l .entry)) (now (a .entry)) (now (m .entry)) e pos w ⌝ }
+    ensures { λ r. ⌜ walked r (now (labels .exit)) (now (actions .exit)) (now (temporaries .exit)) ≡ condBranch (now (stream .entry)) (now (table .entry)) (now (params .entry)) (now (labels .entry)) (now (actions .entry)) (now (temporaries .entry)) env pos walk ⌝ }
 {
-    match expr_value(DEPTH, s, t, p, after(pos, 1), e, a, m, w.st) {
-        Operand::No(n) => stop(w, n),
-        Operand::Value { v, next, st } => resolve_branch(s, t, p, l, a, m, e, next, v, st, w),
+    match expr_value(
+        DEPTH,
+        stream,
+        table,
+        params,
+        after(pos, 1),
+        env,
+        actions,
+        temporaries,
+        walk.st,
+    ) {
+        Operand::No(n) => stop(walk, n),
+        Operand::Value { v, next, st } => resolve_branch(
+            stream,
+            table,
+            params,
+            labels,
+            actions,
+            temporaries,
+            env,
+            next,
+            v,
+            st,
+            walk,
+        ),
     }
 }

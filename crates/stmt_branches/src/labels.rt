@@ -18,12 +18,12 @@ pub enum Label {
 }
 
 // The first of n labels with this name and scope, or n.
-fn find_label(l: &[u64], n: u64, key: u64) -> u64
-    ensures { λ r. ⌜ r ≡ findLabel n 0 (now (l .entry)) key ⌝ }
+fn find_label(labels: &[u64], count: u64, key: u64) -> u64
+    ensures { λ r. ⌜ r ≡ findLabel count 0 (now (labels .entry)) key ⌝ }
 {
     let mut i = 0;
-    while i < n {
-        if access::get(l, i as usize) % PLACED == key {
+    while i < count {
+        if access::get(labels, i as usize) % PLACED == key {
             return i;
         }
         i += 1;
@@ -38,38 +38,38 @@ fn key(name: u64, scope: u64) -> u64
 }
 
 // The label of a name in a scope, else the next one, up to 256.
-pub fn get_or_insert_label(l: &mut [u64], name: u64, scope: u64, n: u64) -> Label
-    ensures { λ r. ⌜ listed r (now (l .exit)) ≡ getOrInsertLabel (now (l .entry)) name scope n ⌝ }
+pub fn get_or_insert_label(labels: &mut [u64], name: u64, scope: u64, count: u64) -> Label
+    ensures { λ r. ⌜ listed r (now (labels .exit)) ≡ getOrInsertLabel (now (labels .entry)) name scope count ⌝ }
 {
     let k = key(name, scope);
-    let i = find_label(l, n, k);
-    if i < n {
+    let i = find_label(labels, count, k);
+    if i < count {
         return Label::Is(i);
     }
-    if MOST_LABELS <= n {
+    if MOST_LABELS <= count {
         return Label::No(refusal::TOO_MANY_LABELS);
     }
-    access::put(l, n as usize, k);
-    Label::Is(n)
+    access::put(labels, count as usize, k);
+    Label::Is(count)
 }
 
-fn place_label(l: &mut [u64], id: u64, name: u64, scope: u64) -> Label
-    ensures { λ r. ⌜ listed r (now (l .exit)) ≡ placeLabel (now (l .entry)) id name scope ⌝ }
+fn place_label(labels: &mut [u64], id: u64, name: u64, scope: u64) -> Label
+    ensures { λ r. ⌜ listed r (now (labels .exit)) ≡ placeLabel (now (labels .entry)) id name scope ⌝ }
 {
-    if PLACED <= access::get(l, id as usize) {
+    if PLACED <= access::get(labels, id as usize) {
         return Label::No(refusal::LABEL_TWICE);
     }
-    access::put(l, id as usize, PLACED + key(name, scope));
+    access::put(labels, id as usize, PLACED + key(name, scope));
     Label::Is(id)
 }
 
 // A label is placed once.
-pub fn resolve_label(l: &mut [u64], name: u64, scope: u64, n: u64) -> Label
-    ensures { λ r. ⌜ listed r (now (l .exit)) ≡ resolveLabel (now (l .entry)) name scope n ⌝ }
+pub fn resolve_label(labels: &mut [u64], name: u64, scope: u64, count: u64) -> Label
+    ensures { λ r. ⌜ listed r (now (labels .exit)) ≡ resolveLabel (now (labels .entry)) name scope count ⌝ }
 {
-    match get_or_insert_label(l, name, scope, n) {
+    match get_or_insert_label(labels, name, scope, count) {
         Label::No(k) => Label::No(k),
-        Label::Is(id) => place_label(l, id, name, scope),
+        Label::Is(id) => place_label(labels, id, name, scope),
     }
 }
 
@@ -83,18 +83,18 @@ fn labels_after(id: u64, labels: u64) -> u64
 }
 
 // The walk with a label, and so many more placed.
-pub fn labelled(w: Walk, st: State, id: u64, more: u64) -> Walk
-    ensures { λ r. ⌜ r ≡ labelled id more st w ⌝ }
+pub fn labelled(walk: Walk, state: State, id: u64, more: u64) -> Walk
+    ensures { λ r. ⌜ r ≡ labelled id more state walk ⌝ }
 {
-    let export = w.export;
-    let labels = labels_after(id, w.labels);
-    let placed = std::num::wrapping_add_u64(w.placed, more);
+    let export = walk.export;
+    let labels = labels_after(id, walk.labels);
+    let placed = std::num::wrapping_add_u64(walk.placed, more);
     Walk {
-        st,
+        st: state,
         labels,
         placed,
-        statements: w.statements,
-        scopes: w.scopes,
+        statements: walk.statements,
+        scopes: walk.scopes,
         export,
     }
 }

@@ -1,1 +1,1 @@
-// The words of statements are the definition's: theorems in specs/. There is no code.
+// The words of statements are the definition's: theorems in proofs/. There is no code.

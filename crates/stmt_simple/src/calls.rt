@@ -53,25 +53,25 @@ pub struct Called {
     pub number: u64,
 }
 
-fn symbol_of(g: u64) -> Called
-    ensures { λ r. ⌜ r ≡ symbolOf g ⌝ }
+fn symbol_of(symbol: u64) -> Called
+    ensures { λ r. ⌜ r ≡ symbolOf symbol ⌝ }
 {
-    if g == 0 {
+    if symbol == 0 {
         return Called {
             kind: REFUSED,
             number: refusal::UNDEFINED,
         };
     }
-    if (g - 1) % 8 == symbol_kind::USER_OP {
+    if (symbol - 1) % 8 == symbol_kind::USER_OP {
         return Called {
             kind: USER_OP,
-            number: (g - 1) / 8,
+            number: (symbol - 1) / 8,
         };
     }
-    if (g - 1) % 8 == symbol_kind::MACRO {
+    if (symbol - 1) % 8 == symbol_kind::MACRO {
         return Called {
             kind: MACRO,
-            number: (g - 1) / 8,
+            number: (symbol - 1) / 8,
         };
     }
     Called {
@@ -80,25 +80,25 @@ fn symbol_of(g: u64) -> Called
     }
 }
 
-pub fn called_of(s: &[u8], t: &[u16; table::LENGTH], name: u64) -> Called
-    ensures { λ r. ⌜ r ≡ calledOf (now (s .entry)) (now (t .entry)) name ⌝ }
+pub fn called_of(stream: &[u8], table: &[u16; table::LENGTH], name: u64) -> Called
+    ensures { λ r. ⌜ r ≡ calledOf (now (stream .entry)) (now (table .entry)) name ⌝ }
 {
-    if name == access::u16_at(s, header::DELAY_SLOT) {
+    if name == access::u16_at(stream, header::DELAY_SLOT) {
         return Called {
             kind: DELAY_SLOT,
             number: 0,
         };
     }
-    symbol_of(global(t, name))
+    symbol_of(global(table, name))
 }
 
-fn delay_slot(s: &[u8], a: &mut [u64], pos: usize, n: u64, w: Walk) -> Step
-    ensures { λ r. ⌜ listed r (now (a .exit)) ≡ delaySlot (now (s .entry)) (now (a .entry)) pos n w ⌝ }
+fn delay_slot(stream: &[u8], actions: &mut [u64], pos: usize, count: u64, walk: Walk) -> Step
+    ensures { λ r. ⌜ listed r (now (actions .exit)) ≡ delaySlot (now (stream .entry)) (now (actions .entry)) pos count walk ⌝ }
 {
-    if only_integer(s, pos, n) == 1 {
+    if only_integer(stream, pos, count) == 1 {
         return pushed_then(
             push(
-                a,
+                actions,
                 action_kind::DELAY_SLOT,
                 0,
                 0,
@@ -106,188 +106,248 @@ fn delay_slot(s: &[u8], a: &mut [u64], pos: usize, n: u64, w: Walk) -> Step
                 absent(),
                 absent(),
                 absent(),
-                w.st,
+                walk.st,
             ),
             after(pos, 13),
-            w,
+            walk,
         );
     }
-    stop(w, refusal::DELAY_SLOT_ARGUMENT)
+    stop(walk, refusal::DELAY_SLOT_ARGUMENT)
 }
 
 // Reads n arguments in place: each slot's value becomes an operand.
 fn read_args(
-    s: &[u8],
-    t: &[u16; table::LENGTH],
-    a: &mut [u64],
-    m: &mut [u64],
+    stream: &[u8],
+    table: &[u16; table::LENGTH],
+    actions: &mut [u64],
+    temporaries: &mut [u64],
     args: &mut [u64],
-    n: u64,
-    e: Env,
-    st: State,
+    count: u64,
+    env: Env,
+    state: State,
 ) -> Pushed
-    ensures { λ r. ⌜ argsRead r (now (a .exit)) (now (m .exit)) (now (args .exit)) ≡ readArgs n 0 (now (s .entry)) (now (t .entry)) (now (a .entry)) (now (m .entry)) (now (args .entry)) e st ⌝ }
+    ensures { λ r. ⌜ argsRead r (now (actions .exit)) (now (temporaries .exit)) (now (args .exit)) ≡ readArgs count 0 (now (stream .entry)) (now (table .entry)) (now (actions .entry)) (now (temporaries .entry)) (now (args .entry)) env state ⌝ }
 {
-    let mut st = st;
-    for i in 0..n {
-        match read_operand(s, t, a, m, e, arg_at(args, i), st) {
+    let mut state = state;
+    for i in 0..count {
+        match read_operand(
+            stream,
+            table,
+            actions,
+            temporaries,
+            env,
+            arg_at(args, i),
+            state,
+        ) {
             Read::No(k) => return Pushed::No(k),
             Read::Value { v, st: st1 } => {
                 put_value(args, param_place(i as usize), SLOT_A, v);
-                st = st1;
+                state = st1;
             }
         }
     }
-    Pushed::Done(st)
+    Pushed::Done(state)
 }
 
 // The operands that n arguments became, as the inputs of the action at a position.
-fn write_inputs(a: &mut [u64], at: usize, args: &[u64], n: u64)
-    ensures { λ _. ⌜ now (a .exit) ≡ writeInputs n (now (a .entry)) at (now (args .entry)) ⌝ }
+fn write_inputs(actions: &mut [u64], at: usize, args: &[u64], count: u64)
+    ensures { λ _. ⌜ now (actions .exit) ≡ writeInputs count (now (actions .entry)) at (now (args .entry)) ⌝ }
 {
-    for i in 0..n {
+    for i in 0..count {
         let v = value_at(args, param_place(i as usize), SLOT_A);
-        put_value(a, at, action::INPUT_0 + 2 * (i % 8) as usize, v);
+        put_value(actions, at, action::INPUT_0 + 2 * (i % 8) as usize, v);
     }
 }
 
-fn push_user_op(a: &mut [u64], args: &[u64], id: u64, n: u64, st: State) -> Pushed
-    ensures { λ r. ⌜ listed r (now (a .exit)) ≡ pushUserOp (now (a .entry)) (now (args .entry)) id n st ⌝ }
+fn push_user_op(actions: &mut [u64], args: &[u64], id: u64, count: u64, state: State) -> Pushed
+    ensures { λ r. ⌜ listed r (now (actions .exit)) ≡ pushUserOp (now (actions .entry)) (now (args .entry)) id count state ⌝ }
 {
     match push(
-        a,
+        actions,
         action_kind::OP,
         operation::PCODE_OP,
         id,
-        n,
+        count,
         no_output(),
         absent(),
         absent(),
-        st,
+        state,
     ) {
         Pushed::No(k) => Pushed::No(k),
         Pushed::Done(st1) => {
-            write_inputs(a, st.end, args, n);
+            write_inputs(actions, state.end, args, count);
             Pushed::Done(st1)
         }
     }
 }
 
 fn user_op_args(
-    s: &[u8],
-    t: &[u16; table::LENGTH],
-    a: &mut [u64],
-    m: &mut [u64],
+    stream: &[u8],
+    table: &[u16; table::LENGTH],
+    actions: &mut [u64],
+    temporaries: &mut [u64],
     args: &mut [u64],
     id: u64,
-    n: u64,
-    e: Env,
-    st: State,
+    count: u64,
+    env: Env,
+    state: State,
 ) -> Pushed
-    ensures { λ r. ⌜ argsRead r (now (a .exit)) (now (m .exit)) (now (args .exit)) ≡ userOpArgs (now (s .entry)) (now (t .entry)) (now (a .entry)) (now (m .entry)) (now (args .entry)) id n e st ⌝ }
+    ensures { λ r. ⌜ argsRead r (now (actions .exit)) (now (temporaries .exit)) (now (args .exit)) ≡ userOpArgs (now (stream .entry)) (now (table .entry)) (now (actions .entry)) (now (temporaries .entry)) (now (args .entry)) id count env state ⌝ }
 {
-    match read_args(s, t, a, m, args, n, e, st) {
+    match read_args(stream, table, actions, temporaries, args, count, env, state) {
         Pushed::No(k) => Pushed::No(k),
-        Pushed::Done(st1) => push_user_op(a, args, id, n, st1),
+        Pushed::Done(st1) => push_user_op(actions, args, id, count, st1),
     }
 }
 
 fn user_op_statement(
-    s: &[u8],
-    t: &[u16; table::LENGTH],
-    p: &[u64],
-    a: &mut [u64],
-    m: &mut [u64],
-    e: Env,
+    stream: &[u8],
+    table: &[u16; table::LENGTH],
+    params: &[u64],
+    actions: &mut [u64],
+    temporaries: &mut [u64],
+    env: Env,
     pos: usize,
     id: u64,
-    n: u64,
-    w: Walk,
+    count: u64,
+    walk: Walk,
 ) -> Step
-    ensures { λ r. ⌜ stepped r (now (a .exit)) (now (m .exit)) ≡ userOpStatement (now (s .entry)) (now (t .entry)) (now (p .entry)) (now (a .entry)) (now (m .entry)) e pos id n w ⌝ }
+    ensures { λ r. ⌜ stepped r (now (actions .exit)) (now (temporaries .exit)) ≡ userOpStatement (now (stream .entry)) (now (table .entry)) (now (params .entry)) (now (actions .entry)) (now (temporaries .entry)) env pos id count walk ⌝ }
 {
     let mut args = [0u64; 64];
-    match resolve_args(DEPTH, s, t, p, after(pos, 4), n, e, a, m, &mut args, w.st) {
-        Args::No(k) => stop(w, k),
+    match resolve_args(
+        DEPTH,
+        stream,
+        table,
+        params,
+        after(pos, 4),
+        count,
+        env,
+        actions,
+        temporaries,
+        &mut args,
+        walk.st,
+    ) {
+        Args::No(k) => stop(walk, k),
         Args::Done { next, st } => pushed_then(
-            user_op_args(s, t, a, m, &mut args, id, n, e, st),
+            user_op_args(
+                stream,
+                table,
+                actions,
+                temporaries,
+                &mut args,
+                id,
+                count,
+                env,
+                st,
+            ),
             next,
-            w,
+            walk,
         ),
     }
 }
 
 // A call of what is no macro.
 pub fn other_call(
-    c: Called,
-    s: &[u8],
-    t: &[u16; table::LENGTH],
-    p: &[u64],
-    a: &mut [u64],
-    m: &mut [u64],
-    e: Env,
+    called: Called,
+    stream: &[u8],
+    table: &[u16; table::LENGTH],
+    params: &[u64],
+    actions: &mut [u64],
+    temporaries: &mut [u64],
+    env: Env,
     pos: usize,
-    n: u64,
-    w: Walk,
+    count: u64,
+    walk: Walk,
 ) -> Step
-    ensures { λ r. ⌜ stepped r (now (a .exit)) (now (m .exit)) ≡ otherCall c (now (s .entry)) (now (t .entry)) (now (p .entry)) (now (a .entry)) (now (m .entry)) e pos n w ⌝ }
+    ensures { λ r. ⌜ stepped r (now (actions .exit)) (now (temporaries .exit)) ≡ otherCall called (now (stream .entry)) (now (table .entry)) (now (params .entry)) (now (actions .entry)) (now (temporaries .entry)) env pos count walk ⌝ }
 {
-    let kind = c.kind;
+    let kind = called.kind;
     match kind {
-        DELAY_SLOT => delay_slot(s, a, pos, n, w),
-        USER_OP => user_op_statement(s, t, p, a, m, e, pos, c.number, n, w),
-        _ => stop(w, c.number),
+        DELAY_SLOT => delay_slot(stream, actions, pos, count, walk),
+        USER_OP => user_op_statement(
+            stream,
+            table,
+            params,
+            actions,
+            temporaries,
+            env,
+            pos,
+            called.number,
+            count,
+            walk,
+        ),
+        _ => stop(walk, called.number),
     }
 }
 
 // Where macro number `id` stands.
-pub fn macro_at(t: &[u16; table::LENGTH], id: u64) -> usize
-    ensures { λ r. ⌜ r ≡ macroAt (now (t .entry)) id ⌝ }
+pub fn macro_at(table: &[u16; table::LENGTH], id: u64) -> usize
+    ensures { λ r. ⌜ r ≡ macroAt (now (table .entry)) id ⌝ }
 {
-    access::get_u16(t, table::MACROS + (id % 128) as usize) as usize
+    access::get_u16(table, table::MACROS + (id % 128) as usize) as usize
 }
 
 // Gives n arguments the names of the macro's parameters, which stand from a position on: each slot's first word.
-fn bind_names(s: &[u8], args: &mut [u64], names: usize, n: usize)
-    ensures { λ _. ⌜ now (args .exit) ≡ bindNames n (now (s .entry)) names (now (args .entry)) ⌝ }
+fn bind_names(stream: &[u8], args: &mut [u64], names: usize, count: usize)
+    ensures { λ _. ⌜ now (args .exit) ≡ bindNames count (now (stream .entry)) names (now (args .entry)) ⌝ }
 {
-    for i in 0..n {
-        let name = u16_in(s, names, i % 8 * 2);
+    for i in 0..count {
+        let name = u16_in(stream, names, i % 8 * 2);
         put(args, param_place(i), SLOT_NAME, name);
     }
 }
 
 // As many arguments as the macro has parameters.
-fn counted(s: &[u8], t: &[u16; table::LENGTH], id: u64, n: u64, next: usize, st: State) -> Args
-    ensures { λ r. ⌜ r ≡ counted (now (s .entry)) (now (t .entry)) id n next st ⌝ }
+fn counted(
+    stream: &[u8],
+    table: &[u16; table::LENGTH],
+    id: u64,
+    count: u64,
+    next: usize,
+    state: State,
+) -> Args
+    ensures { λ r. ⌜ r ≡ counted (now (stream .entry)) (now (table .entry)) id count next state ⌝ }
 {
-    if access::byte(s, macro_at(t, id), 0) == n {
-        return Args::Done { next, st };
+    if access::byte(stream, macro_at(table, id), 0) == count {
+        return Args::Done { next, st: state };
     }
     Args::No(refusal::MACRO_ARGUMENTS)
 }
 
 // The arguments of a macro call, as its parameters.
 pub fn macro_args(
-    s: &[u8],
-    t: &[u16; table::LENGTH],
-    p: &[u64],
-    a: &mut [u64],
-    m: &mut [u64],
+    stream: &[u8],
+    table: &[u16; table::LENGTH],
+    params: &[u64],
+    actions: &mut [u64],
+    temporaries: &mut [u64],
     args: &mut [u64],
-    e: Env,
+    env: Env,
     pos: usize,
     id: u64,
-    n: u64,
-    st: State,
+    count: u64,
+    state: State,
 ) -> Args
-    ensures { λ r. ⌜ passed r (now (a .exit)) (now (m .exit)) (now (args .exit)) ≡ macroArgs (now (s .entry)) (now (t .entry)) (now (p .entry)) (now (a .entry)) (now (m .entry)) (now (args .entry)) e pos id n st ⌝ }
+    ensures { λ r. ⌜ passed r (now (actions .exit)) (now (temporaries .exit)) (now (args .exit)) ≡ macroArgs (now (stream .entry)) (now (table .entry)) (now (params .entry)) (now (actions .entry)) (now (temporaries .entry)) (now (args .entry)) env pos id count state ⌝ }
 {
-    match resolve_args(DEPTH, s, t, p, after(pos, 4), n, e, a, m, args, st) {
+    match resolve_args(
+        DEPTH,
+        stream,
+        table,
+        params,
+        after(pos, 4),
+        count,
+        env,
+        actions,
+        temporaries,
+        args,
+        state,
+    ) {
         Args::No(k) => Args::No(k),
         Args::Done { next, st: st1 } => {
-            bind_names(s, args, after(macro_at(t, id), 1), n as usize);
-            counted(s, t, id, n, next, st1)
+            bind_names(stream, args, after(macro_at(table, id), 1), count as usize);
+            counted(stream, table, id, count, next, st1)
         }
     }
 }

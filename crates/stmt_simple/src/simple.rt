@@ -36,181 +36,240 @@ ghost use Rattle.stmt_walk.specs.Walks.{stepped};
 ghost use Rattle.stmt_simple.specs.Simple.{unimplemented, exported, exportValue, exportOf, exportStatement, localStatement, assign, localAssignment, findSubtable, buildTable, build};
 
 pub fn unimplemented(
-    s: &[u8],
-    t: &[u16; codes::table::LENGTH],
-    a: &mut [u64],
-    m: &mut [u64],
-    e: Env,
+    stream: &[u8],
+    table: &[u16; codes::table::LENGTH],
+    actions: &mut [u64],
+    temporaries: &mut [u64],
+    env: Env,
     pos: usize,
-    w: Walk,
+    walk: Walk,
 ) -> Step
-    ensures { λ r. ⌜ stepped r (now (a .exit)) (now (m .exit)) ≡ unimplemented (now (s .entry)) (now (t .entry)) (now (a .entry)) (now (m .entry)) e pos w ⌝ }
+    ensures { λ r. ⌜ stepped r (now (actions .exit)) (now (temporaries .exit)) ≡ unimplemented (now (stream .entry)) (now (table .entry)) (now (actions .entry)) (now (temporaries .entry)) env pos walk ⌝ }
 {
     pushed_then(
         push_op(
-            s,
-            t,
-            a,
-            m,
-            e,
+            stream,
+            table,
+            actions,
+            temporaries,
+            env,
             operation::INVALID,
             0,
             0,
             no_output(),
             absent(),
             absent(),
-            w.st,
+            walk.st,
         ),
         after(pos, 1),
-        w,
+        walk,
     )
 }
 
-fn exported(w: Walk, kind: u64, v: Value, size: u64, st: State, next: usize) -> Step
-    ensures { λ r. ⌜ r ≡ exported kind v size st next w ⌝ }
+fn exported(walk: Walk, kind: u64, value: Value, size: u64, state: State, next: usize) -> Step
+    ensures { λ r. ⌜ r ≡ exported kind value size state next walk ⌝ }
 {
     Step::Next {
         next,
         w: Walk {
-            st,
-            labels: w.labels,
-            placed: w.placed,
-            statements: w.statements,
-            scopes: w.scopes,
-            export: Export { kind, v, size },
+            st: state,
+            labels: walk.labels,
+            placed: walk.placed,
+            statements: walk.statements,
+            scopes: walk.scopes,
+            export: Export {
+                kind,
+                v: value,
+                size,
+            },
         },
     }
 }
 
-fn export_value(r: Read, next: usize, w: Walk) -> Step
-    ensures { λ x. ⌜ x ≡ exportValue next w r ⌝ }
+fn export_value(answer: Read, next: usize, walk: Walk) -> Step
+    ensures { λ x. ⌜ x ≡ exportValue next walk answer ⌝ }
 {
-    match r {
-        Read::No(n) => stop(w, n),
-        Read::Value { v, st } => exported(w, export_kind::COMPUTED, v, 0, st, next),
+    match answer {
+        Read::No(n) => stop(walk, n),
+        Read::Value { v, st } => exported(walk, export_kind::COMPUTED, v, 0, st, next),
     }
 }
 
 // A reference stays one, anything else is read.
 fn export_of(
-    s: &[u8],
-    t: &[u16; codes::table::LENGTH],
-    a: &mut [u64],
-    m: &mut [u64],
-    e: Env,
-    x: ExprValue,
+    stream: &[u8],
+    table: &[u16; codes::table::LENGTH],
+    actions: &mut [u64],
+    temporaries: &mut [u64],
+    env: Env,
+    expr: ExprValue,
     next: usize,
-    st: State,
-    w: Walk,
+    state: State,
+    walk: Walk,
 ) -> Step
-    ensures { λ r. ⌜ stepped r (now (a .exit)) (now (m .exit)) ≡ exportOf (now (s .entry)) (now (t .entry)) (now (a .entry)) (now (m .entry)) e x next st w ⌝ }
+    ensures { λ r. ⌜ stepped r (now (actions .exit)) (now (temporaries .exit)) ≡ exportOf (now (stream .entry)) (now (table .entry)) (now (actions .entry)) (now (temporaries .entry)) env expr next state walk ⌝ }
 {
-    match x {
+    match expr {
         ExprValue::RamRef { pointer, size } => exported(
-            w,
+            walk,
             export_kind::RAM_REF,
             pointer,
             size,
-            st,
+            state,
             next,
         ),
         ExprValue::RegisterRef { pointer, size } => exported(
-            w,
+            walk,
             export_kind::REGISTER_REF,
             pointer,
             size,
-            st,
+            state,
             next,
         ),
-        _ => export_value(read_operand(s, t, a, m, e, x, st), next, w),
+        _ => export_value(
+            read_operand(stream, table, actions, temporaries, env, expr, state),
+            next,
+            walk,
+        ),
     }
 }
 
 pub fn export_statement(
-    s: &[u8],
-    t: &[u16; codes::table::LENGTH],
-    p: &[u64],
-    a: &mut [u64],
-    m: &mut [u64],
-    e: Env,
+    stream: &[u8],
+    table: &[u16; codes::table::LENGTH],
+    params: &[u64],
+    actions: &mut [u64],
+    temporaries: &mut [u64],
+    env: Env,
     pos: usize,
-    w: Walk,
+    walk: Walk,
 ) -> Step
-    ensures { λ r. ⌜ stepped r (now (a .exit)) (now (m .exit)) ≡ exportStatement (now (s .entry)) (now (t .entry)) (now (p .entry)) (now (a .entry)) (now (m .entry)) e pos w ⌝ }
+    ensures { λ r. ⌜ stepped r (now (actions .exit)) (now (temporaries .exit)) ≡ exportStatement (now (stream .entry)) (now (table .entry)) (now (params .entry)) (now (actions .entry)) (now (temporaries .entry)) env pos walk ⌝ }
 {
-    match resolve_expr(DEPTH, s, t, p, after(pos, 1), e, a, m, w.st) {
-        Expr::No(n) => stop(w, n),
-        Expr::Value { x, next, st } => export_of(s, t, a, m, e, x, next, st, w),
+    match resolve_expr(
+        DEPTH,
+        stream,
+        table,
+        params,
+        after(pos, 1),
+        env,
+        actions,
+        temporaries,
+        walk.st,
+    ) {
+        Expr::No(n) => stop(walk, n),
+        Expr::Value { x, next, st } => export_of(
+            stream,
+            table,
+            actions,
+            temporaries,
+            env,
+            x,
+            next,
+            st,
+            walk,
+        ),
     }
 }
 
 pub fn local_statement(
-    s: &[u8],
-    t: &[u16; codes::table::LENGTH],
-    m: &mut [u64],
-    e: Env,
+    stream: &[u8],
+    table: &[u16; codes::table::LENGTH],
+    temporaries: &mut [u64],
+    env: Env,
     pos: usize,
-    w: Walk,
+    walk: Walk,
 ) -> Step
-    ensures { λ r. ⌜ listed r (now (m .exit)) ≡ localStatement (now (s .entry)) (now (t .entry)) (now (m .entry)) e pos w ⌝ }
+    ensures { λ r. ⌜ listed r (now (temporaries .exit)) ≡ localStatement (now (stream .entry)) (now (table .entry)) (now (temporaries .entry)) env pos walk ⌝ }
 {
-    let name = u16_in(s, pos, 1);
-    let size = u16_in(s, pos, 3);
-    read_then(named_tmp(t, m, e, name, size, w.st), after(pos, 5), w)
+    let name = u16_in(stream, pos, 1);
+    let size = u16_in(stream, pos, 3);
+    read_then(
+        named_tmp(table, temporaries, env, name, size, walk.st),
+        after(pos, 5),
+        walk,
+    )
 }
 
 // An expression at a position read into a target.
 fn assign(
-    s: &[u8],
-    t: &[u16; codes::table::LENGTH],
-    p: &[u64],
-    a: &mut [u64],
-    m: &mut [u64],
-    e: Env,
+    stream: &[u8],
+    table: &[u16; codes::table::LENGTH],
+    params: &[u64],
+    actions: &mut [u64],
+    temporaries: &mut [u64],
+    env: Env,
     pos: usize,
     to: Value,
-    st: State,
-    w: Walk,
+    state: State,
+    walk: Walk,
 ) -> Step
-    ensures { λ r. ⌜ stepped r (now (a .exit)) (now (m .exit)) ≡ assign (now (s .entry)) (now (t .entry)) (now (p .entry)) (now (a .entry)) (now (m .entry)) e pos to st w ⌝ }
+    ensures { λ r. ⌜ stepped r (now (actions .exit)) (now (temporaries .exit)) ≡ assign (now (stream .entry)) (now (table .entry)) (now (params .entry)) (now (actions .entry)) (now (temporaries .entry)) env pos to state walk ⌝ }
 {
-    match resolve_expr(DEPTH, s, t, p, pos, e, a, m, st) {
-        Expr::No(n) => stop(w, n),
+    match resolve_expr(
+        DEPTH,
+        stream,
+        table,
+        params,
+        pos,
+        env,
+        actions,
+        temporaries,
+        state,
+    ) {
+        Expr::No(n) => stop(walk, n),
         Expr::Value { x, next, st: st1 } => read_then(
-            read_value(s, t, a, m, e, x, true, to, st1),
+            read_value(stream, table, actions, temporaries, env, x, true, to, st1),
             next,
-            w,
+            walk,
         ),
     }
 }
 
 pub fn local_assignment(
-    s: &[u8],
-    t: &[u16; codes::table::LENGTH],
-    p: &[u64],
-    a: &mut [u64],
-    m: &mut [u64],
-    e: Env,
+    stream: &[u8],
+    table: &[u16; codes::table::LENGTH],
+    params: &[u64],
+    actions: &mut [u64],
+    temporaries: &mut [u64],
+    env: Env,
     pos: usize,
-    w: Walk,
+    walk: Walk,
 ) -> Step
-    ensures { λ r. ⌜ stepped r (now (a .exit)) (now (m .exit)) ≡ localAssignment (now (s .entry)) (now (t .entry)) (now (p .entry)) (now (a .entry)) (now (m .entry)) e pos w ⌝ }
+    ensures { λ r. ⌜ stepped r (now (actions .exit)) (now (temporaries .exit)) ≡ localAssignment (now (stream .entry)) (now (table .entry)) (now (params .entry)) (now (actions .entry)) (now (temporaries .entry)) env pos walk ⌝ }
 {
-    let name = u16_in(s, pos, 1);
-    let size = u16_in(s, pos, 3);
-    match named_tmp(t, m, e, name, size, w.st) {
-        Read::No(n) => stop(w, n),
-        Read::Value { v, st } => assign(s, t, p, a, m, e, after(pos, 5), v, st, w),
+    let name = u16_in(stream, pos, 1);
+    let size = u16_in(stream, pos, 3);
+    match named_tmp(table, temporaries, env, name, size, walk.st) {
+        Read::No(n) => stop(walk, n),
+        Read::Value { v, st } => assign(
+            stream,
+            table,
+            params,
+            actions,
+            temporaries,
+            env,
+            after(pos, 5),
+            v,
+            st,
+            walk,
+        ),
     }
 }
 
 // The first of n subtables that has this table, or n.
-fn find_subtable(s: &[u8], t: &[u16; codes::table::LENGTH], n: u64, table: u64) -> u64
-    ensures { λ r. ⌜ r ≡ findSubtable n 0 (now (s .entry)) (now (t .entry)) table ⌝ }
+fn find_subtable(stream: &[u8], table: &[u16; codes::table::LENGTH], count: u64, wanted: u64) -> u64
+    ensures { λ r. ⌜ r ≡ findSubtable count 0 (now (stream .entry)) (now (table .entry)) wanted ⌝ }
 {
     let mut i = 0;
-    while i < n {
-        if u16_in(s, entry(t, codes::table::SUBTABLES, i % 65536 * 4), 2) == table {
+    while i < count {
+        if u16_in(
+            stream,
+            entry(table, codes::table::SUBTABLES, i % 65536 * 4),
+            2,
+        )
+            == wanted
+        {
             return i;
         }
         i += 1;
@@ -219,21 +278,21 @@ fn find_subtable(s: &[u8], t: &[u16; codes::table::LENGTH], n: u64, table: u64) 
 }
 
 fn build_table(
-    s: &[u8],
-    t: &[u16; codes::table::LENGTH],
-    a: &mut [u64],
-    table: u64,
+    stream: &[u8],
+    table: &[u16; codes::table::LENGTH],
+    actions: &mut [u64],
+    wanted: u64,
     pos: usize,
-    w: Walk,
+    walk: Walk,
 ) -> Step
-    ensures { λ r. ⌜ listed r (now (a .exit)) ≡ buildTable (now (s .entry)) (now (t .entry)) (now (a .entry)) table pos w ⌝ }
+    ensures { λ r. ⌜ listed r (now (actions .exit)) ≡ buildTable (now (stream .entry)) (now (table .entry)) (now (actions .entry)) wanted pos walk ⌝ }
 {
-    let n = access::u16_at(s, header::SUBTABLES);
-    let i = find_subtable(s, t, n, table);
+    let n = access::u16_at(stream, header::SUBTABLES);
+    let i = find_subtable(stream, table, n, wanted);
     if i < n {
         return pushed_then(
             push(
-                a,
+                actions,
                 action_kind::BUILD,
                 0,
                 i,
@@ -241,24 +300,30 @@ fn build_table(
                 absent(),
                 absent(),
                 absent(),
-                w.st,
+                walk.st,
             ),
             after(pos, 3),
-            w,
+            walk,
         );
     }
-    stop(w, refusal::ABSENT_TABLE)
+    stop(walk, refusal::ABSENT_TABLE)
 }
 
-pub fn build(s: &[u8], t: &[u16; codes::table::LENGTH], a: &mut [u64], pos: usize, w: Walk) -> Step
-    ensures { λ r. ⌜ listed r (now (a .exit)) ≡ build (now (s .entry)) (now (t .entry)) (now (a .entry)) pos w ⌝ }
+pub fn build(
+    stream: &[u8],
+    table: &[u16; codes::table::LENGTH],
+    actions: &mut [u64],
+    pos: usize,
+    walk: Walk,
+) -> Step
+    ensures { λ r. ⌜ listed r (now (actions .exit)) ≡ build (now (stream .entry)) (now (table .entry)) (now (actions .entry)) pos walk ⌝ }
 {
-    let g = global(t, u16_in(s, pos, 1));
+    let g = global(table, u16_in(stream, pos, 1));
     if g == 0 {
-        return stop(w, refusal::UNDEFINED);
+        return stop(walk, refusal::UNDEFINED);
     }
     if (g - 1) % 8 != symbol_kind::TABLE {
-        return stop(w, refusal::WRONG_KIND);
+        return stop(walk, refusal::WRONG_KIND);
     }
-    build_table(s, t, a, (g - 1) / 8, pos, w)
+    build_table(stream, table, actions, (g - 1) / 8, pos, walk)
 }

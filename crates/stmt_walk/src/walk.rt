@@ -28,50 +28,50 @@ pub enum Step {
     Stop { refusal: u64, ordinal: u64 },
 }
 
-pub fn with_state(w: Walk, st: State) -> Walk
-    ensures { λ r. ⌜ r ≡ withState st w ⌝ }
+pub fn with_state(walk: Walk, state: State) -> Walk
+    ensures { λ r. ⌜ r ≡ withState state walk ⌝ }
 {
-    let export = w.export;
+    let export = walk.export;
     Walk {
-        st,
-        labels: w.labels,
-        placed: w.placed,
-        statements: w.statements,
-        scopes: w.scopes,
+        st: state,
+        labels: walk.labels,
+        placed: walk.placed,
+        statements: walk.statements,
+        scopes: walk.scopes,
         export,
     }
 }
 
 // A refusal, at the statement that has begun.
-pub fn stop(w: Walk, refusal: u64) -> Step
-    ensures { λ r. ⌜ r ≡ stop refusal w ⌝ }
+pub fn stop(walk: Walk, refusal: u64) -> Step
+    ensures { λ r. ⌜ r ≡ stop refusal walk ⌝ }
 {
     Step::Stop {
         refusal,
-        ordinal: w.st.sizing.begun,
+        ordinal: walk.st.sizing.begun,
     }
 }
 
-pub fn pushed_then(r: Pushed, next: usize, w: Walk) -> Step
-    ensures { λ x. ⌜ x ≡ pushedThen next w r ⌝ }
+pub fn pushed_then(answer: Pushed, next: usize, walk: Walk) -> Step
+    ensures { λ x. ⌜ x ≡ pushedThen next walk answer ⌝ }
 {
-    match r {
-        Pushed::No(n) => stop(w, n),
+    match answer {
+        Pushed::No(n) => stop(walk, n),
         Pushed::Done(st) => Step::Next {
             next,
-            w: with_state(w, st),
+            w: with_state(walk, st),
         },
     }
 }
 
-pub fn read_then(r: Read, next: usize, w: Walk) -> Step
-    ensures { λ x. ⌜ x ≡ readThen next w r ⌝ }
+pub fn read_then(answer: Read, next: usize, walk: Walk) -> Step
+    ensures { λ x. ⌜ x ≡ readThen next walk answer ⌝ }
 {
-    match r {
-        Read::No(n) => stop(w, n),
+    match answer {
+        Read::No(n) => stop(walk, n),
         Read::Value { v: _, st } => Step::Next {
             next,
-            w: with_state(w, st),
+            w: with_state(walk, st),
         },
     }
 }

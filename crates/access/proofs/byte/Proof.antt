@@ -23,19 +23,19 @@ shared-slice-read-result c = search needs
 
 -- src/lib.rt:16:20
 cast-result : tie.Need-cast-result
-cast-result c = omega (arith, c .shared-slice-known .given (c .before .before .before .args .at + c .before .before .before .args .i))
+cast-result c = omega (arith, c .shared-slice-known .given (c .before .before .before .args .at + c .before .before .before .args .index))
 
 -- src/lib.rt:16:13
 returns : tie.Need-returns
-returns c = (refl, omega (arith, c .shared-slice-known .given (c .before .before .before .args .at + c .before .before .before .args .i)))
+returns c = (refl, omega (arith, c .shared-slice-known .given (c .before .before .before .args .at + c .before .before .before .args .index)))
 
 -- src/lib.rt:11:1
 returns-2 : tie.Need-returns-2
-returns-2 c = let a = c .before .before .args in (sym (List·getD-eq-default (a .s .now) 0 {n = a .at + a .i} (omega arith)), lit< tt)
+returns-2 c = let a = c .before .before .args in (sym (List·getD-eq-default (a .bytes .now) 0 {n = a .at + a .index} (omega arith)), lit< tt)
 
 -- src/lib.rt:11:1
 returns-3 : tie.Need-returns-3
-returns-3 c = let a = c .before .args in (sym (List·getD-eq-default (a .s .now) 0 {n = a .at + a .i} (omega arith)), lit< tt)
+returns-3 c = let a = c .before .args in (sym (List·getD-eq-default (a .bytes .now) 0 {n = a .at + a .index} (omega arith)), lit< tt)
 
 pub byte-spec : {M : Type 1} → statement M
 byte-spec =

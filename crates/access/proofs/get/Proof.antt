@@ -20,7 +20,7 @@ returns c = search needs
 
 -- src/lib.rt:56:1
 returns-2 : tie.Need-returns-2
-returns-2 c = sym (List·getD-eq-default (c .before .args .s .now) 0 (c .if1 .left))
+returns-2 c = sym (List·getD-eq-default (c .before .args .list .now) 0 (c .if1 .left))
 
 pub get-spec : {M : Type 1} → statement M
 get-spec = tie.close (tie.spec mul-result shared-slice-read-result returns returns-2)

@@ -7,12 +7,12 @@ use mathlib.Core.Path.{sym}
 use lib.Seq.{set-out}
 
 -- src/lib.rt:80:9
-mul-s : tie.Need-mul-s
-mul-s c = search needs
+mul-list : tie.Need-mul-list
+mul-list c = search needs
 
 -- src/lib.rt:80:9
-slice-write-s : tie.Need-slice-write-s
-slice-write-s c = search needs
+slice-write-list : tie.Need-slice-write-list
+slice-write-list c = search needs
 
 -- src/lib.rt:76:1
 same-length : tie.Need-same-length
@@ -27,4 +27,4 @@ returns-2 : tie.Need-returns-2
 returns-2 c = sym (set-out _ _ _ (c .if1 .left))
 
 pub put-u16-spec : {M : Type 1} → statement M
-put-u16-spec = tie.close (tie.spec mul-s slice-write-s same-length returns returns-2)
+put-u16-spec = tie.close (tie.spec mul-list slice-write-list same-length returns returns-2)

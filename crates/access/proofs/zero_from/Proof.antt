@@ -20,12 +20,12 @@ loop-holds : tie.Need-loop-holds Inv-loop μ-loop
 loop-holds c = (refl, refl)
 
 -- src/lib.rt:90:9
-mul-s : tie.Need-mul-s Inv-loop μ-loop
-mul-s c = search needs
+mul-list : tie.Need-mul-list Inv-loop μ-loop
+mul-list c = search needs
 
 -- src/lib.rt:90:9
-slice-write-s : tie.Need-slice-write-s Inv-loop μ-loop
-slice-write-s c = search needs
+slice-write-list : tie.Need-slice-write-list Inv-loop μ-loop
+slice-write-list c = search needs
 
 -- src/lib.rt:91:9
 add-i : tie.Need-add-i Inv-loop μ-loop
@@ -46,7 +46,7 @@ same-length c = search needs
 -- src/lib.rt:85:1
 returns : tie.Need-returns Inv-loop μ-loop
 unfolding zeroed
-returns c = zero-done (c .before .loop .s) _ (c .before .loop .i) (omega arith) (c .before .loop .inv .1)
+returns c = zero-done (c .before .loop .list) _ (c .before .loop .i) (omega arith) (c .before .loop .inv .1)
 
 pub zero-from-spec : {M : Type 1} → statement M
 zero-from-spec =
@@ -55,8 +55,8 @@ zero-from-spec =
     Inv-loop
     μ-loop
     loop-holds
-    mul-s
-    slice-write-s
+    mul-list
+    slice-write-list
     add-i
     loop-less
     loop-again

@@ -84,7 +84,7 @@ loop-less c = search (input-laws, needs)
 
 -- src/lib.rt:45:5
 loop-again : tie.Need-loop-again Inv-loop μ-loop
-loop-again c = (omega arith, (c .before .before .before .before .before .loop .inv .1 .0, (c .before .before .before .before .before .loop .inv .1 .1 .0, fit-more (c .before .before .before .before .before .before .before .before .before .before .args .a .now) (c .before .before .before .before .before .loop .i) _ _ _ _ _ (omega arith) (c .before .value-fits .ensures) (c .if2 .left) (c .before .before .before .before .before .loop .inv .1 .1 .1))))
+loop-again c = (omega arith, (c .before .before .before .before .before .loop .inv .1 .0, (c .before .before .before .before .before .loop .inv .1 .1 .0, fit-more (c .before .before .before .before .before .before .before .before .before .before .args .action .now) (c .before .before .before .before .before .loop .i) _ _ _ _ _ (omega arith) (c .before .value-fits .ensures) (c .if2 .left) (c .before .before .before .before .before .loop .inv .1 .1 .1))))
 
 -- src/lib.rt:50:19
 mul-end : tie.Need-mul-end Inv-loop μ-loop

@@ -6,12 +6,12 @@ use Rattle.expr_reading.proofs.read.pushed_to.Lts as lts
 use Rattle.expr_reading.proofs.ReadLaws.{read-laws}
 
 -- src/read.rt:171:20
-enum-known-r : tie.Need-enum-known-r
-enum-known-r c = search (read-laws, needs)
+enum-known-answer : tie.Need-enum-known-answer
+enum-known-answer c = search (read-laws, needs)
 
 -- src/read.rt:172:22
-enum-known-r-2 : tie.Need-enum-known-r-2
-enum-known-r-2 c = search (read-laws, needs)
+enum-known-answer-2 : tie.Need-enum-known-answer-2
+enum-known-answer-2 c = search (read-laws, needs)
 
 -- src/read.rt:167:1
 returns : tie.Need-returns
@@ -22,4 +22,4 @@ returns-2 : tie.Need-returns-2
 returns-2 c = search (read-laws, needs)
 
 pub pushed-to-spec : {M : Type 1} → statement M
-pushed-to-spec = tie.close (tie.spec enum-known-r enum-known-r-2 returns returns-2)
+pushed-to-spec = tie.close (tie.spec enum-known-answer enum-known-answer-2 returns returns-2)

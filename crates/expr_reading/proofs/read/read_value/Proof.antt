@@ -14,24 +14,24 @@ use Rattle.list_pushes.proofs.push.op.Reads as op-reads
 use Rattle.expr_reading.proofs.ReadLaws.{read-laws}
 
 -- src/read.rt:364:26
-enum-known-x : tie.Need-enum-known-x
-enum-known-x c = search (read-laws, needs)
+enum-known-expr : tie.Need-enum-known-expr
+enum-known-expr c = search (read-laws, needs)
 
 -- src/read.rt:364:32
 copy-to-requires : tie.Need-copy-to-requires
 copy-to-requires c κs = search (read-laws, needs)
 
 -- src/read.rt:365:28
-enum-known-x-2 : tie.Need-enum-known-x-2
-enum-known-x-2 c = search (read-laws, needs)
+enum-known-expr-2 : tie.Need-enum-known-expr-2
+enum-known-expr-2 c = search (read-laws, needs)
 
 -- src/read.rt:365:34
 copy-to-requires-2 : tie.Need-copy-to-requires-2
 copy-to-requires-2 c κs = search (read-laws, needs)
 
 -- src/read.rt:366:28
-enum-known-x-3 : tie.Need-enum-known-x-3
-enum-known-x-3 c = search (read-laws, needs)
+enum-known-expr-3 : tie.Need-enum-known-expr-3
+enum-known-expr-3 c = search (read-laws, needs)
 
 -- src/read.rt:367:31
 constant-requires : tie.Need-constant-requires
@@ -46,40 +46,40 @@ copy-to-requires-3 : tie.Need-copy-to-requires-3
 copy-to-requires-3 c κs = search (read-laws, needs)
 
 -- src/read.rt:371:17
-enum-known-x-4 : tie.Need-enum-known-x-4
-enum-known-x-4 c = search (read-laws, needs)
+enum-known-expr-4 : tie.Need-enum-known-expr-4
+enum-known-expr-4 c = search (read-laws, needs)
 
 -- src/read.rt:376:14
 op-requires : tie.Need-op-requires
 op-requires c κs = search (read-laws, needs)
 
 -- src/read.rt:377:29
-enum-known-x-5 : tie.Need-enum-known-x-5
-enum-known-x-5 c = search (read-laws, needs)
+enum-known-expr-5 : tie.Need-enum-known-expr-5
+enum-known-expr-5 c = search (read-laws, needs)
 
 -- src/read.rt:377:48
 load-requires : tie.Need-load-requires
 load-requires c κs = search (read-laws, needs)
 
 -- src/read.rt:378:34
-enum-known-x-6 : tie.Need-enum-known-x-6
-enum-known-x-6 c = search (read-laws, needs)
+enum-known-expr-6 : tie.Need-enum-known-expr-6
+enum-known-expr-6 c = search (read-laws, needs)
 
 -- src/read.rt:379:13
 load-register-requires : tie.Need-load-register-requires
 load-register-requires c κs = search (read-laws, needs)
 
 -- src/read.rt:381:32
-enum-known-x-7 : tie.Need-enum-known-x-7
-enum-known-x-7 c = search (read-laws, needs)
+enum-known-expr-7 : tie.Need-enum-known-expr-7
+enum-known-expr-7 c = search (read-laws, needs)
 
 -- src/read.rt:381:48
 read-address-requires : tie.Need-read-address-requires
 read-address-requires c κs = search (read-laws, needs)
 
 -- src/read.rt:382:31
-enum-known-x-8 : tie.Need-enum-known-x-8
-enum-known-x-8 c = search (read-laws, needs)
+enum-known-expr-8 : tie.Need-enum-known-expr-8
+enum-known-expr-8 c = search (read-laws, needs)
 
 -- src/read.rt:384:17
 read-slice-requires : tie.Need-read-slice-requires
@@ -185,23 +185,23 @@ pub read-value-spec : {M : Type 1} → statement M
 read-value-spec =
     tie.close
     (tie.spec
-    enum-known-x
+    enum-known-expr
     copy-to-requires
-    enum-known-x-2
+    enum-known-expr-2
     copy-to-requires-2
-    enum-known-x-3
+    enum-known-expr-3
     constant-requires
     with-size-requires
     copy-to-requires-3
-    enum-known-x-4
+    enum-known-expr-4
     op-requires
-    enum-known-x-5
+    enum-known-expr-5
     load-requires
-    enum-known-x-6
+    enum-known-expr-6
     load-register-requires
-    enum-known-x-7
+    enum-known-expr-7
     read-address-requires
-    enum-known-x-8
+    enum-known-expr-8
     read-slice-requires
     same-length
     same-length-2

@@ -834,7 +834,7 @@ resolve-args-add-i : (t : ℕ) → resolve-args-lts.Need-add-i (
   put-arg-reads.Asked,
   put-arg-reads.Learnt,
 ) (resolve-args-at t) resolve-args.Post resolve-args-Inv-loop resolve-args-μ-loop
-resolve-args-add-i t c = omega (arith, c .before .before .before .before .before .before .before .before .before .before .before .before .before .before .loop-test .taken, c .before .before .before .before .before .before .before .before .before .before .before .before .before .before .before .before .before .before .before .before .before .fits .n)
+resolve-args-add-i t c = omega (arith, c .before .before .before .before .before .before .before .before .before .before .before .before .before .before .loop-test .taken, c .before .before .before .before .before .before .before .before .before .before .before .before .before .before .before .before .before .before .before .before .before .fits .count)
 
 -- src/expr.rt:433:5
 resolve-args-loop-less : (t : ℕ) → resolve-args-lts.Need-loop-less (

@@ -8,12 +8,12 @@ use Rattle.list_values.proofs.value.absent.Reads as absent-reads
 use Rattle.expr_resolver.proofs.ExprLaws.{expr-laws}
 
 -- src/expr.rt:176:21
-enum-known-r : tie.Need-enum-known-r
-enum-known-r c = search (expr-laws, needs)
+enum-known-answer : tie.Need-enum-known-answer
+enum-known-answer c = search (expr-laws, needs)
 
 -- src/expr.rt:177:26
-enum-known-r-2 : tie.Need-enum-known-r-2
-enum-known-r-2 c = search (expr-laws, needs)
+enum-known-answer-2 : tie.Need-enum-known-answer-2
+enum-known-answer-2 c = search (expr-laws, needs)
 
 -- src/expr.rt:177:64
 absent-requires : tie.Need-absent-requires
@@ -34,4 +34,4 @@ returns-2 c = search (expr-laws, needs)
 pub apply1-spec : {M : Type 1} → statement M
 apply1-spec =
     tie.close
-    (tie.spec enum-known-r enum-known-r-2 absent-requires applied-requires returns returns-2)
+    (tie.spec enum-known-answer enum-known-answer-2 absent-requires applied-requires returns returns-2)

@@ -8,12 +8,12 @@ use Rattle.expr_resolver.proofs.expr.later.Reads as later-reads
 use Rattle.expr_resolver.proofs.ExprLaws.{expr-laws}
 
 -- src/expr.rt:186:21
-enum-known-r : tie.Need-enum-known-r
-enum-known-r c = search (expr-laws, needs)
+enum-known-answer : tie.Need-enum-known-answer
+enum-known-answer c = search (expr-laws, needs)
 
 -- src/expr.rt:187:29
-enum-known-r-2 : tie.Need-enum-known-r-2
-enum-known-r-2 c = search (expr-laws, needs)
+enum-known-answer-2 : tie.Need-enum-known-answer-2
+enum-known-answer-2 c = search (expr-laws, needs)
 
 -- src/expr.rt:187:70
 later-requires : tie.Need-later-requires
@@ -34,4 +34,4 @@ returns-2 c = search (expr-laws, needs)
 pub apply2-spec : {M : Type 1} → statement M
 apply2-spec =
     tie.close
-    (tie.spec enum-known-r enum-known-r-2 later-requires applied-requires returns returns-2)
+    (tie.spec enum-known-answer enum-known-answer-2 later-requires applied-requires returns returns-2)

@@ -6,8 +6,8 @@ use Rattle.expr_resolver.proofs.expr.local_address.Lts as lts
 use Rattle.expr_resolver.proofs.ExprLaws.{expr-laws}
 
 -- src/expr.rt:76:26
-enum-known-x : tie.Need-enum-known-x
-enum-known-x c = search (expr-laws, needs)
+enum-known-expr : tie.Need-enum-known-expr
+enum-known-expr c = search (expr-laws, needs)
 
 -- src/expr.rt:72:1
 returns : tie.Need-returns
@@ -18,4 +18,4 @@ returns-2 : tie.Need-returns-2
 returns-2 c = search (expr-laws, needs)
 
 pub local-address-spec : {M : Type 1} → statement M
-local-address-spec = tie.close (tie.spec enum-known-x returns returns-2)
+local-address-spec = tie.close (tie.spec enum-known-expr returns returns-2)

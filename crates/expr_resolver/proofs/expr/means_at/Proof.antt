@@ -6,12 +6,12 @@ use Rattle.expr_resolver.proofs.expr.means_at.Lts as lts
 use Rattle.expr_resolver.proofs.ExprLaws.{expr-laws}
 
 -- src/expr.rt:67:24
-enum-known-r : tie.Need-enum-known-r
-enum-known-r c = search (expr-laws, needs)
+enum-known-answer : tie.Need-enum-known-answer
+enum-known-answer c = search (expr-laws, needs)
 
 -- src/expr.rt:68:24
-enum-known-r-2 : tie.Need-enum-known-r-2
-enum-known-r-2 c = search (expr-laws, needs)
+enum-known-answer-2 : tie.Need-enum-known-answer-2
+enum-known-answer-2 c = search (expr-laws, needs)
 
 -- src/expr.rt:63:1
 returns : tie.Need-returns
@@ -22,4 +22,4 @@ returns-2 : tie.Need-returns-2
 returns-2 c = search (expr-laws, needs)
 
 pub means-at-spec : {M : Type 1} → statement M
-means-at-spec = tie.close (tie.spec enum-known-r enum-known-r-2 returns returns-2)
+means-at-spec = tie.close (tie.spec enum-known-answer enum-known-answer-2 returns returns-2)

@@ -8,24 +8,24 @@ use Rattle.list_values.proofs.value.absent.Reads as absent-reads
 use Rattle.expr_scope.proofs.SlotLaws.{slot-laws}
 
 -- src/scope.rt:72:26
-enum-known-x : tie.Need-enum-known-x
-enum-known-x c = search (slot-laws, needs)
+enum-known-expr : tie.Need-enum-known-expr
+enum-known-expr c = search (slot-laws, needs)
 
 -- src/scope.rt:72:32
 one-value-requires : tie.Need-one-value-requires
 one-value-requires c κs = search (slot-laws, needs)
 
 -- src/scope.rt:73:28
-enum-known-x-2 : tie.Need-enum-known-x-2
-enum-known-x-2 c = search (slot-laws, needs)
+enum-known-expr-2 : tie.Need-enum-known-expr-2
+enum-known-expr-2 c = search (slot-laws, needs)
 
 -- src/scope.rt:73:34
 one-value-requires-2 : tie.Need-one-value-requires-2
 one-value-requires-2 c κs = search (slot-laws, needs)
 
 -- src/scope.rt:74:28
-enum-known-x-3 : tie.Need-enum-known-x-3
-enum-known-x-3 c = search (slot-laws, needs)
+enum-known-expr-3 : tie.Need-enum-known-expr-3
+enum-known-expr-3 c = search (slot-laws, needs)
 
 -- src/scope.rt:74:71
 absent-requires : tie.Need-absent-requires
@@ -36,8 +36,8 @@ one-value-requires-3 : tie.Need-one-value-requires-3
 one-value-requires-3 c κs = search (slot-laws, needs)
 
 -- src/scope.rt:75:28
-enum-known-x-4 : tie.Need-enum-known-x-4
-enum-known-x-4 c = search (slot-laws, needs)
+enum-known-expr-4 : tie.Need-enum-known-expr-4
+enum-known-expr-4 c = search (slot-laws, needs)
 
 -- src/scope.rt:77:27
 mul-t24 : tie.Need-mul-t24
@@ -48,32 +48,32 @@ add-t25 : tie.Need-add-t25
 add-t25 c = search (slot-laws, needs)
 
 -- src/scope.rt:82:29
-enum-known-x-5 : tie.Need-enum-known-x-5
-enum-known-x-5 c = search (slot-laws, needs)
+enum-known-expr-5 : tie.Need-enum-known-expr-5
+enum-known-expr-5 c = search (slot-laws, needs)
 
 -- src/scope.rt:82:48
 one-value-requires-4 : tie.Need-one-value-requires-4
 one-value-requires-4 c κs = search (slot-laws, needs)
 
 -- src/scope.rt:83:34
-enum-known-x-6 : tie.Need-enum-known-x-6
-enum-known-x-6 c = search (slot-laws, needs)
+enum-known-expr-6 : tie.Need-enum-known-expr-6
+enum-known-expr-6 c = search (slot-laws, needs)
 
 -- src/scope.rt:83:53
 one-value-requires-5 : tie.Need-one-value-requires-5
 one-value-requires-5 c κs = search (slot-laws, needs)
 
 -- src/scope.rt:84:32
-enum-known-x-7 : tie.Need-enum-known-x-7
-enum-known-x-7 c = search (slot-laws, needs)
+enum-known-expr-7 : tie.Need-enum-known-expr-7
+enum-known-expr-7 c = search (slot-laws, needs)
 
 -- src/scope.rt:84:48
 one-value-requires-6 : tie.Need-one-value-requires-6
 one-value-requires-6 c κs = search (slot-laws, needs)
 
 -- src/scope.rt:85:31
-enum-known-x-8 : tie.Need-enum-known-x-8
-enum-known-x-8 c = search (slot-laws, needs)
+enum-known-expr-8 : tie.Need-enum-known-expr-8
+enum-known-expr-8 c = search (slot-laws, needs)
 
 -- src/scope.rt:85:50
 one-value-requires-7 : tie.Need-one-value-requires-7
@@ -115,23 +115,23 @@ pub slot-of-spec : {M : Type 1} → statement M
 slot-of-spec =
     tie.close
     (tie.spec
-    enum-known-x
+    enum-known-expr
     one-value-requires
-    enum-known-x-2
+    enum-known-expr-2
     one-value-requires-2
-    enum-known-x-3
+    enum-known-expr-3
     absent-requires
     one-value-requires-3
-    enum-known-x-4
+    enum-known-expr-4
     mul-t24
     add-t25
-    enum-known-x-5
+    enum-known-expr-5
     one-value-requires-4
-    enum-known-x-6
+    enum-known-expr-6
     one-value-requires-5
-    enum-known-x-7
+    enum-known-expr-7
     one-value-requires-6
-    enum-known-x-8
+    enum-known-expr-8
     one-value-requires-7
     returns
     returns-2

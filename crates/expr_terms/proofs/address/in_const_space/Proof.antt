@@ -8,8 +8,8 @@ use Rattle.list_values.proofs.value.with_size.Reads as with-size-reads
 use Rattle.expr_terms.proofs.SliceLaws.{address-laws}
 
 -- src/address.rt:25:26
-enum-known-x : tie.Need-enum-known-x
-enum-known-x c = search (address-laws, needs)
+enum-known-expr : tie.Need-enum-known-expr
+enum-known-expr c = search (address-laws, needs)
 
 -- src/address.rt:26:46
 or-size-requires : tie.Need-or-size-requires
@@ -20,8 +20,8 @@ with-size-requires : tie.Need-with-size-requires
 with-size-requires c κs = search (address-laws, needs)
 
 -- src/address.rt:30:28
-enum-known-x-2 : tie.Need-enum-known-x-2
-enum-known-x-2 c = search (address-laws, needs)
+enum-known-expr-2 : tie.Need-enum-known-expr-2
+enum-known-expr-2 c = search (address-laws, needs)
 
 -- src/address.rt:33:23
 or-size-requires-2 : tie.Need-or-size-requires-2
@@ -43,10 +43,10 @@ pub in-const-space-spec : {M : Type 1} → statement M
 in-const-space-spec =
     tie.close
     (tie.spec
-    enum-known-x
+    enum-known-expr
     or-size-requires
     with-size-requires
-    enum-known-x-2
+    enum-known-expr-2
     or-size-requires-2
     returns
     returns-2

@@ -7,12 +7,12 @@ use Rattle.expr_terms.proofs.address.or_size.Reads as or-size-reads
 use Rattle.expr_terms.proofs.SliceLaws.{address-laws}
 
 -- src/address.rt:84:18
-enum-known-r : tie.Need-enum-known-r
-enum-known-r c = search (address-laws, needs)
+enum-known-answer : tie.Need-enum-known-answer
+enum-known-answer c = search (address-laws, needs)
 
 -- src/address.rt:85:23
-enum-known-r-2 : tie.Need-enum-known-r-2
-enum-known-r-2 c = search (address-laws, needs)
+enum-known-answer-2 : tie.Need-enum-known-answer-2
+enum-known-answer-2 c = search (address-laws, needs)
 
 -- src/address.rt:89:27
 or-size-requires : tie.Need-or-size-requires
@@ -42,8 +42,8 @@ pub reference-spec : {M : Type 1} → statement M
 reference-spec =
     tie.close
     (tie.spec
-    enum-known-r
-    enum-known-r-2
+    enum-known-answer
+    enum-known-answer-2
     or-size-requires
     or-size-requires-2
     returns

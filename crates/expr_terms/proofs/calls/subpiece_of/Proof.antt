@@ -10,12 +10,12 @@ use Rattle.list_values.proofs.value.absent.Reads as absent-reads
 use Rattle.expr_terms.proofs.CallLaws.{call-laws}
 
 -- src/calls.rt:174:18
-enum-known-r : tie.Need-enum-known-r
-enum-known-r c = search (call-laws, needs)
+enum-known-answer : tie.Need-enum-known-answer
+enum-known-answer c = search (call-laws, needs)
 
 -- src/calls.rt:175:23
-enum-known-r-2 : tie.Need-enum-known-r-2
-enum-known-r-2 c = search (call-laws, needs)
+enum-known-answer-2 : tie.Need-enum-known-answer-2
+enum-known-answer-2 c = search (call-laws, needs)
 
 -- src/calls.rt:176:17
 only-integer-requires : tie.Need-only-integer-requires
@@ -49,8 +49,8 @@ pub subpiece-of-spec : {M : Type 1} → statement M
 subpiece-of-spec =
     tie.close
     (tie.spec
-    enum-known-r
-    enum-known-r-2
+    enum-known-answer
+    enum-known-answer-2
     only-integer-requires
     returns
     absent-requires

@@ -9,20 +9,20 @@ use Rattle.expr_terms.proofs.slices.slice_read.Reads as slice-read-read
 use Rattle.expr_terms.proofs.SliceLaws.{slice-laws}
 
 -- src/slices.rt:94:26
-enum-known-x : tie.Need-enum-known-x
-enum-known-x c = search (slice-laws, needs)
+enum-known-expr : tie.Need-enum-known-expr
+enum-known-expr c = search (slice-laws, needs)
 
 -- src/slices.rt:99:28
-enum-known-x-2 : tie.Need-enum-known-x-2
-enum-known-x-2 c = search (slice-laws, needs)
+enum-known-expr-2 : tie.Need-enum-known-expr-2
+enum-known-expr-2 c = search (slice-laws, needs)
 
 -- src/slices.rt:99:45
 slice-const-requires : tie.Need-slice-const-requires
 slice-const-requires c κs = search (slice-laws, needs)
 
 -- src/slices.rt:100:31
-enum-known-x-3 : tie.Need-enum-known-x-3
-enum-known-x-3 c = search (slice-laws, needs)
+enum-known-expr-3 : tie.Need-enum-known-expr-3
+enum-known-expr-3 c = search (slice-laws, needs)
 
 -- src/slices.rt:100:65
 slice-range-requires : tie.Need-slice-range-requires
@@ -60,10 +60,10 @@ pub slice-bits-spec : {M : Type 1} → statement M
 slice-bits-spec =
     tie.close
     (tie.spec
-    enum-known-x
-    enum-known-x-2
+    enum-known-expr
+    enum-known-expr-2
     slice-const-requires
-    enum-known-x-3
+    enum-known-expr-3
     slice-range-requires
     slice-read-requires
     returns

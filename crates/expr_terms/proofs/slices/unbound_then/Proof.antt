@@ -6,12 +6,12 @@ use Rattle.expr_terms.proofs.slices.unbound_then.Lts as lts
 use Rattle.expr_terms.proofs.SliceLaws.{slice-laws}
 
 -- src/slices.rt:29:18
-enum-known-r : tie.Need-enum-known-r
-enum-known-r c = search (slice-laws, needs)
+enum-known-answer : tie.Need-enum-known-answer
+enum-known-answer c = search (slice-laws, needs)
 
 -- src/slices.rt:30:23
-enum-known-r-2 : tie.Need-enum-known-r-2
-enum-known-r-2 c = search (slice-laws, needs)
+enum-known-answer-2 : tie.Need-enum-known-answer-2
+enum-known-answer-2 c = search (slice-laws, needs)
 
 -- src/slices.rt:25:1
 returns : tie.Need-returns
@@ -22,4 +22,4 @@ returns-2 : tie.Need-returns-2
 returns-2 c = search (slice-laws, needs)
 
 pub unbound-then-spec : {M : Type 1} → statement M
-unbound-then-spec = tie.close (tie.spec enum-known-r enum-known-r-2 returns returns-2)
+unbound-then-spec = tie.close (tie.spec enum-known-answer enum-known-answer-2 returns returns-2)

@@ -35,15 +35,15 @@ returns c = key-short _ _ _ _ _ (c .before .before .before .byte .ensures) (c .b
 
 -- src/chains.rt:21:18
 sub-four : tie.Need-sub-four
-sub-four c = omega (arith, key-within (c .before .before .before .before .args .s .now) (c .before .before .before .before .args .p) (c .before .before .byte .result) (c .before .byte2 .result) (c .before .byte2 .ensures) (c .if1 .left))
+sub-four c = omega (arith, key-within (c .before .before .before .before .args .stream .now) (c .before .before .before .before .args .at) (c .before .before .byte .result) (c .before .byte2 .result) (c .before .byte2 .ensures) (c .if1 .left))
 
 -- src/chains.rt:21:13
 add-four : tie.Need-add-four
-add-four c = omega (arith, key-within (c .before .before .before .before .args .s .now) (c .before .before .before .before .args .p) (c .before .before .byte .result) (c .before .byte2 .result) (c .before .byte2 .ensures) (c .if1 .left))
+add-four c = omega (arith, key-within (c .before .before .before .before .args .stream .now) (c .before .before .before .before .args .at) (c .before .before .byte .result) (c .before .byte2 .result) (c .before .byte2 .ensures) (c .if1 .left))
 
 -- src/chains.rt:21:5
 four-requires : tie.Need-four-requires
-four-requires c κs = omega (arith, key-within (c .before .before .before .before .args .s .now) (c .before .before .before .before .args .p) (c .before .before .byte .result) (c .before .byte2 .result) (c .before .byte2 .ensures) (c .if1 .left))
+four-requires c κs = omega (arith, key-within (c .before .before .before .before .args .stream .now) (c .before .before .before .before .args .at) (c .before .before .byte .result) (c .before .byte2 .result) (c .before .byte2 .ensures) (c .if1 .left))
 
 -- src/chains.rt:13:1
 returns-2 : tie.Need-returns-2

@@ -47,7 +47,7 @@ loop-less c = omega arith
 
 -- src/zeros.rt:38:5
 loop-again : tie.Need-loop-again Inv-loop μ-loop
-loop-again c = zeros-eight (c .before .before .before .before .before .before .args .s .now) _ _ _ (c .before .before .loop-test .taken) (c .before .eight .ensures) (c .if2 .left) (c .before .before .before .loop .inv)
+loop-again c = zeros-eight (c .before .before .before .before .before .before .args .stream .now) _ _ _ (c .before .before .loop-test .taken) (c .before .eight .ensures) (c .if2 .left) (c .before .before .before .loop .inv)
 
 -- src/zeros.rt:30:1
 returns-3 : tie.Need-returns-3 Inv-loop μ-loop

@@ -36,7 +36,7 @@ refuse-requires c κs = search needs
 
 -- src/zeros.rt:56:13
 returns : tie.Need-returns Inv-loop μ-loop
-returns c = tail-found _ _ _ (zeros-found (c .before .before .before .before .before .before .before .args .s .now) _ _ (c .before .before .before .loop-test .taken) (c .before .if1 .taken) (c .before .before .before .before .loop .inv)) (c .refuse .ensures)
+returns c = tail-found _ _ _ (zeros-found (c .before .before .before .before .before .before .before .args .stream .now) _ _ (c .before .before .before .loop-test .taken) (c .before .if1 .taken) (c .before .before .before .before .loop .inv)) (c .refuse .ensures)
 
 -- src/zeros.rt:58:9
 add-i : tie.Need-add-i Inv-loop μ-loop
@@ -48,11 +48,11 @@ loop-less c = search needs
 
 -- src/zeros.rt:54:5
 loop-again : tie.Need-loop-again Inv-loop μ-loop
-loop-again c = zeros-more (c .before .before .before .before .before .before .args .s .now) _ _ (c .before .before .loop-test .taken) (c .if1 .left) (c .before .before .before .loop .inv)
+loop-again c = zeros-more (c .before .before .before .before .before .before .args .stream .now) _ _ (c .before .before .loop-test .taken) (c .if1 .left) (c .before .before .before .loop .inv)
 
 -- src/zeros.rt:50:1
 returns-2 : tie.Need-returns-2 Inv-loop μ-loop
-returns-2 c = tail-end _ _ (zeros-end (c .before .before .before .before .args .s .now) _ _ (c .loop-test .left) (c .before .loop .inv))
+returns-2 c = tail-end _ _ (zeros-end (c .before .before .before .before .args .stream .now) _ _ (c .loop-test .left) (c .before .loop .inv))
 
 pub tail-spec : {M : Type 1} → statement M
 tail-spec =

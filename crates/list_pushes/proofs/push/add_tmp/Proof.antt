@@ -7,28 +7,28 @@ use Rattle.list_values.proofs.value.local.Reads as local-reads
 use Rattle.list_pushes.proofs.PushLaws.{push-laws}
 
 -- src/push.rt:48:35
-mul-m : tie.Need-mul-m
-mul-m c = search (push-laws, needs)
+mul-temporaries : tie.Need-mul-temporaries
+mul-temporaries c = search (push-laws, needs)
 
 -- src/push.rt:48:20
-add-m : tie.Need-add-m
-add-m c = search (push-laws, needs)
+add-temporaries : tie.Need-add-temporaries
+add-temporaries c = search (push-laws, needs)
 
 -- src/push.rt:48:58
-mul-m-2 : tie.Need-mul-m-2
-mul-m-2 c = search (push-laws, needs)
+mul-temporaries-2 : tie.Need-mul-temporaries-2
+mul-temporaries-2 c = search (push-laws, needs)
 
 -- src/push.rt:48:20
-add-m-2 : tie.Need-add-m-2
-add-m-2 c = search (push-laws, needs)
+add-temporaries-2 : tie.Need-add-temporaries-2
+add-temporaries-2 c = search (push-laws, needs)
 
 -- src/push.rt:48:13
-mul-m-3 : tie.Need-mul-m-3
-mul-m-3 c = search (push-laws, needs)
+mul-temporaries-3 : tie.Need-mul-temporaries-3
+mul-temporaries-3 c = search (push-laws, needs)
 
 -- src/push.rt:48:13
-slice-write-m : tie.Need-slice-write-m
-slice-write-m c = search (push-laws, needs)
+slice-write-temporaries : tie.Need-slice-write-temporaries
+slice-write-temporaries c = search (push-laws, needs)
 
 -- src/push.rt:50:20
 local-requires : tie.Need-local-requires
@@ -58,12 +58,12 @@ pub add-tmp-spec : {M : Type 1} → statement M
 add-tmp-spec =
     tie.close
     (tie.spec
-    mul-m
-    add-m
-    mul-m-2
-    add-m-2
-    mul-m-3
-    slice-write-m
+    mul-temporaries
+    add-temporaries
+    mul-temporaries-2
+    add-temporaries-2
+    mul-temporaries-3
+    slice-write-temporaries
     local-requires
     add-t18
     same-length

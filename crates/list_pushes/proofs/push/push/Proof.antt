@@ -16,7 +16,7 @@ has-room-requires c κs = search (push-laws, needs)
 
 -- src/push.rt:138:19
 add-end : tie.Need-add-end
-add-end c = let h : c .before .before .before .args .st .end + 24 ≤ length (c .before .before .before .args .a .now) = room-true _ _ _ (c .before .has-room .ensures) (c .if1 .taken) in omega arith
+add-end c = let h : c .before .before .before .args .state .end + 24 ≤ length (c .before .before .before .args .actions .now) = room-true _ _ _ (c .before .has-room .ensures) (c .if1 .taken) in omega arith
 
 -- src/push.rt:140:9
 write-requires : tie.Need-write-requires

@@ -30,11 +30,11 @@ returns c = search needs
 
 -- src/value.rt:71:1
 returns-2 : tie.Need-returns-2
-returns-2 c = let a = c .before .before .args in sym (List·getD-eq-default (a .list .now) 0 {n = a .at + a .i} (omega arith))
+returns-2 c = let a = c .before .before .args in sym (List·getD-eq-default (a .list .now) 0 {n = a .at + a .index} (omega arith))
 
 -- src/value.rt:71:1
 returns-3 : tie.Need-returns-3
-returns-3 c = let a = c .before .args in sym (List·getD-eq-default (a .list .now) 0 {n = a .at + a .i} (omega arith))
+returns-3 c = let a = c .before .args in sym (List·getD-eq-default (a .list .now) 0 {n = a .at + a .index} (omega arith))
 
 pub get-spec : {M : Type 1} → statement M
 get-spec =

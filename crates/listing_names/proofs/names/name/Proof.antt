@@ -24,7 +24,7 @@ spelled-requires c κs = search needs
 -- src/names.rt:24:1
 returns : tie.Need-returns
 unfolding nameOf
-returns c = c .spelled .ensures ∙ ap (spelledAt (c .before .before .before .before .args .s .now)) (c .before .get-u16 .ensures)
+returns c = c .spelled .ensures ∙ ap (spelledAt (c .before .before .before .before .args .stream .now)) (c .before .get-u16 .ensures)
 
 pub name-spec : {M : Type 1} → statement M
 name-spec = tie.close (tie.spec get-u16-requires cast-at spelled-requires returns)

@@ -18,7 +18,7 @@ slice-aggregate-result c = search needs
 
 -- src/names.rt:13:9
 returns : tie.Need-returns
-returns c = none-spelled (c .before .before .before .before .args .s .now) (c .before .before .before .before .args .at) (c .before .before .byte .result) (rw add-zero at (c .before .before .byte .ensures .0)) (omega arith)
+returns c = none-spelled (c .before .before .before .before .args .stream .now) (c .before .before .before .before .args .at) (c .before .before .byte .result) (rw add-zero at (c .before .before .byte .ensures .0)) (omega arith)
 
 -- src/names.rt:15:16
 add-from : tie.Need-add-from
@@ -42,7 +42,7 @@ part-result-end c = search needs
 
 -- src/names.rt:17:9
 returns-2 : tie.Need-returns-2
-returns-2 c = cut-spelled (c .before .before .before .before .before .args .s .now) (c .before .before .before .before .before .args .at) (c .before .before .before .byte .result) (rw add-zero at (c .before .before .before .byte .ensures .0)) (omega arith) (c .before .if2 .taken)
+returns-2 c = cut-spelled (c .before .before .before .before .before .args .stream .now) (c .before .before .before .before .before .args .at) (c .before .before .before .byte .result) (rw add-zero at (c .before .before .before .byte .ensures .0)) (omega arith) (c .before .if2 .taken)
 
 -- src/names.rt:19:14
 add-to : tie.Need-add-to
@@ -62,7 +62,7 @@ part-result-end-2 c = search needs
 
 -- src/names.rt:8:1
 returns-3 : tie.Need-returns-3
-returns-3 c = whole-spelled (c .before .before .before .before .before .args .s .now) (c .before .before .before .before .before .args .at) (c .before .before .before .byte .result) (rw add-zero at (c .before .before .before .byte .ensures .0))
+returns-3 c = whole-spelled (c .before .before .before .before .before .args .stream .now) (c .before .before .before .before .before .args .at) (c .before .before .before .byte .result) (rw add-zero at (c .before .before .before .byte .ensures .0))
 
 pub spelled-spec : {M : Type 1} → statement M
 spelled-spec =

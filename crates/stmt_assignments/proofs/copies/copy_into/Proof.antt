@@ -12,8 +12,8 @@ use Rattle.stmt_assignments.proofs.CopyLaws.{bit-laws}
 use Rattle.stmt_assignments.proofs.CopyLaws.{copy-laws}
 
 -- src/copies.rt:140:26
-enum-known-d : tie.Need-enum-known-d
-enum-known-d c = search needs
+enum-known-target : tie.Need-enum-known-target
+enum-known-target c = search needs
 
 -- src/copies.rt:140:42
 read-value-requires : tie.Need-read-value-requires
@@ -24,16 +24,16 @@ read-then-requires : tie.Need-read-then-requires
 read-then-requires c κs = search needs
 
 -- src/copies.rt:141:29
-enum-known-d-2 : tie.Need-enum-known-d-2
-enum-known-d-2 c = search needs
+enum-known-target-2 : tie.Need-enum-known-target-2
+enum-known-target-2 c = search needs
 
 -- src/copies.rt:141:48
 copy-ram-requires : tie.Need-copy-ram-requires
 copy-ram-requires c κs = search needs
 
 -- src/copies.rt:142:31
-enum-known-d-3 : tie.Need-enum-known-d-3
-enum-known-d-3 c = search needs
+enum-known-target-3 : tie.Need-enum-known-target-3
+enum-known-target-3 c = search needs
 
 -- src/copies.rt:142:60
 copy-range-requires : tie.Need-copy-range-requires
@@ -91,12 +91,12 @@ pub copy-into-spec : {M : Type 1} → statement M
 copy-into-spec =
     tie.close
     (tie.spec
-    enum-known-d
+    enum-known-target
     read-value-requires
     read-then-requires
-    enum-known-d-2
+    enum-known-target-2
     copy-ram-requires
-    enum-known-d-3
+    enum-known-target-3
     copy-range-requires
     read-then-requires-2
     stop-requires

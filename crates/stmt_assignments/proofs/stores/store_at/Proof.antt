@@ -9,16 +9,16 @@ use Rattle.stmt_walk.proofs.walk.stop.Reads as stop-reads
 use Rattle.stmt_assignments.proofs.StoreLaws.{store-laws}
 
 -- src/stores.rt:46:29
-enum-known-x : tie.Need-enum-known-x
-enum-known-x c = search needs
+enum-known-expr : tie.Need-enum-known-expr
+enum-known-expr c = search needs
 
 -- src/stores.rt:46:48
 store-requires : tie.Need-store-requires
 store-requires c κs = search needs
 
 -- src/stores.rt:47:34
-enum-known-x-2 : tie.Need-enum-known-x-2
-enum-known-x-2 c = search needs
+enum-known-expr-2 : tie.Need-enum-known-expr-2
+enum-known-expr-2 c = search needs
 
 -- src/stores.rt:47:53
 store-register-requires : tie.Need-store-register-requires
@@ -60,9 +60,9 @@ pub store-at-spec : {M : Type 1} → statement M
 store-at-spec =
     tie.close
     (tie.spec
-    enum-known-x
+    enum-known-expr
     store-requires
-    enum-known-x-2
+    enum-known-expr-2
     store-register-requires
     stop-requires
     same-length

@@ -269,7 +269,7 @@ body-same-length-4 : (t : ℕ) → body-lts.Need-same-length-4 (
   stop-reads.Asked,
   stop-reads.Learnt,
 ) (body-at t) body.Post body-Inv-loop body-μ-loop
-body-same-length-4 t c = search (c .before .before .before .before .before .before .before .before .before .before .before .l .given, c .before .before .before .before .before .before .before .before .before .before .before .before .before .before .before .before .before .before .loop .inv .0, needs)
+body-same-length-4 t c = search (c .before .before .before .before .before .before .before .before .before .before .before .labels .given, c .before .before .before .before .before .before .before .before .before .before .before .before .before .before .before .before .before .before .loop .inv .0, needs)
 
 -- src/statements.rt:322:21
 body-same-length-5 : (t : ℕ) → body-lts.Need-same-length-5 (
@@ -282,7 +282,7 @@ body-same-length-5 : (t : ℕ) → body-lts.Need-same-length-5 (
   stop-reads.Asked,
   stop-reads.Learnt,
 ) (body-at t) body.Post body-Inv-loop body-μ-loop
-body-same-length-5 t c = search (c .before .before .before .before .before .before .before .before .before .a .given, c .before .before .before .before .before .before .before .before .before .before .before .before .before .before .before .before .before .before .loop .inv .1, needs)
+body-same-length-5 t c = search (c .before .before .before .before .before .before .before .before .before .actions .given, c .before .before .before .before .before .before .before .before .before .before .before .before .before .before .before .before .before .before .loop .inv .1, needs)
 
 -- src/statements.rt:322:21
 body-same-length-6 : (t : ℕ) → body-lts.Need-same-length-6 (
@@ -295,7 +295,7 @@ body-same-length-6 : (t : ℕ) → body-lts.Need-same-length-6 (
   stop-reads.Asked,
   stop-reads.Learnt,
 ) (body-at t) body.Post body-Inv-loop body-μ-loop
-body-same-length-6 t c = search (c .before .before .before .before .before .before .before .m .given, c .before .before .before .before .before .before .before .before .before .before .before .before .before .before .before .before .before .before .loop .inv .2, needs)
+body-same-length-6 t c = search (c .before .before .before .before .before .before .before .temporaries .given, c .before .before .before .before .before .before .before .before .before .before .before .before .before .before .before .before .before .before .loop .inv .2, needs)
 
 -- src/statements.rt:322:21
 body-returns-2 : (t : ℕ) → body-lts.Need-returns-2 (
@@ -347,7 +347,7 @@ body-loop-again : (t : ℕ) → body-lts.Need-loop-again (
   stop-reads.Asked,
   stop-reads.Learnt,
 ) (body-at t) body.Post body-Inv-loop body-μ-loop
-body-loop-again t c = (search (c .before .before .before .before .before .before .before .before .before .before .l .given, c .before .before .before .before .before .before .before .before .before .before .before .before .before .before .before .before .before .loop .inv .0, needs), search (c .before .before .before .before .before .before .before .before .a .given, c .before .before .before .before .before .before .before .before .before .before .before .before .before .before .before .before .before .loop .inv .1, needs), search (c .before .before .before .before .before .before .m .given, c .before .before .before .before .before .before .before .before .before .before .before .before .before .before .before .before .before .loop .inv .2, needs), body-next _ _ _ _ _ _ _ _ _ _ _ (c .before .before .before .before .before .before .before .before .before .before .before .before .before .before .before .before .before .loop .inv .3) (c .before .before .before .before .before .before .before .before .before .before .before .before .before .before .before .before .loop-test .taken) _ (c .before .before .before .before .before .before .before .before .before .before .before .before .before .before .before .wrapping-add-u64 .ensures) _ _ _ _ (c .before .before .before .before .before .before .before .before .before .before .before .statement .ensures) _ _ (search needs) _ (c .before .forward .ensures) (c .if1 .left))
+body-loop-again t c = (search (c .before .before .before .before .before .before .before .before .before .before .labels .given, c .before .before .before .before .before .before .before .before .before .before .before .before .before .before .before .before .before .loop .inv .0, needs), search (c .before .before .before .before .before .before .before .before .actions .given, c .before .before .before .before .before .before .before .before .before .before .before .before .before .before .before .before .before .loop .inv .1, needs), search (c .before .before .before .before .before .before .temporaries .given, c .before .before .before .before .before .before .before .before .before .before .before .before .before .before .before .before .before .loop .inv .2, needs), body-next _ _ _ _ _ _ _ _ _ _ _ (c .before .before .before .before .before .before .before .before .before .before .before .before .before .before .before .before .before .loop .inv .3) (c .before .before .before .before .before .before .before .before .before .before .before .before .before .before .before .before .loop-test .taken) _ (c .before .before .before .before .before .before .before .before .before .before .before .before .before .before .before .wrapping-add-u64 .ensures) _ _ _ _ (c .before .before .before .before .before .before .before .before .before .before .before .statement .ensures) _ _ (search needs) _ (c .before .forward .ensures) (c .if1 .left))
 
 -- src/statements.rt:291:1
 body-same-length-7 : (t : ℕ) → body-lts.Need-same-length-7 (

@@ -7,12 +7,12 @@ use Rattle.stmt_bodies.proofs.StatementLaws.{code-laws}
 use Rattle.stmt_bodies.proofs.StatementLaws.{begin-laws}
 
 -- src/statements.rt:142:22
-enum-known-r : tie.Need-enum-known-r
-enum-known-r c = search needs
+enum-known-answer : tie.Need-enum-known-answer
+enum-known-answer c = search needs
 
 -- src/statements.rt:143:31
-enum-known-r-2 : tie.Need-enum-known-r-2
-enum-known-r-2 c = search needs
+enum-known-answer-2 : tie.Need-enum-known-answer-2
+enum-known-answer-2 c = search needs
 
 -- src/statements.rt:138:1
 returns : tie.Need-returns
@@ -23,4 +23,4 @@ returns-2 : tie.Need-returns-2
 returns-2 c = search (code-laws, begin-laws, needs)
 
 pub returned-spec : {M : Type 1} → statement M
-returned-spec = tie.close (tie.spec enum-known-r enum-known-r-2 returns returns-2)
+returned-spec = tie.close (tie.spec enum-known-answer enum-known-answer-2 returns returns-2)

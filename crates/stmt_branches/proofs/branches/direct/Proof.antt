@@ -9,8 +9,8 @@ use Rattle.stmt_walk.proofs.walk.stop.Reads as stop-reads
 use Rattle.stmt_branches.proofs.BranchLaws.{branch-laws}
 
 -- src/branches.rt:110:26
-enum-known-x : tie.Need-enum-known-x
-enum-known-x c = search needs
+enum-known-expr : tie.Need-enum-known-expr
+enum-known-expr c = search needs
 
 -- src/branches.rt:110:63
 direct-address-requires : tie.Need-direct-address-requires
@@ -44,7 +44,7 @@ pub direct-spec : {M : Type 1} → statement M
 direct-spec =
     tie.close
     (tie.spec
-    enum-known-x
+    enum-known-expr
     direct-address-requires
     branch-to-requires
     stop-requires

@@ -9,16 +9,16 @@ use Rattle.stmt_simple.proofs.simple.exported.Reads as exported-reads
 use Rattle.stmt_simple.proofs.SimpleLaws.{simple-laws}
 
 -- src/simple.rt:67:29
-enum-known-x : tie.Need-enum-known-x
-enum-known-x c = search needs
+enum-known-expr : tie.Need-enum-known-expr
+enum-known-expr c = search needs
 
 -- src/simple.rt:67:48
 exported-requires : tie.Need-exported-requires
 exported-requires c κs = search needs
 
 -- src/simple.rt:68:34
-enum-known-x-2 : tie.Need-enum-known-x-2
-enum-known-x-2 c = search needs
+enum-known-expr-2 : tie.Need-enum-known-expr-2
+enum-known-expr-2 c = search needs
 
 -- src/simple.rt:68:53
 exported-requires-2 : tie.Need-exported-requires-2
@@ -56,9 +56,9 @@ pub export-of-spec : {M : Type 1} → statement M
 export-of-spec =
     tie.close
     (tie.spec
-    enum-known-x
+    enum-known-expr
     exported-requires
-    enum-known-x-2
+    enum-known-expr-2
     exported-requires-2
     read-operand-requires
     export-value-requires

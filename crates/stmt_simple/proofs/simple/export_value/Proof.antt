@@ -8,16 +8,16 @@ use Rattle.stmt_walk.proofs.walk.stop.Reads as stop-reads
 use Rattle.stmt_simple.proofs.SimpleLaws.{simple-laws}
 
 -- src/simple.rt:57:18
-enum-known-r : tie.Need-enum-known-r
-enum-known-r c = search needs
+enum-known-answer : tie.Need-enum-known-answer
+enum-known-answer c = search needs
 
 -- src/simple.rt:57:24
 stop-requires : tie.Need-stop-requires
 stop-requires c κs = search needs
 
 -- src/simple.rt:58:23
-enum-known-r-2 : tie.Need-enum-known-r-2
-enum-known-r-2 c = search needs
+enum-known-answer-2 : tie.Need-enum-known-answer-2
+enum-known-answer-2 c = search needs
 
 -- src/simple.rt:58:34
 exported-requires : tie.Need-exported-requires
@@ -34,4 +34,4 @@ returns-2 c = search (simple-laws, needs)
 pub export-value-spec : {M : Type 1} → statement M
 export-value-spec =
     tie.close
-    (tie.spec enum-known-r stop-requires enum-known-r-2 exported-requires returns returns-2)
+    (tie.spec enum-known-answer stop-requires enum-known-answer-2 exported-requires returns returns-2)

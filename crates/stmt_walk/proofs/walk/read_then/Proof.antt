@@ -8,16 +8,16 @@ use Rattle.stmt_walk.proofs.walk.with_state.Reads as with-state-reads
 use Rattle.stmt_walk.proofs.WalkLaws.{walk-laws}
 
 -- src/walk.rt:50:18
-enum-known-r : tie.Need-enum-known-r
-enum-known-r c = search needs
+enum-known-answer : tie.Need-enum-known-answer
+enum-known-answer c = search needs
 
 -- src/walk.rt:50:24
 stop-requires : tie.Need-stop-requires
 stop-requires c κs = search needs
 
 -- src/walk.rt:51:29
-enum-known-r-2 : tie.Need-enum-known-r-2
-enum-known-r-2 c = search needs
+enum-known-answer-2 : tie.Need-enum-known-answer-2
+enum-known-answer-2 c = search needs
 
 -- src/walk.rt:53:16
 with-state-requires : tie.Need-with-state-requires
@@ -34,4 +34,4 @@ returns-2 c = search (walk-laws, needs)
 pub read-then-spec : {M : Type 1} → statement M
 read-then-spec =
     tie.close
-    (tie.spec enum-known-r stop-requires enum-known-r-2 with-state-requires returns returns-2)
+    (tie.spec enum-known-answer stop-requires enum-known-answer-2 with-state-requires returns returns-2)

@@ -1,1 +1,0 @@
--- The words that expressions are resolved to are those of the definition.

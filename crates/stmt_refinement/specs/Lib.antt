@@ -1,1 +1,0 @@
--- The words that statements are resolved to are those of the definition.
