@@ -9,31 +9,24 @@ use lib.Dec.{lit<}
 use native.Mathlib.Omega.{arith}
 use lib.ListN.{List·getD-eq-default}
 
--- src/lib.rt:15:16
 sub-if2 : tie.Need-sub-if2
 sub-if2 c = search needs
 
--- src/lib.rt:16:22
 add-result : tie.Need-add-result
 add-result c = search needs
 
--- src/lib.rt:16:20
 shared-slice-read-result : tie.Need-shared-slice-read-result
 shared-slice-read-result c = search needs
 
--- src/lib.rt:16:20
 cast-result : tie.Need-cast-result
 cast-result c = omega (arith, c .shared-slice-known .given (c .before .before .before .args .at + c .before .before .before .args .index))
 
--- src/lib.rt:16:13
 returns : tie.Need-returns
 returns c = (refl, omega (arith, c .shared-slice-known .given (c .before .before .before .args .at + c .before .before .before .args .index)))
 
--- src/lib.rt:11:1
 returns-2 : tie.Need-returns-2
 returns-2 c = let a = c .before .before .args in (sym (List·getD-eq-default (a .bytes .now) 0 {n = a .at + a .index} (omega arith)), lit< tt)
 
--- src/lib.rt:11:1
 returns-3 : tie.Need-returns-3
 returns-3 c = let a = c .before .args in (sym (List·getD-eq-default (a .bytes .now) 0 {n = a .at + a .index} (omega arith)), lit< tt)
 

@@ -7,19 +7,15 @@ use native.Mathlib.Omega.{arith}
 use Rattle.access.proofs.Laws.{one-shl, mask-low, mask-all}
 use lib.Pow.{pow-pos}
 
--- src/lib.rt:99:18
 shl-result : tie.Need-shl-result
 shl-result c = search needs
 
--- src/lib.rt:99:17
 sub-result : tie.Need-sub-result
 sub-result c = rw (one-shl _ (c .if1 .taken)) (pow-pos _)
 
--- src/lib.rt:96:1
 returns : tie.Need-returns
 returns c = mask-low _ (c .if1 .taken)
 
--- src/lib.rt:96:1
 returns-2 : tie.Need-returns-2
 returns-2 c = mask-all _ (c .if1 .left)
 

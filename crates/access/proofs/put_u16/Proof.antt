@@ -6,23 +6,18 @@ use Rattle.access.proofs.put_u16.Lts as lts
 use mathlib.Core.Path.{sym}
 use lib.Seq.{set-out}
 
--- src/lib.rt:80:9
 mul-list : tie.Need-mul-list
 mul-list c = search needs
 
--- src/lib.rt:80:9
 slice-write-list : tie.Need-slice-write-list
 slice-write-list c = search needs
 
--- src/lib.rt:76:1
 same-length : tie.Need-same-length
 same-length c = search needs
 
--- src/lib.rt:76:1
 returns : tie.Need-returns
 returns c = search needs
 
--- src/lib.rt:76:1
 returns-2 : tie.Need-returns-2
 returns-2 c = sym (set-out _ _ _ (c .if1 .left))
 

@@ -7,27 +7,21 @@ use Rattle.access.proofs.u16_in.Reads as u16_in-reads
 use native.Mathlib.Omega.{arith}
 use Rattle.access.proofs.Laws.{quad-law}
 
--- src/lib.rt:35:5
 u16-in-requires : tie.Need-u16-in-requires
 u16-in-requires c κs = search needs
 
--- src/lib.rt:35:42
 add-u16-in : tie.Need-add-u16-in
 add-u16-in c = search needs
 
--- src/lib.rt:35:30
 u16-in-requires-2 : tie.Need-u16-in-requires-2
 u16-in-requires-2 c κs = search needs
 
--- src/lib.rt:35:22
 mul-result : tie.Need-mul-result
 mul-result c = search needs
 
--- src/lib.rt:35:5
 add-result : tie.Need-add-result
 add-result c = search needs
 
--- src/lib.rt:31:1
 returns : tie.Need-returns
 returns c = quad-law _ _ _ _ _ (c .before .u16-in .ensures) (c .u16-in2 .ensures)
 

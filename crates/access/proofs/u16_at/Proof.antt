@@ -6,11 +6,9 @@ use Rattle.access.proofs.u16_at.Lts as lts
 use Rattle.access.proofs.u16_in.Reads as u16_in-reads
 use native.Mathlib.Nat.{add-zero}
 
--- src/lib.rt:41:5
 u16-in-requires : tie.Need-u16-in-requires
 u16-in-requires c κs = search needs
 
--- src/lib.rt:38:1
 returns : tie.Need-returns
 returns c = rw add-zero at (c .u16-in .ensures)
 

@@ -8,35 +8,27 @@ use Rattle.access.proofs.inside.two.Reads as two-reads
 use native.Mathlib.Omega.{arith}
 use Rattle.access.proofs.Laws.{last-law, none-law}
 
--- src/lib.rt:36:12
 add-if2 : tie.Need-add-if2
 add-if2 c = search needs
 
--- src/lib.rt:36:20
 sub-if2 : tie.Need-sub-if2
 sub-if2 c = search needs
 
--- src/lib.rt:37:27
 add-two : tie.Need-add-two
 add-two c = search needs
 
--- src/lib.rt:37:13
 two-requires : tie.Need-two-requires
 two-requires c κs = search needs
 
--- src/lib.rt:37:13
 returns : tie.Need-returns
 returns c = search needs
 
--- src/lib.rt:39:9
 byte-requires : tie.Need-byte-requires
 byte-requires c κs = search needs
 
--- src/lib.rt:39:9
 returns-2 : tie.Need-returns-2
 returns-2 c = last-law _ _ _ _ (c .byte .ensures) (omega arith)
 
--- src/lib.rt:31:1
 returns-3 : tie.Need-returns-3
 returns-3 c = none-law _ _ _ (omega arith)
 

@@ -6,11 +6,9 @@ use Rattle.access.proofs.u32_at.Lts as lts
 use Rattle.access.proofs.quad.Reads as quad-reads
 use native.Mathlib.Nat.{add-zero}
 
--- src/lib.rt:47:5
 quad-requires : tie.Need-quad-requires
 quad-requires c κs = search needs
 
--- src/lib.rt:44:1
 returns : tie.Need-returns
 returns c = rw add-zero at (c .quad .ensures)
 

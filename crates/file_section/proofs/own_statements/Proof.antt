@@ -10,35 +10,27 @@ use Rattle.file_syntax.proofs.statements.body.Reads as body-reads
 use Rattle.file_section.proofs.zeros.tail.Reads as tail-reads
 use Rattle.file_section.proofs.ListLaws.{list-laws}
 
--- src/lib.rt:52:29
 low-requires : tie.Need-low-requires
 low-requires c κs = search (list-laws, needs)
 
--- src/lib.rt:52:5
 put-u16-requires : tie.Need-put-u16-requires
 put-u16-requires c κs = search (list-laws, needs)
 
--- src/lib.rt:53:21
 u16-at-requires : tie.Need-u16-at-requires
 u16-at-requires c κs = search (list-laws, needs)
 
--- src/lib.rt:53:42
 u16-at-requires-2 : tie.Need-u16-at-requires-2
 u16-at-requires-2 c κs = search (list-laws, needs)
 
--- src/lib.rt:53:13
 body-requires : tie.Need-body-requires
 body-requires c κs = search (list-laws, needs)
 
--- src/lib.rt:53:5
 tail-requires : tie.Need-tail-requires
 tail-requires c κs = search (list-laws, needs)
 
--- src/lib.rt:49:1
 same-length : tie.Need-same-length
 same-length c = search (list-laws, needs)
 
--- src/lib.rt:49:1
 returns : tie.Need-returns
 returns c = search (list-laws, needs)
 

@@ -12,39 +12,30 @@ use Rattle.file_section.proofs.HeaderLaws.{header-few}
 use Rattle.file_section.proofs.ListLaws.{list-laws}
 use native.Mathlib.Omega.{arith}
 
--- src/lib.rt:44:16
 header-requires : tie.Need-header-requires
 header-requires c κs = search (list-laws, needs)
 
--- src/lib.rt:44:9
 returns : tie.Need-returns
 returns c = search (list-laws, needs)
 
--- src/lib.rt:46:9
 header-requires-2 : tie.Need-header-requires-2
 header-requires-2 c κs = search (list-laws, needs)
 
--- src/lib.rt:48:9
 returns-2 : tie.Need-returns-2
 returns-2 c = search (list-laws, needs)
 
--- src/lib.rt:50:26
 u16-at-requires : tie.Need-u16-at-requires
 u16-at-requires c κs = search (list-laws, needs)
 
--- src/lib.rt:50:9
 names-requires : tie.Need-names-requires
 names-requires c κs = header-few _ _ _ (c .before .before .before .before .header2 .ensures) (c .before .before .if2 .left) (c .before .u16-at .ensures)
 
--- src/lib.rt:51:9
 lists-requires : tie.Need-lists-requires
 lists-requires c κs = search (list-laws, needs)
 
--- src/lib.rt:52:9
 own-statements-requires : tie.Need-own-statements-requires
 own-statements-requires c κs = search (list-laws, needs)
 
--- src/lib.rt:39:1
 returns-3 : tie.Need-returns-3
 returns-3 c = search (list-laws, needs)
 

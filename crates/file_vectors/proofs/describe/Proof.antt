@@ -14,31 +14,24 @@ Inv-loop input n at₀ i₀ at i = i ≤ n
 abbrev μ-loop : tie.MeasureT-loop
 μ-loop input n at₀ i₀ at i = n - i
 
--- src/main.rt:145:9
 u16-at-requires : tie.Need-u16-at-requires Inv-loop μ-loop
 u16-at-requires c κs = search needs
 
--- src/main.rt:147:5
 loop-holds : tie.Need-loop-holds Inv-loop μ-loop
 loop-holds c = search needs
 
--- src/main.rt:148:9
 described-requires : tie.Need-described-requires Inv-loop μ-loop
 described-requires c κs = search needs
 
--- src/main.rt:147:9
 add-i : tie.Need-add-i Inv-loop μ-loop
 add-i c = search needs
 
--- src/main.rt:147:5
 loop-less : tie.Need-loop-less Inv-loop μ-loop
 loop-less c = search needs
 
--- src/main.rt:147:5
 loop-again : tie.Need-loop-again Inv-loop μ-loop
 loop-again c = search needs
 
--- src/main.rt:144:1
 returns : tie.Need-returns Inv-loop μ-loop
 returns c = search needs
 

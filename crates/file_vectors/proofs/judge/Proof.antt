@@ -11,51 +11,39 @@ use mathlib.Core.Path.{sym}
 use lib.Seq.{length-take-le}
 use Rattle.file_vectors.proofs.Laws.{room, enough, counted}
 
--- src/main.rt:77:9
 check-blocks-requires : tie.Need-check-blocks-requires
 check-blocks-requires c κs = search needs
 
--- src/main.rt:79:9
 returns : tie.Need-returns
 returns c = search needs
 
--- src/main.rt:83:37
 slice-aggregate-read-stream : tie.Need-slice-aggregate-read-stream
 slice-aggregate-read-stream c = sym (length-take-le 510 (c .before .before .before .before .before .args .file .now) (omega arith))
 
--- src/main.rt:83:9
 read-stream-requires : tie.Need-read-stream-requires
 read-stream-requires c κs = search needs
 
--- src/main.rt:83:9
 returns-2 : tie.Need-returns-2
 returns-2 c = search needs
 
--- src/main.rt:86:33
 slice-aggregate-join : tie.Need-slice-aggregate-join
 slice-aggregate-join c = search needs
 
--- src/main.rt:86:5
 join-requires : tie.Need-join-requires
 join-requires c κs = room _ _ (c .before .before .before .check-blocks .ensures) (c .before .before .if1 .left)
 
--- src/main.rt:87:13
 mul-n : tie.Need-mul-n
 mul-n c = search needs
 
--- src/main.rt:88:26
 array-share-prefix-stream : tie.Need-array-share-prefix-stream
 array-share-prefix-stream c = enough _ _ (c .before .join .last .1 .0) (c .before .before .before .before .before .check-blocks .ensures) (c .before .before .before .before .if1 .left) (c .before .join .kept .1 .0)
 
--- src/main.rt:88:26
 slice-aggregate-read-stream-2 : tie.Need-slice-aggregate-read-stream-2
 slice-aggregate-read-stream-2 c = counted _ _ (c .before .before .join .last .1 .0) (c .before .before .before .before .before .before .check-blocks .ensures) (c .before .before .before .before .before .if1 .left) (c .before .before .join .kept .1 .0)
 
--- src/main.rt:88:5
 read-stream-requires-2 : tie.Need-read-stream-requires-2
 read-stream-requires-2 c κs = search needs
 
--- src/main.rt:76:1
 returns-3 : tie.Need-returns-3
 returns-3 c = search needs
 

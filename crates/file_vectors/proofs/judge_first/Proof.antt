@@ -7,19 +7,15 @@ use Rattle.file_vectors.proofs.judge.Reads as judge-reads
 use mathlib.Core.Path.{sym}
 use lib.Seq.{length-take-le}
 
--- src/main.rt:102:22
 slice-aggregate-judge : tie.Need-slice-aggregate-judge
 slice-aggregate-judge c = sym (length-take-le _ _ (c .before .if1 .taken))
 
--- src/main.rt:102:9
 judge-requires : tie.Need-judge-requires
 judge-requires c κs = search needs
 
--- src/main.rt:102:9
 returns : tie.Need-returns
 returns c = search needs
 
--- src/main.rt:100:1
 returns-2 : tie.Need-returns-2
 returns-2 c = search needs
 

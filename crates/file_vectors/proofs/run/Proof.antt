@@ -18,63 +18,48 @@ Inv-loop input at file₀ p n from i₀ file i = i ≤ n
 abbrev μ-loop : tie.MeasureT-loop
 μ-loop input at file₀ p n from i₀ file i = n - i
 
--- src/main.rt:39:24
 u32-at-requires : tie.Need-u32-at-requires Inv-loop μ-loop
 u32-at-requires c κs = search needs
 
--- src/main.rt:39:9
 further-requires : tie.Need-further-requires Inv-loop μ-loop
 further-requires c κs = search needs
 
--- src/main.rt:40:9
 byte-requires : tie.Need-byte-requires Inv-loop μ-loop
 byte-requires c κs = search needs
 
--- src/main.rt:41:9
 further-requires-2 : tie.Need-further-requires-2 Inv-loop μ-loop
 further-requires-2 c κs = search needs
 
--- src/main.rt:42:5
 loop-holds : tie.Need-loop-holds Inv-loop μ-loop
 loop-holds c = search needs
 
--- src/main.rt:43:25
 further-requires-3 : tie.Need-further-requires-3 Inv-loop μ-loop
 further-requires-3 c κs = search needs
 
--- src/main.rt:43:19
 place-requires : tie.Need-place-requires Inv-loop μ-loop
 place-requires c κs = search needs
 
--- src/main.rt:43:45
 byte-requires-2 : tie.Need-byte-requires-2 Inv-loop μ-loop
 byte-requires-2 c κs = search needs
 
--- src/main.rt:43:41
 low-requires : tie.Need-low-requires Inv-loop μ-loop
 low-requires c κs = search needs
 
--- src/main.rt:43:9
 put-requires : tie.Need-put-requires Inv-loop μ-loop
 put-requires c κs = search needs
 
--- src/main.rt:42:9
 add-i : tie.Need-add-i Inv-loop μ-loop
 add-i c = search needs
 
--- src/main.rt:42:5
 loop-less : tie.Need-loop-less Inv-loop μ-loop
 loop-less c = search needs
 
--- src/main.rt:42:5
 loop-again : tie.Need-loop-again Inv-loop μ-loop
 loop-again c = search needs
 
--- src/main.rt:45:5
 further-requires-4 : tie.Need-further-requires-4 Inv-loop μ-loop
 further-requires-4 c κs = search needs
 
--- src/main.rt:38:1
 returns : tie.Need-returns Inv-loop μ-loop
 returns c = search needs
 

@@ -15,67 +15,51 @@ Inv-loop file₀ n k₀ file k = k ≤ n
 abbrev μ-loop : tie.MeasureT-loop
 μ-loop file₀ n k₀ file k = n - k
 
--- src/main.rt:68:5
 loop-holds : tie.Need-loop-holds Inv-loop μ-loop
 loop-holds c = search needs
 
--- src/main.rt:69:32
 mul-sum : tie.Need-mul-sum Inv-loop μ-loop
 mul-sum c = search needs
 
--- src/main.rt:69:22
 sum-requires : tie.Need-sum-requires Inv-loop μ-loop
 sum-requires c κs = search needs
 
--- src/main.rt:69:22
 add-total : tie.Need-add-total Inv-loop μ-loop
 add-total c = search needs
 
--- src/main.rt:70:19
 mul-put : tie.Need-mul-put Inv-loop μ-loop
 mul-put c = search needs
 
--- src/main.rt:70:19
 add-put : tie.Need-add-put Inv-loop μ-loop
 add-put c = search needs
 
--- src/main.rt:70:34
 low-requires : tie.Need-low-requires Inv-loop μ-loop
 low-requires c κs = search needs
 
--- src/main.rt:70:9
 put-requires : tie.Need-put-requires Inv-loop μ-loop
 put-requires c κs = search needs
 
--- src/main.rt:71:19
 mul-put-2 : tie.Need-mul-put-2 Inv-loop μ-loop
 mul-put-2 c = search needs
 
--- src/main.rt:71:19
 add-put-2 : tie.Need-add-put-2 Inv-loop μ-loop
 add-put-2 c = search needs
 
--- src/main.rt:71:34
 low-requires-2 : tie.Need-low-requires-2 Inv-loop μ-loop
 low-requires-2 c κs = search needs
 
--- src/main.rt:71:9
 put-requires-2 : tie.Need-put-requires-2 Inv-loop μ-loop
 put-requires-2 c κs = search needs
 
--- src/main.rt:68:9
 add-k : tie.Need-add-k Inv-loop μ-loop
 add-k c = search needs
 
--- src/main.rt:68:5
 loop-less : tie.Need-loop-less Inv-loop μ-loop
 loop-less c = search needs
 
--- src/main.rt:68:5
 loop-again : tie.Need-loop-again Inv-loop μ-loop
 loop-again c = search needs
 
--- src/main.rt:65:1
 returns : tie.Need-returns Inv-loop μ-loop
 returns c = search needs
 

@@ -13,31 +13,24 @@ Inv-loop file from total₀ i₀ total i = (i ≤ 510) × (total < 65536)
 abbrev μ-loop : tie.MeasureT-loop
 μ-loop file from total₀ i₀ total i = 510 - i
 
--- src/main.rt:58:5
 loop-holds : tie.Need-loop-holds Inv-loop μ-loop
 loop-holds c = search needs
 
--- src/main.rt:59:26
 byte-requires : tie.Need-byte-requires Inv-loop μ-loop
 byte-requires c κs = search needs
 
--- src/main.rt:59:18
 add-total : tie.Need-add-total Inv-loop μ-loop
 add-total c = search needs
 
--- src/main.rt:58:9
 add-i : tie.Need-add-i Inv-loop μ-loop
 add-i c = search needs
 
--- src/main.rt:58:5
 loop-less : tie.Need-loop-less Inv-loop μ-loop
 loop-less c = search needs
 
--- src/main.rt:58:5
 loop-again : tie.Need-loop-again Inv-loop μ-loop
 loop-again c = search needs
 
--- src/main.rt:56:1
 returns : tie.Need-returns Inv-loop μ-loop
 returns c = search needs
 

@@ -9,47 +9,36 @@ use Rattle.list_checker.proofs.inputs_fit.Reads as inputs-fit-reads
 use Rattle.list_checker.proofs.value_fits.Reads as value-fits-reads
 use Rattle.list_checker.proofs.FitLaws.{action-law}
 
--- src/lib.rt:122:17
 shared-slice-read-sized : tie.Need-shared-slice-read-sized
 shared-slice-read-sized c = search needs
 
--- src/lib.rt:123:29
 shared-slice-read-has-output : tie.Need-shared-slice-read-has-output
 shared-slice-read-has-output c = search needs
 
--- src/lib.rt:123:35
 shared-slice-read-has-output-2 : tie.Need-shared-slice-read-has-output-2
 shared-slice-read-has-output-2 c = search needs
 
--- src/lib.rt:123:41
 shared-slice-read-has-output-3 : tie.Need-shared-slice-read-has-output-3
 shared-slice-read-has-output-3 c = search needs
 
--- src/lib.rt:123:9
 has-output-requires : tie.Need-has-output-requires
 has-output-requires c κs = search needs
 
--- src/lib.rt:124:27
 shared-slice-read-value-fits : tie.Need-shared-slice-read-value-fits
 shared-slice-read-value-fits c = search needs
 
--- src/lib.rt:124:33
 shared-slice-read-value-fits-2 : tie.Need-shared-slice-read-value-fits-2
 shared-slice-read-value-fits-2 c = search needs
 
--- src/lib.rt:124:16
 value-fits-requires : tie.Need-value-fits-requires
 value-fits-requires c κs = search needs
 
--- src/lib.rt:125:11
 inputs-fit-requires : tie.Need-inputs-fit-requires
 inputs-fit-requires c κs = search needs
 
--- src/lib.rt:126:11
 head-fits-requires : tie.Need-head-fits-requires
 head-fits-requires c κs = search needs
 
--- src/lib.rt:118:1
 returns : tie.Need-returns
 returns c = search (action-law, needs)
 

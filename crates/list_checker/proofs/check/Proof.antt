@@ -18,67 +18,51 @@ Inv-loop list actions temporaries subtables pointer-size room n end base₀ base
 abbrev μ-loop : tie.MeasureT-loop
 μ-loop list actions temporaries subtables pointer-size room n end base₀ base = subtables - base
 
--- src/lib.rt:195:9
 returns : tie.Need-returns Inv-loop μ-loop
 returns c = search (check-laws, list-laws, needs)
 
--- src/lib.rt:198:15
 mul-end : tie.Need-mul-end Inv-loop μ-loop
 mul-end c = search (check-laws, list-laws, needs)
 
--- src/lib.rt:199:15
 mul-zeros : tie.Need-mul-zeros Inv-loop μ-loop
 mul-zeros c = search (check-laws, list-laws, needs)
 
--- src/lib.rt:199:15
 sub-zeros : tie.Need-sub-zeros Inv-loop μ-loop
 sub-zeros c = search (check-laws, list-laws, needs)
 
--- src/lib.rt:199:15
 part-zeros-start : tie.Need-part-zeros-start Inv-loop μ-loop
 part-zeros-start c = search (check-laws, list-laws, needs)
 
--- src/lib.rt:199:15
 part-zeros-end : tie.Need-part-zeros-end Inv-loop μ-loop
 part-zeros-end c = search (check-laws, list-laws, needs)
 
--- src/lib.rt:199:9
 zeros-requires : tie.Need-zeros-requires Inv-loop μ-loop
 zeros-requires c κs = search (check-laws, list-laws, needs)
 
--- src/lib.rt:200:9
 returns-2 : tie.Need-returns-2 Inv-loop μ-loop
 returns-2 c = search (check-laws, list-laws, needs)
 
--- src/lib.rt:203:5
 loop-holds : tie.Need-loop-holds Inv-loop μ-loop
 loop-holds c = search (check-laws, list-laws, needs)
 
--- src/lib.rt:203:11
 sweep-requires : tie.Need-sweep-requires Inv-loop μ-loop
 sweep-requires c κs = search (check-laws, list-laws, needs)
 
--- src/lib.rt:204:12
 sub-if4 : tie.Need-sub-if4 Inv-loop μ-loop
 sub-if4 c = search (check-laws, list-laws, needs)
 
--- src/lib.rt:205:13
 returns-3 : tie.Need-returns-3 Inv-loop μ-loop
 returns-3 c = search (check-laws, list-laws, needs)
 
--- src/lib.rt:207:9
 add-base : tie.Need-add-base Inv-loop μ-loop
 add-base c = search (check-laws, list-laws, needs)
 
--- src/lib.rt:203:5
 loop-less : tie.Need-loop-less Inv-loop μ-loop
 loop-less c = search (check-laws, list-laws, needs)
 
--- src/lib.rt:203:5
 loop-again : tie.Need-loop-again Inv-loop μ-loop
 loop-again c = (omega arith, sweep-goes _ _ _ _ _ _ _ (c .before .before .before .loop .inv .1) (c .before .before .sweep .ensures) (c .before .if3 .taken) (c .if4 .left))
 
--- src/lib.rt:184:1
 returns-4 : tie.Need-returns-4 Inv-loop μ-loop
 returns-4 c = search (check-laws, list-laws, needs)
 

@@ -5,15 +5,12 @@ use Rattle.list_checker.proofs.has_output.Lts as lts
 use Rattle.list_checker.proofs.FitLaws.{output-laws}
 use borrow.Author.Needs.{needs}
 
--- src/lib.rt:55:1
 returns : tie.Need-returns
 returns c = search (output-laws, needs)
 
--- src/lib.rt:55:1
 returns-2 : tie.Need-returns-2
 returns-2 c = search (output-laws, needs)
 
--- src/lib.rt:55:1
 returns-3 : tie.Need-returns-3
 returns-3 c = search (output-laws, needs)
 

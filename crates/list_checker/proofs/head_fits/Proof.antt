@@ -9,60 +9,47 @@ use Rattle.definition.specs.Base.{if_then_else_}
 use Rattle.list_checker.specs.Action.{kindFit}
 use Rattle.list_checker.proofs.FitLaws.{head-op, head-kind, head-none}
 
--- src/lib.rt:104:18
 shared-slice-read-number : tie.Need-shared-slice-read-number
 shared-slice-read-number c = search needs
 
--- src/lib.rt:105:13
 shared-slice-read-n : tie.Need-shared-slice-read-n
 shared-slice-read-n c = search needs
 
--- src/lib.rt:106:17
 shared-slice-read-plain : tie.Need-shared-slice-read-plain
 shared-slice-read-plain c = search needs
 
--- src/lib.rt:107:11
 shared-slice-read-match : tie.Need-shared-slice-read-match
 shared-slice-read-match c = search needs
 
--- src/lib.rt:108:14
 operation-fits-requires : tie.Need-operation-fits-requires
 operation-fits-requires c κs = search needs
 
--- src/lib.rt:109:59
 shared-slice-read-result : tie.Need-shared-slice-read-result
 shared-slice-read-result c = search needs
 
--- src/lib.rt:100:1
 returns : tie.Need-returns
 returns c = head-op _ _ _ _ _ (c .before .match .keys1) (c .operation-fits .ensures)
 
--- src/lib.rt:100:1
 returns-2 : tie.Need-returns-2
 unfolding kindFit if_then_else_
 returns-2 c = head-kind _ _ _ _ 1 (c .before .match .keys2) (λ z. omega arith)
 
--- src/lib.rt:100:1
 returns-3 : tie.Need-returns-3
 unfolding kindFit if_then_else_
 returns-3 c = head-kind _ _ _ _ 2 (c .match .keys3) (λ z. omega arith)
 
--- src/lib.rt:100:1
 returns-4 : tie.Need-returns-4
 unfolding kindFit if_then_else_
 returns-4 c = head-kind _ _ _ _ 3 (c .match .keys4) (λ z. omega arith)
 
--- src/lib.rt:100:1
 returns-5 : tie.Need-returns-5
 unfolding kindFit if_then_else_
 returns-5 c = head-kind _ _ _ _ 4 (c .match .keys5) (λ z. omega arith)
 
--- src/lib.rt:100:1
 returns-6 : tie.Need-returns-6
 unfolding kindFit if_then_else_
 returns-6 c = head-kind _ _ _ _ 5 (c .match .keys6) (λ z. omega arith)
 
--- src/lib.rt:100:1
 returns-7 : tie.Need-returns-7
 returns-7 c = head-none _ _ _ _ (omega arith)
 

@@ -18,103 +18,78 @@ Inv-loop a sized temporaries subtables n i₀ i = (i ≤ n) × ((n ≡ getD a 3 
 abbrev μ-loop : tie.MeasureT-loop
 μ-loop a sized temporaries subtables n i₀ i = n - i
 
--- src/lib.rt:41:8
 shared-slice-read-if1 : tie.Need-shared-slice-read-if1 Inv-loop μ-loop
 shared-slice-read-if1 c = search (input-laws, needs)
 
--- src/lib.rt:42:9
 returns : tie.Need-returns Inv-loop μ-loop
 returns c = search (input-laws, needs)
 
--- src/lib.rt:44:13
 shared-slice-read-n : tie.Need-shared-slice-read-n Inv-loop μ-loop
 shared-slice-read-n c = search (input-laws, needs)
 
--- src/lib.rt:45:5
 loop-holds : tie.Need-loop-holds Inv-loop μ-loop
 loop-holds c = search (input-laws, needs)
 
--- src/lib.rt:46:30
 mul-value-fits : tie.Need-mul-value-fits Inv-loop μ-loop
 mul-value-fits c = search (input-laws, needs)
 
--- src/lib.rt:46:26
 add-value-fits : tie.Need-add-value-fits Inv-loop μ-loop
 add-value-fits c = search (input-laws, needs)
 
--- src/lib.rt:46:24
 mul-value-fits-2 : tie.Need-mul-value-fits-2 Inv-loop μ-loop
 mul-value-fits-2 c = search (input-laws, needs)
 
--- src/lib.rt:46:24
 shared-slice-read-value-fits : tie.Need-shared-slice-read-value-fits Inv-loop μ-loop
 shared-slice-read-value-fits c = search (input-laws, needs)
 
--- src/lib.rt:46:44
 mul-value-fits-3 : tie.Need-mul-value-fits-3 Inv-loop μ-loop
 mul-value-fits-3 c = search (input-laws, needs)
 
--- src/lib.rt:46:40
 add-value-fits-2 : tie.Need-add-value-fits-2 Inv-loop μ-loop
 add-value-fits-2 c = search (input-laws, needs)
 
--- src/lib.rt:46:38
 mul-value-fits-4 : tie.Need-mul-value-fits-4 Inv-loop μ-loop
 mul-value-fits-4 c = search (input-laws, needs)
 
--- src/lib.rt:46:38
 shared-slice-read-value-fits-2 : tie.Need-shared-slice-read-value-fits-2 Inv-loop μ-loop
 shared-slice-read-value-fits-2 c = search (input-laws, needs)
 
--- src/lib.rt:46:13
 value-fits-requires : tie.Need-value-fits-requires Inv-loop μ-loop
 value-fits-requires c κs = search (input-laws, needs)
 
--- src/lib.rt:47:13
 returns-2 : tie.Need-returns-2 Inv-loop μ-loop
 returns-2 c = search (input-laws, needs)
 
--- src/lib.rt:45:9
 add-i : tie.Need-add-i Inv-loop μ-loop
 add-i c = search (input-laws, needs)
 
--- src/lib.rt:45:5
 loop-less : tie.Need-loop-less Inv-loop μ-loop
 loop-less c = search (input-laws, needs)
 
--- src/lib.rt:45:5
 loop-again : tie.Need-loop-again Inv-loop μ-loop
 loop-again c = (omega arith, (c .before .before .before .before .before .loop .inv .1 .0, (c .before .before .before .before .before .loop .inv .1 .1 .0, fit-more (c .before .before .before .before .before .before .before .before .before .before .args .action .now) (c .before .before .before .before .before .loop .i) _ _ _ _ _ (omega arith) (c .before .value-fits .ensures) (c .if2 .left) (c .before .before .before .before .before .loop .inv .1 .1 .1))))
 
--- src/lib.rt:50:19
 mul-end : tie.Need-mul-end Inv-loop μ-loop
 mul-end c = search (input-laws, needs)
 
--- src/lib.rt:50:15
 add-end : tie.Need-add-end Inv-loop μ-loop
 add-end c = search (input-laws, needs)
 
--- src/lib.rt:51:11
 mul-zeros : tie.Need-mul-zeros Inv-loop μ-loop
 mul-zeros c = search (input-laws, needs)
 
--- src/lib.rt:51:11
 sub-zeros : tie.Need-sub-zeros Inv-loop μ-loop
 sub-zeros c = search (input-laws, needs)
 
--- src/lib.rt:51:11
 part-zeros-start : tie.Need-part-zeros-start Inv-loop μ-loop
 part-zeros-start c = search (input-laws, needs)
 
--- src/lib.rt:51:11
 part-zeros-end : tie.Need-part-zeros-end Inv-loop μ-loop
 part-zeros-end c = search (input-laws, needs)
 
--- src/lib.rt:51:5
 zeros-requires : tie.Need-zeros-requires Inv-loop μ-loop
 zeros-requires c κs = search (input-laws, needs)
 
--- src/lib.rt:37:1
 returns-3 : tie.Need-returns-3 Inv-loop μ-loop
 returns-3 c = search (input-laws, needs)
 

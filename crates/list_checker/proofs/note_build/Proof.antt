@@ -6,31 +6,24 @@ use Rattle.list_checker.proofs.note_build.Lts as lts
 use Rattle.access.proofs.put.Reads as put-reads
 use Rattle.list_checker.proofs.FitLaws.{mark-laws}
 
--- src/lib.rt:147:18
 shared-slice-read-number : tie.Need-shared-slice-read-number
 shared-slice-read-number c = search (mark-laws, needs)
 
--- src/lib.rt:148:9
 shared-slice-read-if1 : tie.Need-shared-slice-read-if1
 shared-slice-read-if1 c = search (mark-laws, needs)
 
--- src/lib.rt:149:28
 sub-put : tie.Need-sub-put
 sub-put c = search (mark-laws, needs)
 
--- src/lib.rt:149:9
 put-requires : tie.Need-put-requires
 put-requires c κs = search (mark-laws, needs)
 
--- src/lib.rt:143:1
 same-length : tie.Need-same-length
 same-length c = search (mark-laws, needs)
 
--- src/lib.rt:143:1
 returns : tie.Need-returns
 returns c = search (mark-laws, needs)
 
--- src/lib.rt:143:1
 returns-2 : tie.Need-returns-2
 returns-2 c = search (mark-laws, needs)
 

@@ -7,39 +7,30 @@ use Rattle.access.proofs.get.Reads as get-reads
 use Rattle.access.proofs.put.Reads as put-reads
 use Rattle.list_checker.proofs.FitLaws.{mark-laws}
 
--- src/lib.rt:134:9
 shared-slice-read-if1 : tie.Need-shared-slice-read-if1
 shared-slice-read-if1 c = search (mark-laws, needs)
 
--- src/lib.rt:134:23
 shared-slice-read-if1-2 : tie.Need-shared-slice-read-if1-2
 shared-slice-read-if1-2 c = search (mark-laws, needs)
 
--- src/lib.rt:135:9
 returns : tie.Need-returns
 returns c = search (mark-laws, needs)
 
--- src/lib.rt:137:32
 shared-slice-read-get : tie.Need-shared-slice-read-get
 shared-slice-read-get c = search (mark-laws, needs)
 
--- src/lib.rt:137:15
 get-requires : tie.Need-get-requires
 get-requires c κs = search (mark-laws, needs)
 
--- src/lib.rt:138:22
 shared-slice-read-put : tie.Need-shared-slice-read-put
 shared-slice-read-put c = search (mark-laws, needs)
 
--- src/lib.rt:138:5
 put-requires : tie.Need-put-requires
 put-requires c κs = search (mark-laws, needs)
 
--- src/lib.rt:130:1
 same-length : tie.Need-same-length
 same-length c = search (mark-laws, needs)
 
--- src/lib.rt:130:1
 returns-2 : tie.Need-returns-2
 returns-2 c = search (mark-laws, needs)
 

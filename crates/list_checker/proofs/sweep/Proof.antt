@@ -20,83 +20,63 @@ Inv-loop list n base temporaries subtables pointer seen₀ built₀ i₀ seen bu
 abbrev μ-loop : tie.MeasureT-loop
 μ-loop list n base temporaries subtables pointer seen₀ built₀ i₀ seen built i = n - i
 
--- src/lib.rt:171:5
 loop-holds : tie.Need-loop-holds Inv-loop μ-loop
 loop-holds c = search (sweep-laws, needs)
 
--- src/lib.rt:172:20
 mul-from : tie.Need-mul-from Inv-loop μ-loop
 mul-from c = search (sweep-laws, needs)
 
--- src/lib.rt:173:18
 add-to : tie.Need-add-to Inv-loop μ-loop
 add-to c = search (sweep-laws, needs)
 
--- src/lib.rt:174:17
 mul-a : tie.Need-mul-a Inv-loop μ-loop
 mul-a c = search (sweep-laws, needs)
 
--- src/lib.rt:174:17
 sub-a : tie.Need-sub-a Inv-loop μ-loop
 sub-a c = search (sweep-laws, needs)
 
--- src/lib.rt:174:17
 part-a-start : tie.Need-part-a-start Inv-loop μ-loop
 part-a-start c = search (sweep-laws, needs)
 
--- src/lib.rt:174:17
 part-a-end : tie.Need-part-a-end Inv-loop μ-loop
 part-a-end c = search (sweep-laws, needs)
 
--- src/lib.rt:175:13
 action-fits-requires : tie.Need-action-fits-requires Inv-loop μ-loop
 action-fits-requires c κs = search (sweep-laws, needs)
 
--- src/lib.rt:175:78
 slice-aggregate-note-label : tie.Need-slice-aggregate-note-label Inv-loop μ-loop
 slice-aggregate-note-label c = search (sweep-laws, needs)
 
--- src/lib.rt:175:64
 note-label-requires : tie.Need-note-label-requires Inv-loop μ-loop
 note-label-requires c κs = search (sweep-laws, needs)
 
--- src/lib.rt:176:13
 returns : tie.Need-returns Inv-loop μ-loop
 returns c = sweep-unfit _ _ _ _ _ _ _ _ _ _ _ _ _ (c .before .before .before .before .before .before .loop-test .taken) (c .before .before .before .before .before .before .before .loop .inv .1 .0) (c .before .before .before .before .action-fits .ensures) (c .before .before .note-label .ensures) (c .if1 .taken)
 
--- src/lib.rt:178:29
 slice-aggregate-note-build : tie.Need-slice-aggregate-note-build Inv-loop μ-loop
 slice-aggregate-note-build c = search (sweep-laws, needs)
 
--- src/lib.rt:178:9
 note-build-requires : tie.Need-note-build-requires Inv-loop μ-loop
 note-build-requires c κs = search (sweep-laws, needs)
 
--- src/lib.rt:171:9
 add-i : tie.Need-add-i Inv-loop μ-loop
 add-i c = search (sweep-laws, needs)
 
--- src/lib.rt:171:5
 loop-less : tie.Need-loop-less Inv-loop μ-loop
 loop-less c = search (sweep-laws, needs)
 
--- src/lib.rt:171:5
 loop-again : tie.Need-loop-again Inv-loop μ-loop
 loop-again c = (omega arith, (sweep-more _ _ _ _ _ _ _ _ _ _ _ _ _ (c .before .before .before .before .before .before .before .before .before .loop-test .taken) (c .before .before .before .before .before .before .before .before .before .before .loop .inv .1 .0) (c .before .before .before .before .before .before .before .action-fits .ensures) (c .before .before .before .before .before .note-label .ensures) _ (c .before .before .before .if1 .left) (c .before .note-build .ensures), (search needs, search needs)))
 
--- src/lib.rt:180:16
 slice-aggregate-all-marked : tie.Need-slice-aggregate-all-marked Inv-loop μ-loop
 slice-aggregate-all-marked c = search (sweep-laws, needs)
 
--- src/lib.rt:180:24
 sub-all-marked : tie.Need-sub-all-marked Inv-loop μ-loop
 sub-all-marked c = search (sweep-laws, needs)
 
--- src/lib.rt:180:5
 all-marked-requires : tie.Need-all-marked-requires Inv-loop μ-loop
 all-marked-requires c κs = search (sweep-laws, needs)
 
--- src/lib.rt:165:1
 returns-2 : tie.Need-returns-2 Inv-loop μ-loop
 returns-2 c = search (sweep-laws, needs)
 

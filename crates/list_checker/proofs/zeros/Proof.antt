@@ -15,35 +15,27 @@ Inv-loop words i₀ i-end i = (i ≤ length words) × ((i-end ≡ length words) 
 abbrev μ-loop : tie.MeasureT-loop
 μ-loop words i₀ i-end i = i-end - i
 
--- src/lib.rt:14:5
 loop-holds : tie.Need-loop-holds Inv-loop μ-loop
 loop-holds c = search (loop-laws, needs)
 
--- src/lib.rt:15:12
 mul-if1 : tie.Need-mul-if1 Inv-loop μ-loop
 mul-if1 c = search (loop-laws, needs)
 
--- src/lib.rt:15:12
 shared-slice-read-if1 : tie.Need-shared-slice-read-if1 Inv-loop μ-loop
 shared-slice-read-if1 c = search (loop-laws, needs)
 
--- src/lib.rt:16:13
 returns : tie.Need-returns Inv-loop μ-loop
 returns c = search (loop-laws, needs)
 
--- src/lib.rt:14:9
 add-i : tie.Need-add-i Inv-loop μ-loop
 add-i c = search (loop-laws, needs)
 
--- src/lib.rt:14:5
 loop-less : tie.Need-loop-less Inv-loop μ-loop
 loop-less c = search (loop-laws, needs)
 
--- src/lib.rt:14:5
 loop-again : tie.Need-loop-again Inv-loop μ-loop
 loop-again c = search (loop-laws, needs)
 
--- src/lib.rt:11:1
 returns-2 : tie.Need-returns-2 Inv-loop μ-loop
 returns-2 c = search (loop-laws, needs)
 

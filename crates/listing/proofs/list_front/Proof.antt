@@ -7,19 +7,15 @@ use Rattle.listing.proofs.list_stream.Reads as list-stream-reads
 use mathlib.Core.Path.{sym}
 use lib.Seq.{length-take-le}
 
--- src/main.rt:108:21
 slice-aggregate-list-stream : tie.Need-slice-aggregate-list-stream
 slice-aggregate-list-stream c = sym (length-take-le _ _ (c .before .if1 .taken))
 
--- src/main.rt:108:9
 list-stream-requires : tie.Need-list-stream-requires
 list-stream-requires c κs = search needs
 
--- src/main.rt:106:1
 returns : tie.Need-returns
 returns c = search needs
 
--- src/main.rt:106:1
 returns-2 : tie.Need-returns-2
 returns-2 c = search needs
 

@@ -8,27 +8,21 @@ use Rattle.listing.proofs.refusals.refusal_at.Reads as refusal-at-reads
 use mathlib.Core.Path.{sym}
 use lib.Seq.{length-take-le}
 
--- src/main.rt:81:9
 refusal-at-requires : tie.Need-refusal-at-requires
 refusal-at-requires c κs = search needs
 
--- src/main.rt:82:9
 returns : tie.Need-returns
 returns c = search needs
 
--- src/main.rt:86:30
 slice-aggregate-accepted : tie.Need-slice-aggregate-accepted
 slice-aggregate-accepted c = sym (length-take-le _ _ (c .before .if2 .taken))
 
--- src/main.rt:86:9
 accepted-requires : tie.Need-accepted-requires
 accepted-requires c κs = search needs
 
--- src/main.rt:78:1
 returns-2 : tie.Need-returns-2
 returns-2 c = search needs
 
--- src/main.rt:78:1
 returns-3 : tie.Need-returns-3
 returns-3 c = search needs
 

@@ -7,19 +7,15 @@ use Rattle.listing.proofs.listing.Reads as listing-reads
 use mathlib.Core.Path.{sym}
 use lib.Seq.{length-take-le}
 
--- src/main.rt:162:17
 slice-aggregate-listing : tie.Need-slice-aggregate-listing
 slice-aggregate-listing c = sym (length-take-le _ _ (c .before .if1 .taken))
 
--- src/main.rt:162:9
 listing-requires : tie.Need-listing-requires
 listing-requires c κs = search needs
 
--- src/main.rt:160:1
 returns : tie.Need-returns
 returns c = search needs
 
--- src/main.rt:160:1
 returns-2 : tie.Need-returns-2
 returns-2 c = search needs
 

@@ -7,23 +7,18 @@ use Rattle.mizgalon.proofs.numbers.Reads as numbers-reads
 use Rattle.mizgalon.proofs.resolve.Reads as resolve-reads
 use Rattle.mizgalon.proofs.Laws.{laws}
 
--- src/lib.rt:45:9
 resolve-requires : tie.Need-resolve-requires
 resolve-requires c κs = search (laws, needs)
 
--- src/lib.rt:46:15
 numbers-requires : tie.Need-numbers-requires
 numbers-requires c κs = search (laws, needs)
 
--- src/lib.rt:36:1
 same-length : tie.Need-same-length
 same-length c = search (laws, needs)
 
--- src/lib.rt:36:1
 same-length-2 : tie.Need-same-length-2
 same-length-2 c = search (laws, needs)
 
--- src/lib.rt:36:1
 returns : tie.Need-returns
 returns c = search (laws, needs)
 

@@ -8,39 +8,30 @@ use Rattle.resolve_counts.proofs.section_counts.Reads as section-counts-reads
 use Rattle.mizgalon.proofs.resolve.Reads as resolve-reads
 use Rattle.mizgalon.proofs.Laws.{laws}
 
--- src/lib.rt:63:9
 resolve-requires : tie.Need-resolve-requires
 resolve-requires c κs = search (laws, needs)
 
--- src/lib.rt:65:9
 same-length : tie.Need-same-length
 same-length c = search (laws, needs)
 
--- src/lib.rt:65:9
 same-length-2 : tie.Need-same-length-2
 same-length-2 c = search (laws, needs)
 
--- src/lib.rt:65:9
 returns : tie.Need-returns
 returns c = search (laws, needs)
 
--- src/lib.rt:70:9
 section-counts-requires : tie.Need-section-counts-requires
 section-counts-requires c κs = search (laws, needs)
 
--- src/lib.rt:71:9
 check-requires : tie.Need-check-requires
 check-requires c κs = search (laws, needs)
 
--- src/lib.rt:58:1
 same-length-3 : tie.Need-same-length-3
 same-length-3 c = search (laws, needs)
 
--- src/lib.rt:58:1
 same-length-4 : tie.Need-same-length-4
 same-length-4 c = search (laws, needs)
 
--- src/lib.rt:58:1
 returns-2 : tie.Need-returns-2
 returns-2 c = search (laws, needs)
 

@@ -20,7 +20,6 @@ quote-at t = and 1 quote-kinds.ps (is 1 quote-kinds.ps μ-quote t) quote.Pre
 abbrev quote-below : ℕ → In 1 quote-kinds.ps
 quote-below t = and 1 quote-kinds.ps (falls 1 quote-kinds.ps _<_ μ-quote t) quote.Pre
 
--- src/main.rt:91:9
 quote-quote-large-requires : (t : ℕ) → quote-lts.Need-quote-large-requires (
   quote-large-reads.Asked,
   quote-large-reads.Learnt,
@@ -33,7 +32,6 @@ quote-quote-large-requires : (t : ℕ) → quote-lts.Need-quote-large-requires (
 ) (quote-at t) quote.Post
 quote-quote-large-requires t c κs = search needs
 
--- src/main.rt:92:9
 quote-returns : (t : ℕ) → quote-lts.Need-returns (
   quote-large-reads.Asked,
   quote-large-reads.Learnt,
@@ -46,7 +44,6 @@ quote-returns : (t : ℕ) → quote-lts.Need-returns (
 ) (quote-at t) quote.Post
 quote-returns t c = search needs
 
--- src/main.rt:94:8
 quote-quote-usual-requires : (t : ℕ) → quote-lts.Need-quote-usual-requires (
   quote-large-reads.Asked,
   quote-large-reads.Learnt,
@@ -59,7 +56,6 @@ quote-quote-usual-requires : (t : ℕ) → quote-lts.Need-quote-usual-requires (
 ) (quote-at t) quote.Post
 quote-quote-usual-requires t c κs = search needs
 
--- src/main.rt:95:9
 quote-returns-2 : (t : ℕ) → quote-lts.Need-returns-2 (
   quote-large-reads.Asked,
   quote-large-reads.Learnt,
@@ -72,7 +68,6 @@ quote-returns-2 : (t : ℕ) → quote-lts.Need-returns-2 (
 ) (quote-at t) quote.Post
 quote-returns-2 t c = search needs
 
--- src/main.rt:98:27
 quote-sub-quote : (t : ℕ) → quote-lts.Need-sub-quote (
   quote-large-reads.Asked,
   quote-large-reads.Learnt,
@@ -85,7 +80,6 @@ quote-sub-quote : (t : ℕ) → quote-lts.Need-sub-quote (
 ) (quote-at t) quote.Post
 quote-sub-quote t c = search needs
 
--- src/main.rt:98:9
 quote-quote-requires : (t : ℕ) → quote-lts.Need-quote-requires (
   quote-large-reads.Asked,
   quote-large-reads.Learnt,
@@ -98,7 +92,6 @@ quote-quote-requires : (t : ℕ) → quote-lts.Need-quote-requires (
 ) (quote-at t) quote.Post
 quote-quote-requires t c κs = search needs
 
--- src/main.rt:99:9
 quote-returns-3 : (t : ℕ) → quote-lts.Need-returns-3 (
   quote-large-reads.Asked,
   quote-large-reads.Learnt,
@@ -111,7 +104,6 @@ quote-returns-3 : (t : ℕ) → quote-lts.Need-returns-3 (
 ) (quote-at t) quote.Post
 quote-returns-3 t c = search needs
 
--- src/main.rt:101:9
 quote-slice-aggregate-say : (t : ℕ) → quote-lts.Need-slice-aggregate-say (
   quote-large-reads.Asked,
   quote-large-reads.Learnt,
@@ -124,7 +116,6 @@ quote-slice-aggregate-say : (t : ℕ) → quote-lts.Need-slice-aggregate-say (
 ) (quote-at t) quote.Post
 quote-slice-aggregate-say t c = search needs
 
--- src/main.rt:101:5
 quote-say-requires : (t : ℕ) → quote-lts.Need-say-requires (
   quote-large-reads.Asked,
   quote-large-reads.Learnt,
@@ -137,7 +128,6 @@ quote-say-requires : (t : ℕ) → quote-lts.Need-say-requires (
 ) (quote-at t) quote.Post
 quote-say-requires t c κs = search needs
 
--- src/main.rt:89:1
 quote-returns-4 : (t : ℕ) → quote-lts.Need-returns-4 (
   quote-large-reads.Asked,
   quote-large-reads.Learnt,

@@ -12,27 +12,21 @@ Inv-loop list n i₀ i = i ≤ n
 abbrev μ-loop : tie.MeasureT-loop
 μ-loop list n i₀ i = n - i
 
--- src/main.rt:31:5
 loop-holds : tie.Need-loop-holds Inv-loop μ-loop
 loop-holds c = search needs
 
--- src/main.rt:32:9
 print-action-requires : tie.Need-print-action-requires Inv-loop μ-loop
 print-action-requires c κs = search needs
 
--- src/main.rt:31:9
 add-i : tie.Need-add-i Inv-loop μ-loop
 add-i c = search needs
 
--- src/main.rt:31:5
 loop-less : tie.Need-loop-less Inv-loop μ-loop
 loop-less c = search needs
 
--- src/main.rt:31:5
 loop-again : tie.Need-loop-again Inv-loop μ-loop
 loop-again c = search needs
 
--- src/main.rt:30:1
 returns : tie.Need-returns Inv-loop μ-loop
 returns c = search needs
 

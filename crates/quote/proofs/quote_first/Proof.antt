@@ -7,19 +7,15 @@ use Rattle.quote.proofs.quote.Reads as quote-reads
 use mathlib.Core.Path.{sym}
 use lib.Seq.{length-take-le}
 
--- src/main.rt:107:15
 slice-aggregate-quote : tie.Need-slice-aggregate-quote
 slice-aggregate-quote c = sym (length-take-le _ _ (c .before .if1 .taken))
 
--- src/main.rt:107:9
 quote-requires : tie.Need-quote-requires
 quote-requires c κs = search needs
 
--- src/main.rt:105:1
 returns : tie.Need-returns
 returns c = search needs
 
--- src/main.rt:105:1
 returns-2 : tie.Need-returns-2
 returns-2 c = search needs
 

@@ -7,27 +7,21 @@ use Rattle.resolve_counts.proofs.front_counts.Reads as front-counts-rea
 use Rattle.file_blocks.proofs.blocks.join.Reads as join-reads
 use Rattle.resolve_counts.proofs.Laws.{laws}
 
--- src/lib.rt:60:33
 slice-aggregate-join : tie.Need-slice-aggregate-join
 slice-aggregate-join c = search (laws, needs)
 
--- src/lib.rt:60:5
 join-requires : tie.Need-join-requires
 join-requires c κs = search (laws, needs)
 
--- src/lib.rt:61:13
 mul-n : tie.Need-mul-n
 mul-n c = search (laws, needs)
 
--- src/lib.rt:62:18
 slice-aggregate-front-counts : tie.Need-slice-aggregate-front-counts
 slice-aggregate-front-counts c = search (laws, needs)
 
--- src/lib.rt:62:5
 front-counts-requires : tie.Need-front-counts-requires
 front-counts-requires c κs = search (laws, needs)
 
--- src/lib.rt:55:1
 returns : tie.Need-returns
 returns c = search (laws, needs)
 

@@ -7,15 +7,12 @@ use Rattle.resolve_counts.proofs.stream_counts.Reads as stream-counts-r
 use mathlib.Core.Path.{sym}
 use lib.Seq.{length-take-le}
 
--- src/lib.rt:51:19
 slice-aggregate-stream-counts : tie.Need-slice-aggregate-stream-counts
 slice-aggregate-stream-counts c = sym (length-take-le _ _ (c .before .before .pre))
 
--- src/lib.rt:51:5
 stream-counts-requires : tie.Need-stream-counts-requires
 stream-counts-requires c κs = search needs
 
--- src/lib.rt:47:1
 returns : tie.Need-returns
 returns c = search needs
 

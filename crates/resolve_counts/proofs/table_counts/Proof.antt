@@ -7,15 +7,12 @@ use Rattle.access.proofs.u16_at.Reads as u16-at-reads
 use Rattle.resolve_file.proofs.pointer_size.Reads as pointer-size-reads
 use Rattle.resolve_counts.proofs.Laws.{laws}
 
--- src/lib.rt:20:9
 u16-at-requires : tie.Need-u16-at-requires
 u16-at-requires c κs = search (laws, needs)
 
--- src/lib.rt:21:9
 pointer-size-requires : tie.Need-pointer-size-requires
 pointer-size-requires c κs = search (laws, needs)
 
--- src/lib.rt:17:1
 returns : tie.Need-returns
 returns c = search (laws, needs)
 

@@ -7,15 +7,12 @@ use Rattle.list_values.proofs.value.absent.Reads as absent-reads
 use Rattle.list_values.proofs.value.place.Reads as place-reads
 use Rattle.resolve_file.proofs.FileLaws.{file-laws}
 
--- src/lib.rt:42:18
 place-requires : tie.Need-place-requires
 place-requires c κs = search (file-laws, needs)
 
--- src/lib.rt:56:16
 absent-requires : tie.Need-absent-requires
 absent-requires c κs = search (file-laws, needs)
 
--- src/lib.rt:37:1
 returns : tie.Need-returns
 returns c = search (file-laws, needs)
 

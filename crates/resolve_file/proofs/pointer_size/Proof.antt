@@ -7,31 +7,24 @@ use Rattle.access.proofs.u16_at.Reads as u16-at-reads
 use Rattle.list_values.proofs.sizes.entry.Reads as entry-reads
 use Rattle.resolve_file.proofs.FileLaws.{file-laws}
 
--- src/lib.rt:29:9
 u16-at-requires : tie.Need-u16-at-requires
 u16-at-requires c κs = search (file-laws, needs)
 
--- src/lib.rt:31:9
 returns : tie.Need-returns
 returns c = search (file-laws, needs)
 
--- src/lib.rt:33:48
 mul-entry : tie.Need-mul-entry
 mul-entry c = search (file-laws, needs)
 
--- src/lib.rt:33:48
 add-entry : tie.Need-add-entry
 add-entry c = search (file-laws, needs)
 
--- src/lib.rt:33:22
 entry-requires : tie.Need-entry-requires
 entry-requires c κs = search (file-laws, needs)
 
--- src/lib.rt:33:5
 u16-at-requires-2 : tie.Need-u16-at-requires-2
 u16-at-requires-2 c κs = search (file-laws, needs)
 
--- src/lib.rt:26:1
 returns-2 : tie.Need-returns-2
 returns-2 c = search (file-laws, needs)
 

@@ -7,35 +7,27 @@ use Rattle.resolve_file.proofs.resolve_front.Reads as resolve-front-rea
 use Rattle.file_blocks.proofs.blocks.join.Reads as join-reads
 use Rattle.resolve_file.proofs.FileLaws.{file-laws}
 
--- src/lib.rt:125:33
 slice-aggregate-join : tie.Need-slice-aggregate-join
 slice-aggregate-join c = search needs
 
--- src/lib.rt:125:5
 join-requires : tie.Need-join-requires
 join-requires c κs = search needs
 
--- src/lib.rt:126:13
 mul-n : tie.Need-mul-n
 mul-n c = search needs
 
--- src/lib.rt:127:19
 slice-aggregate-resolve-front : tie.Need-slice-aggregate-resolve-front
 slice-aggregate-resolve-front c = search needs
 
--- src/lib.rt:127:5
 resolve-front-requires : tie.Need-resolve-front-requires
 resolve-front-requires c κs = search needs
 
--- src/lib.rt:120:1
 same-length : tie.Need-same-length
 same-length c = search needs
 
--- src/lib.rt:120:1
 same-length-2 : tie.Need-same-length-2
 same-length-2 c = search needs
 
--- src/lib.rt:120:1
 returns : tie.Need-returns
 returns c = search (file-laws, needs)
 

@@ -7,23 +7,18 @@ use Rattle.resolve_file.proofs.resolve_stream.Reads as resolve-stream-r
 use mathlib.Core.Path.{sym}
 use lib.Seq.{length-take-le}
 
--- src/lib.rt:116:20
 slice-aggregate-resolve-stream : tie.Need-slice-aggregate-resolve-stream
 slice-aggregate-resolve-stream c = sym (length-take-le _ _ (c .before .before .before .before .pre))
 
--- src/lib.rt:116:5
 resolve-stream-requires : tie.Need-resolve-stream-requires
 resolve-stream-requires c κs = search needs
 
--- src/lib.rt:112:1
 same-length : tie.Need-same-length
 same-length c = search needs
 
--- src/lib.rt:112:1
 same-length-2 : tie.Need-same-length-2
 same-length-2 c = search needs
 
--- src/lib.rt:112:1
 returns : tie.Need-returns
 returns c = search needs
 

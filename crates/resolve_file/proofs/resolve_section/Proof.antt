@@ -10,71 +10,54 @@ use Rattle.resolve_file.proofs.pointer_size.Reads as pointer-size-reads
 use Rattle.resolve_file.proofs.walk_section.Reads as walk-section-reads
 use Rattle.resolve_file.proofs.FileLaws.{file-laws, section-next}
 
--- src/lib.rt:89:21
 u16-at-requires : tie.Need-u16-at-requires
 u16-at-requires c κs = search needs
 
--- src/lib.rt:91:9
 refused-requires : tie.Need-refused-requires
 refused-requires c κs = search needs
 
--- src/lib.rt:91:9
 same-length : tie.Need-same-length
 same-length c = search needs
 
--- src/lib.rt:91:9
 same-length-2 : tie.Need-same-length-2
 same-length-2 c = search needs
 
--- src/lib.rt:91:9
 returns : tie.Need-returns
 returns c = search (file-laws, needs)
 
--- src/lib.rt:93:9
 pointer-size-requires : tie.Need-pointer-size-requires
 pointer-size-requires c κs = search needs
 
--- src/lib.rt:94:11
 walk-section-requires : tie.Need-walk-section-requires
 walk-section-requires c κs = search needs
 
--- src/lib.rt:95:22
 enum-known-refusal : tie.Need-enum-known-refusal
 enum-known-refusal c = search needs
 
--- src/lib.rt:95:44
 refused-requires-2 : tie.Need-refused-requires-2
 refused-requires-2 c κs = search needs
 
--- src/lib.rt:96:31
 enum-known-w : tie.Need-enum-known-w
 enum-known-w c = search needs
 
--- src/lib.rt:96:38
 finish-requires : tie.Need-finish-requires
 finish-requires c κs = search needs
 
--- src/lib.rt:86:1
 same-length-3 : tie.Need-same-length-3
 same-length-3 c = search needs
 
--- src/lib.rt:86:1
 same-length-4 : tie.Need-same-length-4
 same-length-4 c = search needs
 
--- src/lib.rt:86:1
 returns-2 : tie.Need-returns-2
 returns-2 c = search (file-laws, needs)
 
--- src/lib.rt:86:1
 same-length-5 : tie.Need-same-length-5
 same-length-5 c = search needs
 
--- src/lib.rt:86:1
 same-length-6 : tie.Need-same-length-6
 same-length-6 c = search needs
 
--- src/lib.rt:86:1
 returns-3 : tie.Need-returns-3
 returns-3 c = section-next _ _ _ _ _ (c .before .before .before .before .before .before .before .before .before .before .before .before .before .before .before .before .before .before .before .u16-at .ensures) _ _ _ _ _ _ _ (c .before .before .before .before .before .before .before .before .before .before .before .before .before .before .before .before .before .before .if1 .left) (c .before .before .before .before .before .before .before .before .before .before .before .before .before .before .before .before .before .pointer-size .ensures) (c .before .before .before .before .before .before .before .before .before .before .before .before .before .before .walk-section .ensures) (c .before .before .before .before .before .before .before .before .w .given .0 .0) (c .before .before .before .before .before .before .before .before .w .given .0 .1 .0) (search needs) (c .before .before .before .before .finish .ensures)
 

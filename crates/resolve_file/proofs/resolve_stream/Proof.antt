@@ -8,39 +8,30 @@ use Rattle.resolve_file.proofs.resolve_section.Reads as resolve-section
 use Rattle.file_section.proofs.read_stream.Reads as read-stream-reads
 use Rattle.resolve_file.proofs.FileLaws.{file-laws}
 
--- src/lib.rt:111:9
 read-stream-requires : tie.Need-read-stream-requires
 read-stream-requires c κs = search needs
 
--- src/lib.rt:113:9
 refused-requires : tie.Need-refused-requires
 refused-requires c κs = search needs
 
--- src/lib.rt:113:9
 same-length : tie.Need-same-length
 same-length c = search needs
 
--- src/lib.rt:113:9
 same-length-2 : tie.Need-same-length-2
 same-length-2 c = search needs
 
--- src/lib.rt:113:9
 returns : tie.Need-returns
 returns c = search (file-laws, needs)
 
--- src/lib.rt:115:5
 resolve-section-requires : tie.Need-resolve-section-requires
 resolve-section-requires c κs = search needs
 
--- src/lib.rt:107:1
 same-length-3 : tie.Need-same-length-3
 same-length-3 c = search needs
 
--- src/lib.rt:107:1
 same-length-4 : tie.Need-same-length-4
 same-length-4 c = search needs
 
--- src/lib.rt:107:1
 returns-2 : tie.Need-returns-2
 returns-2 c = search (file-laws, needs)
 

@@ -9,55 +9,42 @@ use Rattle.resolve_file.proofs.resolve_front.Reads as resolve-front-rea
 use Rattle.file_blocks.proofs.blocks.check_blocks.Reads as check-blocks-reads
 use Rattle.resolve_file.proofs.FileLaws.{file-laws}
 
--- src/lib.rt:133:9
 check-blocks-requires : tie.Need-check-blocks-requires
 check-blocks-requires c κs = search needs
 
--- src/lib.rt:135:9
 refused-requires : tie.Need-refused-requires
 refused-requires c κs = search needs
 
--- src/lib.rt:135:9
 same-length : tie.Need-same-length
 same-length c = search needs
 
--- src/lib.rt:135:9
 same-length-2 : tie.Need-same-length-2
 same-length-2 c = search needs
 
--- src/lib.rt:135:9
 returns : tie.Need-returns
 returns c = search (file-laws, needs)
 
--- src/lib.rt:138:9
 resolve-front-requires : tie.Need-resolve-front-requires
 resolve-front-requires c κs = search needs
 
--- src/lib.rt:138:9
 same-length-3 : tie.Need-same-length-3
 same-length-3 c = search needs
 
--- src/lib.rt:138:9
 same-length-4 : tie.Need-same-length-4
 same-length-4 c = search needs
 
--- src/lib.rt:138:9
 returns-2 : tie.Need-returns-2
 returns-2 c = search (file-laws, needs)
 
--- src/lib.rt:140:5
 resolve-blocks-requires : tie.Need-resolve-blocks-requires
 resolve-blocks-requires c κs = search (file-laws, needs)
 
--- src/lib.rt:130:1
 same-length-5 : tie.Need-same-length-5
 same-length-5 c = search needs
 
--- src/lib.rt:130:1
 same-length-6 : tie.Need-same-length-6
 same-length-6 c = search needs
 
--- src/lib.rt:130:1
 returns-3 : tie.Need-returns-3
 returns-3 c = search (file-laws, needs)
 

@@ -17,39 +17,30 @@ Inv-loop «data» n counts₀ at₀ i₀ counts at i = (i ≤ n) × (length coun
 abbrev μ-loop : tie.MeasureT-loop
 μ-loop «data» n counts₀ at₀ i₀ counts at i = n - i
 
--- src/main.rt:314:5
 loop-holds : tie.Need-loop-holds Inv-loop μ-loop
 loop-holds c = search needs
 
--- src/main.rt:315:13
 case-at-requires : tie.Need-case-at-requires Inv-loop μ-loop
 case-at-requires c κs = search needs
 
--- src/main.rt:316:23
 short-word-requires : tie.Need-short-word-requires Inv-loop μ-loop
 short-word-requires c κs = search needs
 
--- src/main.rt:316:9
 tally-requires : tie.Need-tally-requires Inv-loop μ-loop
 tally-requires c κs = search needs
 
--- src/main.rt:314:9
 add-i : tie.Need-add-i Inv-loop μ-loop
 add-i c = search needs
 
--- src/main.rt:314:5
 loop-less : tie.Need-loop-less Inv-loop μ-loop
 loop-less c = search needs
 
--- src/main.rt:314:5
 loop-again : tie.Need-loop-again Inv-loop μ-loop
 loop-again c = search needs
 
--- src/main.rt:312:1
 same-length : tie.Need-same-length Inv-loop μ-loop
 same-length c = search needs
 
--- src/main.rt:312:1
 returns : tie.Need-returns Inv-loop μ-loop
 returns c = search needs
 

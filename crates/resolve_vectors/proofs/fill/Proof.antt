@@ -14,35 +14,27 @@ Inv-loop list₀ i₀ i-end list i = (i ≤ i-end) × (i-end ≡ length list)
 abbrev μ-loop : tie.MeasureT-loop
 μ-loop list₀ i₀ i-end list i = i-end - i
 
--- src/main.rt:151:5
 loop-holds : tie.Need-loop-holds Inv-loop μ-loop
 loop-holds c = search needs
 
--- src/main.rt:152:9
 mul-list : tie.Need-mul-list Inv-loop μ-loop
 mul-list c = search needs
 
--- src/main.rt:152:9
 slice-write-list : tie.Need-slice-write-list Inv-loop μ-loop
 slice-write-list c = search needs
 
--- src/main.rt:151:9
 add-i : tie.Need-add-i Inv-loop μ-loop
 add-i c = search needs
 
--- src/main.rt:151:5
 loop-less : tie.Need-loop-less Inv-loop μ-loop
 loop-less c = search needs
 
--- src/main.rt:151:5
 loop-again : tie.Need-loop-again Inv-loop μ-loop
 loop-again c = search needs
 
--- src/main.rt:150:1
 same-length : tie.Need-same-length Inv-loop μ-loop
 same-length c = search needs
 
--- src/main.rt:150:1
 returns : tie.Need-returns Inv-loop μ-loop
 returns c = search needs
 

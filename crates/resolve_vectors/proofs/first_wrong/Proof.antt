@@ -16,43 +16,33 @@ Inv-loop «data» at n words at₀ i₀ i-end at' i = (i ≤ i-end) × (i-end �
 abbrev μ-loop : tie.MeasureT-loop
 μ-loop «data» at n words at₀ i₀ i-end at' i = i-end - i
 
--- src/main.rt:176:5
 loop-holds : tie.Need-loop-holds Inv-loop μ-loop
 loop-holds c = search needs
 
--- src/main.rt:177:12
 mul-if1 : tie.Need-mul-if1 Inv-loop μ-loop
 mul-if1 c = search needs
 
--- src/main.rt:177:12
 shared-slice-read-if1 : tie.Need-shared-slice-read-if1 Inv-loop μ-loop
 shared-slice-read-if1 c = search needs
 
--- src/main.rt:177:24
 right-word-requires : tie.Need-right-word-requires Inv-loop μ-loop
 right-word-requires c κs = search needs
 
--- src/main.rt:178:13
 returns : tie.Need-returns Inv-loop μ-loop
 returns c = search needs
 
--- src/main.rt:180:9
 after-word-requires : tie.Need-after-word-requires Inv-loop μ-loop
 after-word-requires c κs = search needs
 
--- src/main.rt:176:9
 add-i : tie.Need-add-i Inv-loop μ-loop
 add-i c = search needs
 
--- src/main.rt:176:5
 loop-less : tie.Need-loop-less Inv-loop μ-loop
 loop-less c = search needs
 
--- src/main.rt:176:5
 loop-again : tie.Need-loop-again Inv-loop μ-loop
 loop-again c = search needs
 
--- src/main.rt:174:1
 returns-2 : tie.Need-returns-2 Inv-loop μ-loop
 returns-2 c = search needs
 

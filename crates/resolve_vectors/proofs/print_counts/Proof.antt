@@ -16,51 +16,39 @@ Inv-loop counts i₀ t4 i-end i = (i ≤ i-end) × (i-end ≡ length counts)
 abbrev μ-loop : tie.MeasureT-loop
 μ-loop counts i₀ t4 i-end i = i-end - i
 
--- src/main.rt:331:9
 slice-aggregate-say : tie.Need-slice-aggregate-say Inv-loop μ-loop
 slice-aggregate-say c = search needs
 
--- src/main.rt:331:5
 say-requires : tie.Need-say-requires Inv-loop μ-loop
 say-requires c κs = search needs
 
--- src/main.rt:332:5
 loop-holds : tie.Need-loop-holds Inv-loop μ-loop
 loop-holds c = search needs
 
--- src/main.rt:333:24
 mul-print-count : tie.Need-mul-print-count Inv-loop μ-loop
 mul-print-count c = search needs
 
--- src/main.rt:333:24
 shared-slice-read-print-count : tie.Need-shared-slice-read-print-count Inv-loop μ-loop
 shared-slice-read-print-count c = search needs
 
--- src/main.rt:333:9
 print-count-requires : tie.Need-print-count-requires Inv-loop μ-loop
 print-count-requires c κs = search needs
 
--- src/main.rt:332:9
 add-i : tie.Need-add-i Inv-loop μ-loop
 add-i c = search needs
 
--- src/main.rt:332:5
 loop-less : tie.Need-loop-less Inv-loop μ-loop
 loop-less c = search needs
 
--- src/main.rt:332:5
 loop-again : tie.Need-loop-again Inv-loop μ-loop
 loop-again c = search needs
 
--- src/main.rt:335:9
 slice-aggregate-say-2 : tie.Need-slice-aggregate-say-2 Inv-loop μ-loop
 slice-aggregate-say-2 c = search needs
 
--- src/main.rt:335:5
 say-requires-2 : tie.Need-say-requires-2 Inv-loop μ-loop
 say-requires-2 c κs = search needs
 
--- src/main.rt:330:1
 returns : tie.Need-returns Inv-loop μ-loop
 returns c = search needs
 

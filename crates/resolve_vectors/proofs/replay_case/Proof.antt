@@ -9,83 +9,63 @@ use native.Mathlib.Omega.{arith}
 use mathlib.Core.Path.{sym}
 use lib.Seq.{length-take-le}
 
--- src/main.rt:260:9
 is-well-formed-requires : tie.Need-is-well-formed-requires
 is-well-formed-requires c κs = search needs
 
--- src/main.rt:261:9
 returns : tie.Need-returns
 returns c = search needs
 
--- src/main.rt:264:9
 returns-2 : tie.Need-returns-2
 returns-2 c = search needs
 
--- src/main.rt:267:9
 returns-3 : tie.Need-returns-3
 returns-3 c = search needs
 
--- src/main.rt:270:9
 returns-4 : tie.Need-returns-4
 returns-4 c = search needs
 
--- src/main.rt:276:9
 slice-relend-prefix-replay-lent : tie.Need-slice-relend-prefix-replay-lent
 slice-relend-prefix-replay-lent c = search needs
 
--- src/main.rt:276:9
 slice-aggregate-replay-lent : tie.Need-slice-aggregate-replay-lent
 slice-aggregate-replay-lent c = sym (length-take-le _ _ (omega arith))
 
--- src/main.rt:277:9
 slice-relend-prefix-replay-lent-2 : tie.Need-slice-relend-prefix-replay-lent-2
 slice-relend-prefix-replay-lent-2 c = search needs
 
--- src/main.rt:277:9
 slice-aggregate-replay-lent-2 : tie.Need-slice-aggregate-replay-lent-2
 slice-aggregate-replay-lent-2 c = sym (length-take-le _ _ (omega arith))
 
--- src/main.rt:278:9
 slice-relend-prefix-replay-lent-3 : tie.Need-slice-relend-prefix-replay-lent-3
 slice-relend-prefix-replay-lent-3 c = search needs
 
--- src/main.rt:278:9
 slice-aggregate-replay-lent-3 : tie.Need-slice-aggregate-replay-lent-3
 slice-aggregate-replay-lent-3 c = sym (length-take-le _ _ (omega arith))
 
--- src/main.rt:272:8
 replay-lent-requires : tie.Need-replay-lent-requires
 replay-lent-requires c κs = search needs
 
--- src/main.rt:280:9
 same-length : tie.Need-same-length
 same-length c = search needs
 
--- src/main.rt:280:9
 same-length-2 : tie.Need-same-length-2
 same-length-2 c = search needs
 
--- src/main.rt:280:9
 same-length-3 : tie.Need-same-length-3
 same-length-3 c = search needs
 
--- src/main.rt:280:9
 returns-5 : tie.Need-returns-5
 returns-5 c = search needs
 
--- src/main.rt:249:1
 same-length-4 : tie.Need-same-length-4
 same-length-4 c = search needs
 
--- src/main.rt:249:1
 same-length-5 : tie.Need-same-length-5
 same-length-5 c = search needs
 
--- src/main.rt:249:1
 same-length-6 : tie.Need-same-length-6
 same-length-6 c = search needs
 
--- src/main.rt:249:1
 returns-6 : tie.Need-returns-6
 returns-6 c = search needs
 

@@ -7,19 +7,15 @@ use Rattle.resolve_vectors.proofs.replay_with.Reads as replay-with-read
 use mathlib.Core.Path.{sym}
 use lib.Seq.{length-take-le}
 
--- src/main.rt:384:21
 slice-aggregate-replay-with : tie.Need-slice-aggregate-replay-with
 slice-aggregate-replay-with c = sym (length-take-le _ _ (c .before .if1 .taken))
 
--- src/main.rt:384:9
 replay-with-requires : tie.Need-replay-with-requires
 replay-with-requires c κs = search needs
 
--- src/main.rt:379:1
 returns : tie.Need-returns
 returns c = search needs
 
--- src/main.rt:379:1
 returns-2 : tie.Need-returns-2
 returns-2 c = search needs
 

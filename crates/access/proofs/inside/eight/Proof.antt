@@ -6,27 +6,21 @@ use Rattle.access.proofs.inside.eight.Lts as lts
 use Rattle.access.proofs.inside.four.Reads as four-reads
 use Rattle.access.specs.Le.{le64}
 
--- src/inside.rt:26:5
 four-requires : tie.Need-four-requires
 four-requires c κs = search needs
 
--- src/inside.rt:26:39
 add-four : tie.Need-add-four
 add-four c = search needs
 
--- src/inside.rt:26:31
 four-requires-2 : tie.Need-four-requires-2
 four-requires-2 c κs = search needs
 
--- src/inside.rt:26:18
 mul-result : tie.Need-mul-result
 mul-result c = search needs
 
--- src/inside.rt:26:5
 add-result : tie.Need-add-result
 add-result c = search needs
 
--- src/inside.rt:22:1
 returns : tie.Need-returns
 unfolding le64
 returns c = search needs

@@ -8,35 +8,27 @@ use Prim.Native.Nat.{_+_}
 use mathlib.Core.Path.{refl}
 use Rattle.access.specs.Le.{le16}
 
--- src/inside.rt:12:5
 shared-slice-read-result : tie.Need-shared-slice-read-result
 shared-slice-read-result c = search needs
 
--- src/inside.rt:12:5
 cast-result : tie.Need-cast-result
 cast-result c = omega (arith, c .shared-slice-known .given (c .before .args .index))
 
--- src/inside.rt:12:28
 add-result : tie.Need-add-result
 add-result c = search needs
 
--- src/inside.rt:12:26
 shared-slice-read-result-2 : tie.Need-shared-slice-read-result-2
 shared-slice-read-result-2 c = search needs
 
--- src/inside.rt:12:26
 cast-result-2 : tie.Need-cast-result-2
 cast-result-2 c = omega (arith, c .shared-slice-known2 .given (c .before .before .args .index + 1))
 
--- src/inside.rt:12:19
 mul-result : tie.Need-mul-result
 mul-result c = omega (arith, c .shared-slice-known2 .given (c .before .before .args .index + 1))
 
--- src/inside.rt:12:5
 add-result-2 : tie.Need-add-result-2
 add-result-2 c = omega (arith, c .before .shared-slice-known .given (c .before .before .args .index), c .shared-slice-known2 .given (c .before .before .args .index + 1))
 
--- src/inside.rt:8:1
 returns : tie.Need-returns
 unfolding le16
 returns c = (refl, omega (arith, c .before .shared-slice-known .given (c .before .before .args .index), c .shared-slice-known2 .given (c .before .before .args .index + 1)))

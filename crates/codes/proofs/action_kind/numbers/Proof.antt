@@ -7,7 +7,6 @@ use mathlib.Core.Path.{refl}
 use Rattle.definition.specs.ActionList.{actionKindNumber}
 use Rattle.codes.specs.Lists.{actionKinds}
 
--- src/action_kind.rt:15:1
 returns : tie.Need-returns
 unfolding actionKindNumber actionKinds
 returns c = refl

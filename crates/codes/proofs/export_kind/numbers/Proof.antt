@@ -7,7 +7,6 @@ use mathlib.Core.Path.{refl}
 use Rattle.definition.specs.ActionList.{exportNumber}
 use Rattle.codes.specs.Lists.{exportKinds}
 
--- src/export_kind.rt:12:1
 returns : tie.Need-returns
 unfolding exportNumber exportKinds
 returns c = refl

@@ -7,7 +7,6 @@ use mathlib.Core.Path.{refl}
 use Rattle.definition.specs.Operations.{operationNumber}
 use Rattle.codes.specs.Lists.{operations}
 
--- src/operation.rt:70:1
 returns : tie.Need-returns
 unfolding operationNumber operations
 returns c = refl

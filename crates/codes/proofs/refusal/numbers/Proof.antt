@@ -7,7 +7,6 @@ use mathlib.Core.Path.{refl}
 use Rattle.definition.specs.Refusals.{refusalNumber}
 use Rattle.codes.specs.Lists.{refusals}
 
--- src/refusal.rt:45:1
 returns : tie.Need-returns
 unfolding refusalNumber refusals
 returns c = refl

@@ -7,7 +7,6 @@ use mathlib.Core.Path.{refl}
 use Rattle.definition.specs.Scope.{symbolNumber}
 use Rattle.codes.specs.Lists.{symbolKinds}
 
--- src/symbol_kind.rt:16:1
 returns : tie.Need-returns
 unfolding symbolNumber symbolKinds
 returns c = refl

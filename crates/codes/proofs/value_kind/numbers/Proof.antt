@@ -7,7 +7,6 @@ use mathlib.Core.Path.{refl}
 use Rattle.definition.specs.Value.{kindNumber}
 use Rattle.codes.specs.Lists.{valueKinds}
 
--- src/value_kind.rt:17:1
 returns : tie.Need-returns
 unfolding kindNumber valueKinds
 returns c = refl

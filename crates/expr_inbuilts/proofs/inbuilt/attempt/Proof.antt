@@ -6,15 +6,12 @@ use Rattle.expr_inbuilts.proofs.inbuilt.attempt.Lts as lts
 use Rattle.expr_inbuilts.proofs.inbuilt.same.Reads as same-reads
 use Rattle.expr_inbuilts.proofs.InbuiltLaws.{inbuilt-laws}
 
--- src/inbuilt.rt:21:8
 same-requires : tie.Need-same-requires
 same-requires c κs = search (inbuilt-laws, needs)
 
--- src/inbuilt.rt:22:9
 returns : tie.Need-returns
 returns c = search (inbuilt-laws, needs)
 
--- src/inbuilt.rt:18:1
 returns-2 : tie.Need-returns-2
 returns-2 c = search (inbuilt-laws, needs)
 

@@ -7,31 +7,24 @@ use Rattle.expr_inbuilts.proofs.inbuilt.attempt.Reads as attempt-reads
 use mathlib.Core.Path.{_∙_, ap}
 use Rattle.expr_inbuilts.specs.Inbuilts.{attempt, carries}
 
--- src/inbuilt.rt:39:24
 slice-aggregate-attempt : tie.Need-slice-aggregate-attempt
 slice-aggregate-attempt c = search needs
 
--- src/inbuilt.rt:39:9
 attempt-requires : tie.Need-attempt-requires
 attempt-requires c κs = search needs
 
--- src/inbuilt.rt:40:24
 slice-aggregate-attempt-2 : tie.Need-slice-aggregate-attempt-2
 slice-aggregate-attempt-2 c = search needs
 
--- src/inbuilt.rt:40:9
 attempt-requires-2 : tie.Need-attempt-requires-2
 attempt-requires-2 c κs = search needs
 
--- src/inbuilt.rt:41:16
 slice-aggregate-attempt-3 : tie.Need-slice-aggregate-attempt-3
 slice-aggregate-attempt-3 c = search needs
 
--- src/inbuilt.rt:41:5
 attempt-requires-3 : tie.Need-attempt-requires-3
 attempt-requires-3 c κs = search needs
 
--- src/inbuilt.rt:36:1
 returns : tie.Need-returns
 unfolding carries
 returns c = c .attempt3 .ensures ∙ ap (attempt _ _ _ _) (c .before .before .attempt2 .ensures ∙ ap (attempt _ _ _ _) (c .before .before .before .before .attempt .ensures))

@@ -10,27 +10,21 @@ use Rattle.expr_inbuilts.proofs.inbuilt.logical.Reads as logical-reads
 use Rattle.expr_inbuilts.proofs.inbuilt.roundings.Reads as roundings-reads
 use Rattle.expr_inbuilts.proofs.InbuiltLaws.{inbuilt-laws}
 
--- src/inbuilt.rt:84:47
 conversions-requires : tie.Need-conversions-requires
 conversions-requires c κs = search (inbuilt-laws, needs)
 
--- src/inbuilt.rt:84:34
 roundings-requires : tie.Need-roundings-requires
 roundings-requires c κs = search (inbuilt-laws, needs)
 
--- src/inbuilt.rt:84:20
 extensions-requires : tie.Need-extensions-requires
 extensions-requires c κs = search (inbuilt-laws, needs)
 
--- src/inbuilt.rt:84:9
 carries-requires : tie.Need-carries-requires
 carries-requires c κs = search (inbuilt-laws, needs)
 
--- src/inbuilt.rt:82:5
 logical-requires : tie.Need-logical-requires
 logical-requires c κs = search (inbuilt-laws, needs)
 
--- src/inbuilt.rt:75:1
 returns : tie.Need-returns
 returns c = search (inbuilt-laws, needs)
 

@@ -7,39 +7,30 @@ use Rattle.expr_inbuilts.proofs.inbuilt.attempt.Reads as attempt-reads
 use mathlib.Core.Path.{_∙_, ap}
 use Rattle.expr_inbuilts.specs.Inbuilts.{attempt, logical}
 
--- src/inbuilt.rt:30:24
 slice-aggregate-attempt : tie.Need-slice-aggregate-attempt
 slice-aggregate-attempt c = search needs
 
--- src/inbuilt.rt:30:9
 attempt-requires : tie.Need-attempt-requires
 attempt-requires c κs = search needs
 
--- src/inbuilt.rt:31:24
 slice-aggregate-attempt-2 : tie.Need-slice-aggregate-attempt-2
 slice-aggregate-attempt-2 c = search needs
 
--- src/inbuilt.rt:31:9
 attempt-requires-2 : tie.Need-attempt-requires-2
 attempt-requires-2 c κs = search needs
 
--- src/inbuilt.rt:32:24
 slice-aggregate-attempt-3 : tie.Need-slice-aggregate-attempt-3
 slice-aggregate-attempt-3 c = search needs
 
--- src/inbuilt.rt:32:9
 attempt-requires-3 : tie.Need-attempt-requires-3
 attempt-requires-3 c κs = search needs
 
--- src/inbuilt.rt:33:16
 slice-aggregate-attempt-4 : tie.Need-slice-aggregate-attempt-4
 slice-aggregate-attempt-4 c = search needs
 
--- src/inbuilt.rt:33:5
 attempt-requires-4 : tie.Need-attempt-requires-4
 attempt-requires-4 c κs = search needs
 
--- src/inbuilt.rt:27:1
 returns : tie.Need-returns
 unfolding logical
 returns c = c .attempt4 .ensures ∙ ap (attempt _ _ _ _) (c .before .before .attempt3 .ensures ∙ ap (attempt _ _ _ _) (c .before .before .before .before .attempt2 .ensures ∙ ap (attempt _ _ _ _) (c .before .before .before .before .before .before .attempt .ensures)))

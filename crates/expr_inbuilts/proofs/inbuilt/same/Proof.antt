@@ -6,11 +6,9 @@ use Rattle.expr_inbuilts.proofs.inbuilt.same.Lts as lts
 use Rattle.check.proofs.same.Reads as same-reads
 use Rattle.expr_inbuilts.proofs.InbuiltLaws.{same-law}
 
--- src/inbuilt.rt:15:5
 same-requires : tie.Need-same-requires
 same-requires c κs = search needs
 
--- src/inbuilt.rt:12:1
 returns : tie.Need-returns
 returns c = same-law _ _ _ (c .same .ensures .0) (c .same .ensures .1)
 

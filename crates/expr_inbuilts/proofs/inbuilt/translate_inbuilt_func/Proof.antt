@@ -7,75 +7,57 @@ use Rattle.expr_inbuilts.proofs.inbuilt.inbuilt_of.Reads as inbuilt-of-
 use Rattle.expr_inbuilts.proofs.InbuiltLaws.{inbuilt-laws}
 use native.Mathlib.Omega.{arith}
 
--- src/inbuilt.rt:93:20
 add-from : tie.Need-add-from
 add-from c = search (inbuilt-laws, needs)
 
--- src/inbuilt.rt:94:17
 shared-slice-read-n : tie.Need-shared-slice-read-n
 shared-slice-read-n c = search (inbuilt-laws, needs)
 
--- src/inbuilt.rt:94:17
 cast-n : tie.Need-cast-n
 cast-n c = omega (arith, c .shared-slice-known2 .given (c .before .before .before .args .at))
 
--- src/inbuilt.rt:95:17
 sub-if2 : tie.Need-sub-if2
 sub-if2 c = search (inbuilt-laws, needs)
 
--- src/inbuilt.rt:96:22
 add-to : tie.Need-add-to
 add-to c = search (inbuilt-laws, needs)
 
--- src/inbuilt.rt:97:31
 sub-inbuilt-of : tie.Need-sub-inbuilt-of
 sub-inbuilt-of c = search (inbuilt-laws, needs)
 
--- src/inbuilt.rt:97:31
 part-inbuilt-of-start : tie.Need-part-inbuilt-of-start
 part-inbuilt-of-start c = search (inbuilt-laws, needs)
 
--- src/inbuilt.rt:97:31
 part-inbuilt-of-end : tie.Need-part-inbuilt-of-end
 part-inbuilt-of-end c = search (inbuilt-laws, needs)
 
--- src/inbuilt.rt:97:13
 inbuilt-of-requires : tie.Need-inbuilt-of-requires
 inbuilt-of-requires c κs = search (inbuilt-laws, needs)
 
--- src/inbuilt.rt:97:13
 returns : tie.Need-returns
 returns c = search (inbuilt-laws, needs)
 
--- src/inbuilt.rt:99:27
 sub-inbuilt-of-2 : tie.Need-sub-inbuilt-of-2
 sub-inbuilt-of-2 c = search (inbuilt-laws, needs)
 
--- src/inbuilt.rt:99:27
 part-inbuilt-of-start-2 : tie.Need-part-inbuilt-of-start-2
 part-inbuilt-of-start-2 c = search (inbuilt-laws, needs)
 
--- src/inbuilt.rt:99:27
 part-inbuilt-of-end-2 : tie.Need-part-inbuilt-of-end-2
 part-inbuilt-of-end-2 c = search (inbuilt-laws, needs)
 
--- src/inbuilt.rt:99:9
 inbuilt-of-requires-2 : tie.Need-inbuilt-of-requires-2
 inbuilt-of-requires-2 c κs = search (inbuilt-laws, needs)
 
--- src/inbuilt.rt:99:9
 returns-2 : tie.Need-returns-2
 returns-2 c = search (inbuilt-laws, needs)
 
--- src/inbuilt.rt:101:16
 slice-aggregate-inbuilt-of : tie.Need-slice-aggregate-inbuilt-of
 slice-aggregate-inbuilt-of c = search (inbuilt-laws, needs)
 
--- src/inbuilt.rt:101:5
 inbuilt-of-requires-3 : tie.Need-inbuilt-of-requires-3
 inbuilt-of-requires-3 c κs = search (inbuilt-laws, needs)
 
--- src/inbuilt.rt:89:1
 returns-3 : tie.Need-returns-3
 returns-3 c = search (inbuilt-laws, needs)
 

@@ -5,11 +5,9 @@ use Rattle.expr_reading.proofs.read.byte_aligned.Lts as lts
 use Rattle.expr_reading.proofs.ReadLaws.{read-laws}
 use borrow.Author.Needs.{needs}
 
--- src/read.rt:98:1
 returns : tie.Need-returns
 returns c = search (read-laws, needs)
 
--- src/read.rt:98:1
 returns-2 : tie.Need-returns-2
 returns-2 c = search (read-laws, needs)
 

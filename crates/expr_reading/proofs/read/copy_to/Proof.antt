@@ -7,27 +7,21 @@ use Rattle.list_pushes.proofs.push.op_to.Reads as op-to-reads
 use Rattle.list_values.proofs.value.absent.Reads as absent-reads
 use Rattle.expr_reading.proofs.ReadLaws.{read-laws}
 
--- src/read.rt:93:54
 absent-requires : tie.Need-absent-requires
 absent-requires c κs = search (read-laws, needs)
 
--- src/read.rt:93:9
 op-to-requires : tie.Need-op-to-requires
 op-to-requires c κs = search (read-laws, needs)
 
--- src/read.rt:93:9
 same-length : tie.Need-same-length
 same-length c = search (read-laws, needs)
 
--- src/read.rt:93:9
 same-length-2 : tie.Need-same-length-2
 same-length-2 c = search (read-laws, needs)
 
--- src/read.rt:93:9
 returns : tie.Need-returns
 returns c = search (read-laws, needs)
 
--- src/read.rt:89:1
 returns-2 : tie.Need-returns-2
 returns-2 c = search (read-laws, needs)
 

@@ -9,47 +9,36 @@ use Rattle.list_pushes.proofs.push.output_or.Reads as output-or-reads
 use Rattle.list_values.proofs.value.absent.Reads as absent-reads
 use Rattle.expr_reading.proofs.ReadLaws.{read-laws}
 
--- src/read.rt:194:11
 output-or-requires : tie.Need-output-or-requires
 output-or-requires c κs = search (read-laws, needs)
 
--- src/read.rt:195:18
 enum-known-n : tie.Need-enum-known-n
 enum-known-n c = search (read-laws, needs)
 
--- src/read.rt:196:23
 enum-known-v : tie.Need-enum-known-v
 enum-known-v c = search (read-laws, needs)
 
--- src/read.rt:197:17
 take-stated-requires : tie.Need-take-stated-requires
 take-stated-requires c κs = search (read-laws, needs)
 
--- src/read.rt:198:60
 absent-requires : tie.Need-absent-requires
 absent-requires c κs = search (read-laws, needs)
 
--- src/read.rt:198:13
 op-to-requires : tie.Need-op-to-requires
 op-to-requires c κs = search (read-laws, needs)
 
--- src/read.rt:191:1
 same-length : tie.Need-same-length
 same-length c = search (read-laws, needs)
 
--- src/read.rt:191:1
 returns : tie.Need-returns
 returns c = search (read-laws, needs)
 
--- src/read.rt:191:1
 same-length-2 : tie.Need-same-length-2
 same-length-2 c = search (read-laws, needs)
 
--- src/read.rt:191:1
 same-length-3 : tie.Need-same-length-3
 same-length-3 c = search (read-laws, needs)
 
--- src/read.rt:191:1
 returns-2 : tie.Need-returns-2
 returns-2 c = search (read-laws, needs, c .before .before .before .before .before .before .before .before .before .before .before .before .before .before .before .before .before .output-or .ensures, c .before .before .before .before .before .before .before .before .before .before .before .before .before .v .given, c .before .before .before .before .before .before .before .before .before .before .take-stated .ensures, c .before .before .before .before .before .absent .ensures, c .before .before .before .before .op-to .ensures)
 

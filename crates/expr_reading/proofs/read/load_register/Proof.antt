@@ -10,51 +10,39 @@ use Rattle.list_pushes.proofs.push.push.Reads as push-reads
 use Rattle.list_values.proofs.value.absent.Reads as absent-reads
 use Rattle.expr_reading.proofs.ReadLaws.{read-laws}
 
--- src/read.rt:206:11
 output-or-requires : tie.Need-output-or-requires
 output-or-requires c κs = search (read-laws, needs)
 
--- src/read.rt:207:18
 enum-known-n : tie.Need-enum-known-n
 enum-known-n c = search (read-laws, needs)
 
--- src/read.rt:208:23
 enum-known-v : tie.Need-enum-known-v
 enum-known-v c = search (read-laws, needs)
 
--- src/read.rt:209:17
 set-stated-requires : tie.Need-set-stated-requires
 set-stated-requires c κs = search (read-laws, needs)
 
--- src/read.rt:210:62
 absent-requires : tie.Need-absent-requires
 absent-requires c κs = search (read-laws, needs)
 
--- src/read.rt:210:23
 push-requires : tie.Need-push-requires
 push-requires c κs = search (read-laws, needs)
 
--- src/read.rt:210:13
 pushed-to-requires : tie.Need-pushed-to-requires
 pushed-to-requires c κs = search (read-laws, needs)
 
--- src/read.rt:203:1
 same-length : tie.Need-same-length
 same-length c = search (read-laws, needs)
 
--- src/read.rt:203:1
 returns : tie.Need-returns
 returns c = search (read-laws, needs)
 
--- src/read.rt:203:1
 same-length-2 : tie.Need-same-length-2
 same-length-2 c = search (read-laws, needs)
 
--- src/read.rt:203:1
 same-length-3 : tie.Need-same-length-3
 same-length-3 c = search (read-laws, needs)
 
--- src/read.rt:203:1
 returns-2 : tie.Need-returns-2
 returns-2 c = search (read-laws, needs)
 

@@ -8,31 +8,24 @@ use Rattle.expr_reading.proofs.read.shift_and_mask.Reads as shift-and-m
 use Rattle.expr_reading.proofs.read.sliced.Reads as sliced-reads
 use Rattle.expr_reading.proofs.ReadLaws.{read-laws}
 
--- src/read.rt:152:8
 byte-aligned-requires : tie.Need-byte-aligned-requires
 byte-aligned-requires c κs = search (read-laws, needs)
 
--- src/read.rt:153:9
 sliced-requires : tie.Need-sliced-requires
 sliced-requires c κs = search (read-laws, needs)
 
--- src/read.rt:153:9
 returns : tie.Need-returns
 returns c = search (read-laws, needs)
 
--- src/read.rt:155:5
 shift-and-mask-requires : tie.Need-shift-and-mask-requires
 shift-and-mask-requires c κs = search (read-laws, needs)
 
--- src/read.rt:149:1
 same-length : tie.Need-same-length
 same-length c = search (read-laws, needs)
 
--- src/read.rt:149:1
 same-length-2 : tie.Need-same-length-2
 same-length-2 c = search (read-laws, needs)
 
--- src/read.rt:149:1
 returns-2 : tie.Need-returns-2
 returns-2 c = search (read-laws, needs)
 

@@ -5,19 +5,15 @@ use Rattle.expr_reading.proofs.read.pushed_to.Reads as reads
 use Rattle.expr_reading.proofs.read.pushed_to.Lts as lts
 use Rattle.expr_reading.proofs.ReadLaws.{read-laws}
 
--- src/read.rt:171:20
 enum-known-answer : tie.Need-enum-known-answer
 enum-known-answer c = search (read-laws, needs)
 
--- src/read.rt:172:22
 enum-known-answer-2 : tie.Need-enum-known-answer-2
 enum-known-answer-2 c = search (read-laws, needs)
 
--- src/read.rt:167:1
 returns : tie.Need-returns
 returns c = search (read-laws, needs)
 
--- src/read.rt:167:1
 returns-2 : tie.Need-returns-2
 returns-2 c = search (read-laws, needs)
 

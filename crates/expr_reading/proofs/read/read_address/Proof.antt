@@ -10,55 +10,42 @@ use Rattle.list_values.proofs.value.absent.Reads as absent-reads
 use Rattle.list_values.proofs.value.local.Reads as local-reads
 use Rattle.expr_reading.proofs.ReadLaws.{read-laws}
 
--- src/read.rt:180:9
 returns : tie.Need-returns
 returns c = search (read-laws, needs)
 
--- src/read.rt:182:11
 output-or-requires : tie.Need-output-or-requires
 output-or-requires c κs = search (read-laws, needs)
 
--- src/read.rt:183:18
 enum-known-n : tie.Need-enum-known-n
 enum-known-n c = search (read-laws, needs)
 
--- src/read.rt:184:23
 enum-known-v : tie.Need-enum-known-v
 enum-known-v c = search (read-laws, needs)
 
--- src/read.rt:185:36
 local-requires : tie.Need-local-requires
 local-requires c κs = search (read-laws, needs)
 
--- src/read.rt:185:67
 absent-requires : tie.Need-absent-requires
 absent-requires c κs = search (read-laws, needs)
 
--- src/read.rt:185:13
 push-requires : tie.Need-push-requires
 push-requires c κs = search (read-laws, needs)
 
--- src/read.rt:184:40
 pushed-to-requires : tie.Need-pushed-to-requires
 pushed-to-requires c κs = search (read-laws, needs)
 
--- src/read.rt:176:1
 same-length : tie.Need-same-length
 same-length c = search (read-laws, needs)
 
--- src/read.rt:176:1
 returns-2 : tie.Need-returns-2
 returns-2 c = search (read-laws, needs)
 
--- src/read.rt:176:1
 same-length-2 : tie.Need-same-length-2
 same-length-2 c = search (read-laws, needs)
 
--- src/read.rt:176:1
 same-length-3 : tie.Need-same-length-3
 same-length-3 c = search (read-laws, needs)
 
--- src/read.rt:176:1
 returns-3 : tie.Need-returns-3
 returns-3 c = search (read-laws, needs)
 

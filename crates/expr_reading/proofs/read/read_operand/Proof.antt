@@ -7,23 +7,18 @@ use Rattle.expr_reading.proofs.read.read_value.Reads as read-value-read
 use Rattle.list_values.proofs.value.absent.Reads as absent-reads
 use Rattle.expr_reading.proofs.ReadLaws.{read-laws}
 
--- src/read.rt:234:41
 absent-requires : tie.Need-absent-requires
 absent-requires c κs = search (read-laws, needs)
 
--- src/read.rt:234:5
 read-value-requires : tie.Need-read-value-requires
 read-value-requires c κs = search (read-laws, needs)
 
--- src/read.rt:231:1
 same-length : tie.Need-same-length
 same-length c = search (read-laws, needs)
 
--- src/read.rt:231:1
 same-length-2 : tie.Need-same-length-2
 same-length-2 c = search (read-laws, needs)
 
--- src/read.rt:231:1
 returns : tie.Need-returns
 returns c = search (read-laws, needs)
 

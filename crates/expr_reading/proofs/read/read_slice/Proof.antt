@@ -7,43 +7,33 @@ use Rattle.expr_reading.proofs.read.copy_to.Reads as copy-to-reads
 use Rattle.expr_reading.proofs.read.part_of.Reads as part-of-reads
 use Rattle.expr_reading.proofs.ReadLaws.{read-laws}
 
--- src/read.rt:161:11
 part-of-requires : tie.Need-part-of-requires
 part-of-requires c κs = search (read-laws, needs)
 
--- src/read.rt:162:18
 enum-known-n : tie.Need-enum-known-n
 enum-known-n c = search (read-laws, needs)
 
--- src/read.rt:163:26
 enum-known-part : tie.Need-enum-known-part
 enum-known-part c = search (read-laws, needs)
 
--- src/read.rt:163:46
 copy-to-requires : tie.Need-copy-to-requires
 copy-to-requires c κs = search (read-laws, needs)
 
--- src/read.rt:158:1
 same-length : tie.Need-same-length
 same-length c = search (read-laws, needs)
 
--- src/read.rt:158:1
 same-length-2 : tie.Need-same-length-2
 same-length-2 c = search (read-laws, needs)
 
--- src/read.rt:158:1
 returns : tie.Need-returns
 returns c = search (read-laws, needs)
 
--- src/read.rt:158:1
 same-length-3 : tie.Need-same-length-3
 same-length-3 c = search (read-laws, needs)
 
--- src/read.rt:158:1
 same-length-4 : tie.Need-same-length-4
 same-length-4 c = search (read-laws, needs)
 
--- src/read.rt:158:1
 returns-2 : tie.Need-returns-2
 returns-2 c = search (read-laws, needs)
 

@@ -13,171 +13,129 @@ use Rattle.list_values.proofs.value.with_size.Reads as with-size-reads
 use Rattle.list_pushes.proofs.push.op.Reads as op-reads
 use Rattle.expr_reading.proofs.ReadLaws.{read-laws}
 
--- src/read.rt:364:26
 enum-known-expr : tie.Need-enum-known-expr
 enum-known-expr c = search (read-laws, needs)
 
--- src/read.rt:364:32
 copy-to-requires : tie.Need-copy-to-requires
 copy-to-requires c κs = search (read-laws, needs)
 
--- src/read.rt:365:28
 enum-known-expr-2 : tie.Need-enum-known-expr-2
 enum-known-expr-2 c = search (read-laws, needs)
 
--- src/read.rt:365:34
 copy-to-requires-2 : tie.Need-copy-to-requires-2
 copy-to-requires-2 c κs = search (read-laws, needs)
 
--- src/read.rt:366:28
 enum-known-expr-3 : tie.Need-enum-known-expr-3
 enum-known-expr-3 c = search (read-laws, needs)
 
--- src/read.rt:367:31
 constant-requires : tie.Need-constant-requires
 constant-requires c κs = search (read-laws, needs)
 
--- src/read.rt:367:17
 with-size-requires : tie.Need-with-size-requires
 with-size-requires c κs = search (read-laws, needs)
 
--- src/read.rt:368:13
 copy-to-requires-3 : tie.Need-copy-to-requires-3
 copy-to-requires-3 c κs = search (read-laws, needs)
 
--- src/read.rt:371:17
 enum-known-expr-4 : tie.Need-enum-known-expr-4
 enum-known-expr-4 c = search (read-laws, needs)
 
--- src/read.rt:376:14
 op-requires : tie.Need-op-requires
 op-requires c κs = search (read-laws, needs)
 
--- src/read.rt:377:29
 enum-known-expr-5 : tie.Need-enum-known-expr-5
 enum-known-expr-5 c = search (read-laws, needs)
 
--- src/read.rt:377:48
 load-requires : tie.Need-load-requires
 load-requires c κs = search (read-laws, needs)
 
--- src/read.rt:378:34
 enum-known-expr-6 : tie.Need-enum-known-expr-6
 enum-known-expr-6 c = search (read-laws, needs)
 
--- src/read.rt:379:13
 load-register-requires : tie.Need-load-register-requires
 load-register-requires c κs = search (read-laws, needs)
 
--- src/read.rt:381:32
 enum-known-expr-7 : tie.Need-enum-known-expr-7
 enum-known-expr-7 c = search (read-laws, needs)
 
--- src/read.rt:381:48
 read-address-requires : tie.Need-read-address-requires
 read-address-requires c κs = search (read-laws, needs)
 
--- src/read.rt:382:31
 enum-known-expr-8 : tie.Need-enum-known-expr-8
 enum-known-expr-8 c = search (read-laws, needs)
 
--- src/read.rt:384:17
 read-slice-requires : tie.Need-read-slice-requires
 read-slice-requires c κs = search (read-laws, needs)
 
--- src/read.rt:350:1
 same-length : tie.Need-same-length
 same-length c = search (read-laws, needs)
 
--- src/read.rt:350:1
 same-length-2 : tie.Need-same-length-2
 same-length-2 c = search (read-laws, needs)
 
--- src/read.rt:350:1
 returns : tie.Need-returns
 returns c = search (read-laws, needs)
 
--- src/read.rt:350:1
 same-length-3 : tie.Need-same-length-3
 same-length-3 c = search (read-laws, needs)
 
--- src/read.rt:350:1
 same-length-4 : tie.Need-same-length-4
 same-length-4 c = search (read-laws, needs)
 
--- src/read.rt:350:1
 returns-2 : tie.Need-returns-2
 returns-2 c = search (read-laws, needs)
 
--- src/read.rt:350:1
 same-length-5 : tie.Need-same-length-5
 same-length-5 c = search (read-laws, needs)
 
--- src/read.rt:350:1
 same-length-6 : tie.Need-same-length-6
 same-length-6 c = search (read-laws, needs)
 
--- src/read.rt:350:1
 returns-3 : tie.Need-returns-3
 returns-3 c = search (read-laws, needs)
 
--- src/read.rt:350:1
 same-length-7 : tie.Need-same-length-7
 same-length-7 c = search (read-laws, needs)
 
--- src/read.rt:350:1
 same-length-8 : tie.Need-same-length-8
 same-length-8 c = search (read-laws, needs)
 
--- src/read.rt:350:1
 returns-4 : tie.Need-returns-4
 returns-4 c = search (read-laws, needs)
 
--- src/read.rt:350:1
 same-length-9 : tie.Need-same-length-9
 same-length-9 c = search (read-laws, needs)
 
--- src/read.rt:350:1
 same-length-10 : tie.Need-same-length-10
 same-length-10 c = search (read-laws, needs)
 
--- src/read.rt:350:1
 returns-5 : tie.Need-returns-5
 returns-5 c = search (read-laws, needs)
 
--- src/read.rt:350:1
 same-length-11 : tie.Need-same-length-11
 same-length-11 c = search (read-laws, needs)
 
--- src/read.rt:350:1
 same-length-12 : tie.Need-same-length-12
 same-length-12 c = search (read-laws, needs)
 
--- src/read.rt:350:1
 returns-6 : tie.Need-returns-6
 returns-6 c = search (read-laws, needs)
 
--- src/read.rt:350:1
 same-length-13 : tie.Need-same-length-13
 same-length-13 c = search (read-laws, needs)
 
--- src/read.rt:350:1
 same-length-14 : tie.Need-same-length-14
 same-length-14 c = search (read-laws, needs)
 
--- src/read.rt:350:1
 returns-7 : tie.Need-returns-7
 returns-7 c = search (read-laws, needs)
 
--- src/read.rt:350:1
 same-length-15 : tie.Need-same-length-15
 same-length-15 c = search (read-laws, needs)
 
--- src/read.rt:350:1
 same-length-16 : tie.Need-same-length-16
 same-length-16 c = search (read-laws, needs)
 
--- src/read.rt:350:1
 returns-8 : tie.Need-returns-8
 returns-8 c = search (read-laws, needs)
 

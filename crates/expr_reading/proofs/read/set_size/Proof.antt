@@ -10,31 +10,24 @@ use Rattle.list_values.proofs.sizes.size_of.Reads as size-of-reads
 use Rattle.list_values.proofs.value.with_size.Reads as with-size-reads
 use Rattle.expr_reading.proofs.ReadLaws.{read-laws}
 
--- src/read.rt:56:9
 size-of-requires : tie.Need-size-of-requires
 size-of-requires c κs = search (read-laws, needs)
 
--- src/read.rt:57:9
 settle-requires : tie.Need-settle-requires
 settle-requires c κs = search (read-laws, needs)
 
--- src/read.rt:58:9
 record-errors-requires : tie.Need-record-errors-requires
 record-errors-requires c κs = search (read-laws, needs)
 
--- src/read.rt:60:12
 with-size-requires : tie.Need-with-size-requires
 with-size-requires c κs = search (read-laws, needs)
 
--- src/read.rt:61:13
 with-sizing-requires : tie.Need-with-sizing-requires
 with-sizing-requires c κs = search (read-laws, needs)
 
--- src/read.rt:53:1
 same-length : tie.Need-same-length
 same-length c = search (read-laws, needs)
 
--- src/read.rt:53:1
 returns : tie.Need-returns
 returns c = search (read-laws, needs)
 

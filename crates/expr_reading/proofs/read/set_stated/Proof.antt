@@ -6,19 +6,15 @@ use Rattle.expr_reading.proofs.read.set_stated.Lts as lts
 use Rattle.expr_reading.proofs.read.set_size.Reads as set-size-reads
 use Rattle.expr_reading.proofs.ReadLaws.{read-laws}
 
--- src/read.rt:68:9
 returns : tie.Need-returns
 returns c = search (read-laws, needs)
 
--- src/read.rt:70:5
 set-size-requires : tie.Need-set-size-requires
 set-size-requires c κs = search (read-laws, needs)
 
--- src/read.rt:64:1
 same-length : tie.Need-same-length
 same-length c = search (read-laws, needs)
 
--- src/read.rt:64:1
 returns-2 : tie.Need-returns-2
 returns-2 c = search (read-laws, needs)
 

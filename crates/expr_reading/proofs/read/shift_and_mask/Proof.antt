@@ -10,71 +10,54 @@ use Rattle.list_values.proofs.sizes.size_of.Reads as size-of-reads
 use Rattle.list_values.proofs.value.with_size.Reads as with-size-reads
 use Rattle.expr_reading.proofs.ReadLaws.{read-laws}
 
--- src/read.rt:136:9
 size-of-requires : tie.Need-size-of-requires
 size-of-requires c κs = search (read-laws, needs)
 
--- src/read.rt:137:11
 add-tmp-requires : tie.Need-add-tmp-requires
 add-tmp-requires c κs = search (read-laws, needs)
 
--- src/read.rt:138:18
 enum-known-n : tie.Need-enum-known-n
 enum-known-n c = search (read-laws, needs)
 
--- src/read.rt:139:26
 enum-known-tmp : tie.Need-enum-known-tmp
 enum-known-tmp c = search (read-laws, needs)
 
--- src/read.rt:139:51
 shift-to-requires : tie.Need-shift-to-requires
 shift-to-requires c κs = search (read-laws, needs)
 
--- src/read.rt:140:22
 enum-known-n-2 : tie.Need-enum-known-n-2
 enum-known-n-2 c = search (read-laws, needs)
 
--- src/read.rt:141:37
 enum-known-last : tie.Need-enum-known-last
 enum-known-last c = search (read-laws, needs)
 
--- src/read.rt:142:35
 needed-bytes-requires : tie.Need-needed-bytes-requires
 needed-bytes-requires c κs = search (read-laws, needs)
 
--- src/read.rt:142:20
 with-size-requires : tie.Need-with-size-requires
 with-size-requires c κs = search (read-laws, needs)
 
--- src/read.rt:133:1
 same-length : tie.Need-same-length
 same-length c = search (read-laws, needs)
 
--- src/read.rt:133:1
 returns : tie.Need-returns
 returns c = search (read-laws, needs)
 
--- src/read.rt:133:1
 same-length-2 : tie.Need-same-length-2
 same-length-2 c = search (read-laws, needs)
 
--- src/read.rt:133:1
 same-length-3 : tie.Need-same-length-3
 same-length-3 c = search (read-laws, needs)
 
--- src/read.rt:133:1
 returns-2 : tie.Need-returns-2
 returns-2 c = search (read-laws, needs)
 
--- src/read.rt:133:1
 same-length-4 : tie.Need-same-length-4
 same-length-4 c = search (read-laws, needs)
 
--- src/read.rt:133:1
 same-length-5 : tie.Need-same-length-5
 same-length-5 c = search (read-laws, needs)
 
--- src/read.rt:133:1
 returns-3 : tie.Need-returns-3
 returns-3 c = search (read-laws, needs, c .before .before .before .before .before .before .before .before .before .before .before .before .before .before .before .before .before .before .before .size-of .ensures, c .before .before .before .before .before .before .before .before .before .before .before .before .before .before .before .before .before .add-tmp .ensures, c .before .before .before .before .before .before .before .before .before .before .before .before .before .tmp .given, c .before .before .before .before .before .before .before .before .before .shift-to .ensures, c .before .before .before .last .given, c .before .needed-bytes .ensures, c .with-size .ensures)
 

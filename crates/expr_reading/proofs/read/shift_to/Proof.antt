@@ -8,55 +8,42 @@ use Rattle.expr_reading.proofs.read.constant.Reads as constant-reads
 use Rattle.list_pushes.proofs.push.op_to.Reads as op-to-reads
 use Rattle.expr_reading.proofs.ReadLaws.{read-laws}
 
--- src/read.rt:127:49
 constant-requires : tie.Need-constant-requires
 constant-requires c κs = search (read-laws, needs)
 
--- src/read.rt:127:11
 op-to-requires : tie.Need-op-to-requires
 op-to-requires c κs = search (read-laws, needs)
 
--- src/read.rt:128:18
 enum-known-n : tie.Need-enum-known-n
 enum-known-n c = search (read-laws, needs)
 
--- src/read.rt:129:33
 enum-known-next : tie.Need-enum-known-next
 enum-known-next c = search (read-laws, needs)
 
--- src/read.rt:129:93
 mask-requires : tie.Need-mask-requires
 mask-requires c κs = search (read-laws, needs)
 
--- src/read.rt:129:84
 constant-requires-2 : tie.Need-constant-requires-2
 constant-requires-2 c κs = search (read-laws, needs)
 
--- src/read.rt:129:43
 op-to-requires-2 : tie.Need-op-to-requires-2
 op-to-requires-2 c κs = search (read-laws, needs)
 
--- src/read.rt:124:1
 same-length : tie.Need-same-length
 same-length c = search (read-laws, needs)
 
--- src/read.rt:124:1
 same-length-2 : tie.Need-same-length-2
 same-length-2 c = search (read-laws, needs)
 
--- src/read.rt:124:1
 returns : tie.Need-returns
 returns c = search (read-laws, needs)
 
--- src/read.rt:124:1
 same-length-3 : tie.Need-same-length-3
 same-length-3 c = search (read-laws, needs)
 
--- src/read.rt:124:1
 same-length-4 : tie.Need-same-length-4
 same-length-4 c = search (read-laws, needs)
 
--- src/read.rt:124:1
 returns-2 : tie.Need-returns-2
 returns-2 c = search (read-laws, needs)
 

@@ -5,19 +5,15 @@ use Rattle.expr_reading.proofs.read.sliced.Reads as reads
 use Rattle.expr_reading.proofs.read.sliced.Lts as lts
 use Rattle.expr_reading.proofs.ReadLaws.{read-laws}
 
--- src/read.rt:114:29
 add-t8 : tie.Need-add-t8
 add-t8 c = search (read-laws, needs)
 
--- src/read.rt:110:13
 returns : tie.Need-returns
 returns c = search (read-laws, needs)
 
--- src/read.rt:105:1
 returns-2 : tie.Need-returns-2
 returns-2 c = search (read-laws, needs)
 
--- src/read.rt:105:1
 returns-3 : tie.Need-returns-3
 returns-3 c = search (read-laws, needs)
 

@@ -8,35 +8,27 @@ use Rattle.list_values.proofs.sizes.size_of.Reads as size-of-reads
 use Rattle.list_values.proofs.value.with_size.Reads as with-size-reads
 use Rattle.expr_reading.proofs.ReadLaws.{read-laws}
 
--- src/read.rt:78:9
 returns : tie.Need-returns
 returns c = search (read-laws, needs)
 
--- src/read.rt:80:8
 size-of-requires : tie.Need-size-of-requires
 size-of-requires c κs = search (read-laws, needs)
 
--- src/read.rt:82:16
 with-size-requires : tie.Need-with-size-requires
 with-size-requires c κs = search (read-laws, needs)
 
--- src/read.rt:81:9
 same-length : tie.Need-same-length
 same-length c = search (read-laws, needs)
 
--- src/read.rt:81:9
 returns-2 : tie.Need-returns-2
 returns-2 c = search (read-laws, needs)
 
--- src/read.rt:86:5
 set-size-requires : tie.Need-set-size-requires
 set-size-requires c κs = search (read-laws, needs)
 
--- src/read.rt:74:1
 same-length-2 : tie.Need-same-length-2
 same-length-2 c = search (read-laws, needs)
 
--- src/read.rt:74:1
 returns-3 : tie.Need-returns-3
 returns-3 c = search (read-laws, needs)
 

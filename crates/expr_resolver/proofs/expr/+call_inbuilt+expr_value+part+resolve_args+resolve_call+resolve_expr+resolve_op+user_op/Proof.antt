@@ -151,7 +151,6 @@ user-op-at t = and 5 user-op-kinds.ps (is 5 user-op-kinds.ps μ-user-op t) user-
 abbrev user-op-below : ℕ → In 5 user-op-kinds.ps
 user-op-below t = and 5 user-op-kinds.ps (falls 5 user-op-kinds.ps _<_ μ-user-op t) user-op.Pre
 
--- src/expr.rt:400:43
 call-inbuilt-after-requires : (t : ℕ) → call-inbuilt-lts.Need-after-requires (
   after-reads.Asked,
   after-reads.Learnt,
@@ -164,7 +163,6 @@ call-inbuilt-after-requires : (t : ℕ) → call-inbuilt-lts.Need-after-requires
 ) (call-inbuilt-at t) call-inbuilt.Post
 call-inbuilt-after-requires t c κs = search (walk-laws, needs)
 
--- src/expr.rt:400:9
 call-inbuilt-expr-value-requires : (t : ℕ) → call-inbuilt-lts.Need-expr-value-requires (
   after-reads.Asked,
   after-reads.Learnt,
@@ -177,7 +175,6 @@ call-inbuilt-expr-value-requires : (t : ℕ) → call-inbuilt-lts.Need-expr-valu
 ) (call-inbuilt-at t) call-inbuilt.Post
 call-inbuilt-expr-value-requires t c κs = search (walk-laws, needs)
 
--- src/expr.rt:402:9
 call-inbuilt-apply1-requires : (t : ℕ) → call-inbuilt-lts.Need-apply1-requires (
   after-reads.Asked,
   after-reads.Learnt,
@@ -190,7 +187,6 @@ call-inbuilt-apply1-requires : (t : ℕ) → call-inbuilt-lts.Need-apply1-requir
 ) (call-inbuilt-at t) call-inbuilt.Post
 call-inbuilt-apply1-requires t c κs = search (walk-laws, needs)
 
--- src/expr.rt:402:9
 call-inbuilt-same-length : (t : ℕ) → call-inbuilt-lts.Need-same-length (
   after-reads.Asked,
   after-reads.Learnt,
@@ -203,7 +199,6 @@ call-inbuilt-same-length : (t : ℕ) → call-inbuilt-lts.Need-same-length (
 ) (call-inbuilt-at t) call-inbuilt.Post
 call-inbuilt-same-length t c = search (walk-laws, needs)
 
--- src/expr.rt:402:9
 call-inbuilt-same-length-2 : (t : ℕ) → call-inbuilt-lts.Need-same-length-2 (
   after-reads.Asked,
   after-reads.Learnt,
@@ -216,7 +211,6 @@ call-inbuilt-same-length-2 : (t : ℕ) → call-inbuilt-lts.Need-same-length-2 (
 ) (call-inbuilt-at t) call-inbuilt.Post
 call-inbuilt-same-length-2 t c = search (walk-laws, needs)
 
--- src/expr.rt:402:9
 call-inbuilt-returns : (t : ℕ) → call-inbuilt-lts.Need-returns (
   after-reads.Asked,
   after-reads.Learnt,
@@ -229,7 +223,6 @@ call-inbuilt-returns : (t : ℕ) → call-inbuilt-lts.Need-returns (
 ) (call-inbuilt-at t) call-inbuilt.Post
 call-inbuilt-returns t c = search (walk-laws, needs)
 
--- src/expr.rt:405:21
 call-inbuilt-enum-known-first : (t : ℕ) → call-inbuilt-lts.Need-enum-known-first (
   after-reads.Asked,
   after-reads.Learnt,
@@ -242,7 +235,6 @@ call-inbuilt-enum-known-first : (t : ℕ) → call-inbuilt-lts.Need-enum-known-f
 ) (call-inbuilt-at t) call-inbuilt.Post
 call-inbuilt-enum-known-first t c = search (walk-laws, needs)
 
--- src/expr.rt:406:26
 call-inbuilt-enum-known-first-2 : (t : ℕ) → call-inbuilt-lts.Need-enum-known-first-2 (
   after-reads.Asked,
   after-reads.Learnt,
@@ -255,7 +247,6 @@ call-inbuilt-enum-known-first-2 : (t : ℕ) → call-inbuilt-lts.Need-enum-known
 ) (call-inbuilt-at t) call-inbuilt.Post
 call-inbuilt-enum-known-first-2 t c = search (walk-laws, needs)
 
--- src/expr.rt:410:13
 call-inbuilt-expr-value-requires-2 : (t : ℕ) → call-inbuilt-lts.Need-expr-value-requires-2 (
   after-reads.Asked,
   after-reads.Learnt,
@@ -268,7 +259,6 @@ call-inbuilt-expr-value-requires-2 : (t : ℕ) → call-inbuilt-lts.Need-expr-va
 ) (call-inbuilt-at t) call-inbuilt.Post
 call-inbuilt-expr-value-requires-2 t c κs = search (walk-laws, needs)
 
--- src/expr.rt:406:48
 call-inbuilt-apply2-requires : (t : ℕ) → call-inbuilt-lts.Need-apply2-requires (
   after-reads.Asked,
   after-reads.Learnt,
@@ -281,7 +271,6 @@ call-inbuilt-apply2-requires : (t : ℕ) → call-inbuilt-lts.Need-apply2-requir
 ) (call-inbuilt-at t) call-inbuilt.Post
 call-inbuilt-apply2-requires t c κs = search (walk-laws, needs)
 
--- src/expr.rt:385:1
 call-inbuilt-same-length-3 : (t : ℕ) → call-inbuilt-lts.Need-same-length-3 (
   after-reads.Asked,
   after-reads.Learnt,
@@ -294,7 +283,6 @@ call-inbuilt-same-length-3 : (t : ℕ) → call-inbuilt-lts.Need-same-length-3 (
 ) (call-inbuilt-at t) call-inbuilt.Post
 call-inbuilt-same-length-3 t c = search (walk-laws, needs)
 
--- src/expr.rt:385:1
 call-inbuilt-same-length-4 : (t : ℕ) → call-inbuilt-lts.Need-same-length-4 (
   after-reads.Asked,
   after-reads.Learnt,
@@ -307,7 +295,6 @@ call-inbuilt-same-length-4 : (t : ℕ) → call-inbuilt-lts.Need-same-length-4 (
 ) (call-inbuilt-at t) call-inbuilt.Post
 call-inbuilt-same-length-4 t c = search (walk-laws, needs)
 
--- src/expr.rt:385:1
 call-inbuilt-returns-2 : (t : ℕ) → call-inbuilt-lts.Need-returns-2 (
   after-reads.Asked,
   after-reads.Learnt,
@@ -320,7 +307,6 @@ call-inbuilt-returns-2 : (t : ℕ) → call-inbuilt-lts.Need-returns-2 (
 ) (call-inbuilt-at t) call-inbuilt.Post
 call-inbuilt-returns-2 t c = search (walk-laws, needs)
 
--- src/expr.rt:385:1
 call-inbuilt-same-length-5 : (t : ℕ) → call-inbuilt-lts.Need-same-length-5 (
   after-reads.Asked,
   after-reads.Learnt,
@@ -333,7 +319,6 @@ call-inbuilt-same-length-5 : (t : ℕ) → call-inbuilt-lts.Need-same-length-5 (
 ) (call-inbuilt-at t) call-inbuilt.Post
 call-inbuilt-same-length-5 t c = search (walk-laws, needs)
 
--- src/expr.rt:385:1
 call-inbuilt-same-length-6 : (t : ℕ) → call-inbuilt-lts.Need-same-length-6 (
   after-reads.Asked,
   after-reads.Learnt,
@@ -346,7 +331,6 @@ call-inbuilt-same-length-6 : (t : ℕ) → call-inbuilt-lts.Need-same-length-6 (
 ) (call-inbuilt-at t) call-inbuilt.Post
 call-inbuilt-same-length-6 t c = search (walk-laws, needs)
 
--- src/expr.rt:385:1
 call-inbuilt-returns-3 : (t : ℕ) → call-inbuilt-lts.Need-returns-3 (
   after-reads.Asked,
   after-reads.Learnt,
@@ -359,7 +343,6 @@ call-inbuilt-returns-3 : (t : ℕ) → call-inbuilt-lts.Need-returns-3 (
 ) (call-inbuilt-at t) call-inbuilt.Post
 call-inbuilt-returns-3 t c = search (walk-laws, needs)
 
--- src/expr.rt:328:9
 expr-value-plain-at-requires : (t : ℕ) → expr-value-lts.Need-plain-at-requires (
   plain-at-reads.Asked,
   plain-at-reads.Learnt,
@@ -374,7 +357,6 @@ expr-value-plain-at-requires : (t : ℕ) → expr-value-lts.Need-plain-at-requir
 ) (expr-value-at t) expr-value.Post
 expr-value-plain-at-requires t c κs = search (walk-laws, needs)
 
--- src/expr.rt:330:9
 expr-value-plain-operand-requires : (t : ℕ) → expr-value-lts.Need-plain-operand-requires (
   plain-at-reads.Asked,
   plain-at-reads.Learnt,
@@ -389,7 +371,6 @@ expr-value-plain-operand-requires : (t : ℕ) → expr-value-lts.Need-plain-oper
 ) (expr-value-at t) expr-value.Post
 expr-value-plain-operand-requires t c κs = search (walk-laws, needs)
 
--- src/expr.rt:330:9
 expr-value-same-length : (t : ℕ) → expr-value-lts.Need-same-length (
   plain-at-reads.Asked,
   plain-at-reads.Learnt,
@@ -404,7 +385,6 @@ expr-value-same-length : (t : ℕ) → expr-value-lts.Need-same-length (
 ) (expr-value-at t) expr-value.Post
 expr-value-same-length t c = search (walk-laws, needs)
 
--- src/expr.rt:330:9
 expr-value-returns : (t : ℕ) → expr-value-lts.Need-returns (
   plain-at-reads.Asked,
   plain-at-reads.Learnt,
@@ -419,7 +399,6 @@ expr-value-returns : (t : ℕ) → expr-value-lts.Need-returns (
 ) (expr-value-at t) expr-value.Post
 expr-value-returns t c = search (walk-laws, needs)
 
--- src/expr.rt:332:11
 expr-value-resolve-expr-requires : (t : ℕ) → expr-value-lts.Need-resolve-expr-requires (
   plain-at-reads.Asked,
   plain-at-reads.Learnt,
@@ -434,7 +413,6 @@ expr-value-resolve-expr-requires : (t : ℕ) → expr-value-lts.Need-resolve-exp
 ) (expr-value-at t) expr-value.Post
 expr-value-resolve-expr-requires t c κs = search (walk-laws, needs)
 
--- src/expr.rt:333:18
 expr-value-enum-known-n : (t : ℕ) → expr-value-lts.Need-enum-known-n (
   plain-at-reads.Asked,
   plain-at-reads.Learnt,
@@ -449,7 +427,6 @@ expr-value-enum-known-n : (t : ℕ) → expr-value-lts.Need-enum-known-n (
 ) (expr-value-at t) expr-value.Post
 expr-value-enum-known-n t c = search (walk-laws, needs)
 
--- src/expr.rt:334:26
 expr-value-enum-known-next : (t : ℕ) → expr-value-lts.Need-enum-known-next (
   plain-at-reads.Asked,
   plain-at-reads.Learnt,
@@ -464,7 +441,6 @@ expr-value-enum-known-next : (t : ℕ) → expr-value-lts.Need-enum-known-next (
 ) (expr-value-at t) expr-value.Post
 expr-value-enum-known-next t c = search (walk-laws, needs)
 
--- src/expr.rt:334:56
 expr-value-read-operand-requires : (t : ℕ) → expr-value-lts.Need-read-operand-requires (
   plain-at-reads.Asked,
   plain-at-reads.Learnt,
@@ -479,7 +455,6 @@ expr-value-read-operand-requires : (t : ℕ) → expr-value-lts.Need-read-operan
 ) (expr-value-at t) expr-value.Post
 expr-value-read-operand-requires t c κs = search (walk-laws, needs)
 
--- src/expr.rt:334:45
 expr-value-value-then-requires : (t : ℕ) → expr-value-lts.Need-value-then-requires (
   plain-at-reads.Asked,
   plain-at-reads.Learnt,
@@ -494,7 +469,6 @@ expr-value-value-then-requires : (t : ℕ) → expr-value-lts.Need-value-then-re
 ) (expr-value-at t) expr-value.Post
 expr-value-value-then-requires t c κs = search (walk-laws, needs)
 
--- src/expr.rt:315:1
 expr-value-same-length-2 : (t : ℕ) → expr-value-lts.Need-same-length-2 (
   plain-at-reads.Asked,
   plain-at-reads.Learnt,
@@ -509,7 +483,6 @@ expr-value-same-length-2 : (t : ℕ) → expr-value-lts.Need-same-length-2 (
 ) (expr-value-at t) expr-value.Post
 expr-value-same-length-2 t c = search (walk-laws, needs)
 
--- src/expr.rt:315:1
 expr-value-same-length-3 : (t : ℕ) → expr-value-lts.Need-same-length-3 (
   plain-at-reads.Asked,
   plain-at-reads.Learnt,
@@ -524,7 +497,6 @@ expr-value-same-length-3 : (t : ℕ) → expr-value-lts.Need-same-length-3 (
 ) (expr-value-at t) expr-value.Post
 expr-value-same-length-3 t c = search (walk-laws, needs)
 
--- src/expr.rt:315:1
 expr-value-returns-2 : (t : ℕ) → expr-value-lts.Need-returns-2 (
   plain-at-reads.Asked,
   plain-at-reads.Learnt,
@@ -539,7 +511,6 @@ expr-value-returns-2 : (t : ℕ) → expr-value-lts.Need-returns-2 (
 ) (expr-value-at t) expr-value.Post
 expr-value-returns-2 t c = search (walk-laws, needs)
 
--- src/expr.rt:315:1
 expr-value-same-length-4 : (t : ℕ) → expr-value-lts.Need-same-length-4 (
   plain-at-reads.Asked,
   plain-at-reads.Learnt,
@@ -554,7 +525,6 @@ expr-value-same-length-4 : (t : ℕ) → expr-value-lts.Need-same-length-4 (
 ) (expr-value-at t) expr-value.Post
 expr-value-same-length-4 t c = search (walk-laws, needs)
 
--- src/expr.rt:315:1
 expr-value-same-length-5 : (t : ℕ) → expr-value-lts.Need-same-length-5 (
   plain-at-reads.Asked,
   plain-at-reads.Learnt,
@@ -569,7 +539,6 @@ expr-value-same-length-5 : (t : ℕ) → expr-value-lts.Need-same-length-5 (
 ) (expr-value-at t) expr-value.Post
 expr-value-same-length-5 t c = search (walk-laws, needs)
 
--- src/expr.rt:315:1
 expr-value-returns-3 : (t : ℕ) → expr-value-lts.Need-returns-3 (
   plain-at-reads.Asked,
   plain-at-reads.Learnt,
@@ -584,7 +553,6 @@ expr-value-returns-3 : (t : ℕ) → expr-value-lts.Need-returns-3 (
 ) (expr-value-at t) expr-value.Post
 expr-value-returns-3 t c = search (walk-laws, needs)
 
--- src/expr.rt:353:50
 part-part-at-requires : (t : ℕ) → part-lts.Need-part-at-requires (
   part-at-reads.Asked,
   part-at-reads.Learnt,
@@ -597,7 +565,6 @@ part-part-at-requires : (t : ℕ) → part-lts.Need-part-at-requires (
 ) (part-at t) part.Post
 part-part-at-requires t c κs = search (walk-laws, needs)
 
--- src/expr.rt:353:39
 part-after-requires : (t : ℕ) → part-lts.Need-after-requires (
   part-at-reads.Asked,
   part-at-reads.Learnt,
@@ -610,7 +577,6 @@ part-after-requires : (t : ℕ) → part-lts.Need-after-requires (
 ) (part-at t) part.Post
 part-after-requires t c κs = search (walk-laws, needs)
 
--- src/expr.rt:353:11
 part-resolve-expr-requires : (t : ℕ) → part-lts.Need-resolve-expr-requires (
   part-at-reads.Asked,
   part-at-reads.Learnt,
@@ -623,7 +589,6 @@ part-resolve-expr-requires : (t : ℕ) → part-lts.Need-resolve-expr-requires (
 ) (part-at t) part.Post
 part-resolve-expr-requires t c κs = search (walk-laws, needs)
 
--- src/expr.rt:354:18
 part-enum-known-n : (t : ℕ) → part-lts.Need-enum-known-n (
   part-at-reads.Asked,
   part-at-reads.Learnt,
@@ -636,7 +601,6 @@ part-enum-known-n : (t : ℕ) → part-lts.Need-enum-known-n (
 ) (part-at t) part.Post
 part-enum-known-n t c = search (walk-laws, needs)
 
--- src/expr.rt:355:26
 part-enum-known-next : (t : ℕ) → part-lts.Need-enum-known-next (
   part-at-reads.Asked,
   part-at-reads.Learnt,
@@ -649,7 +613,6 @@ part-enum-known-next : (t : ℕ) → part-lts.Need-enum-known-next (
 ) (part-at t) part.Post
 part-enum-known-next t c = search (walk-laws, needs)
 
--- src/expr.rt:355:45
 part-with-part-requires : (t : ℕ) → part-lts.Need-with-part-requires (
   part-at-reads.Asked,
   part-at-reads.Learnt,
@@ -662,7 +625,6 @@ part-with-part-requires : (t : ℕ) → part-lts.Need-with-part-requires (
 ) (part-at t) part.Post
 part-with-part-requires t c κs = search (walk-laws, needs)
 
--- src/expr.rt:339:1
 part-same-length : (t : ℕ) → part-lts.Need-same-length (
   part-at-reads.Asked,
   part-at-reads.Learnt,
@@ -675,7 +637,6 @@ part-same-length : (t : ℕ) → part-lts.Need-same-length (
 ) (part-at t) part.Post
 part-same-length t c = search (walk-laws, needs)
 
--- src/expr.rt:339:1
 part-same-length-2 : (t : ℕ) → part-lts.Need-same-length-2 (
   part-at-reads.Asked,
   part-at-reads.Learnt,
@@ -688,7 +649,6 @@ part-same-length-2 : (t : ℕ) → part-lts.Need-same-length-2 (
 ) (part-at t) part.Post
 part-same-length-2 t c = search (walk-laws, needs)
 
--- src/expr.rt:339:1
 part-returns : (t : ℕ) → part-lts.Need-returns (
   part-at-reads.Asked,
   part-at-reads.Learnt,
@@ -701,7 +661,6 @@ part-returns : (t : ℕ) → part-lts.Need-returns (
 ) (part-at t) part.Post
 part-returns t c = search (walk-laws, needs)
 
--- src/expr.rt:339:1
 part-same-length-3 : (t : ℕ) → part-lts.Need-same-length-3 (
   part-at-reads.Asked,
   part-at-reads.Learnt,
@@ -714,7 +673,6 @@ part-same-length-3 : (t : ℕ) → part-lts.Need-same-length-3 (
 ) (part-at t) part.Post
 part-same-length-3 t c = search (walk-laws, needs)
 
--- src/expr.rt:339:1
 part-same-length-4 : (t : ℕ) → part-lts.Need-same-length-4 (
   part-at-reads.Asked,
   part-at-reads.Learnt,
@@ -727,7 +685,6 @@ part-same-length-4 : (t : ℕ) → part-lts.Need-same-length-4 (
 ) (part-at t) part.Post
 part-same-length-4 t c = search (walk-laws, needs)
 
--- src/expr.rt:339:1
 part-returns-2 : (t : ℕ) → part-lts.Need-returns-2 (
   part-at-reads.Asked,
   part-at-reads.Learnt,
@@ -746,7 +703,6 @@ resolve-args-Inv-loop deep s t p pos n e a₀ m₀ args₀ at₀ st₀ i₀ a m 
 abbrev resolve-args-μ-loop : resolve-args-lts.MeasureT-loop
 resolve-args-μ-loop deep s t p pos n e a₀ m₀ args₀ at₀ st₀ i₀ a m args at st i = n - i
 
--- src/expr.rt:433:5
 resolve-args-loop-holds : (t : ℕ) → resolve-args-lts.Need-loop-holds (
   resolve-expr-below t,
   resolve-expr.Post,
@@ -755,7 +711,6 @@ resolve-args-loop-holds : (t : ℕ) → resolve-args-lts.Need-loop-holds (
 ) (resolve-args-at t) resolve-args.Post resolve-args-Inv-loop resolve-args-μ-loop
 resolve-args-loop-holds t c = (refl, refl, refl, args-start _ _ _ _ _ _ _)
 
--- src/expr.rt:434:15
 resolve-args-resolve-expr-requires : (t : ℕ) → resolve-args-lts.Need-resolve-expr-requires (
   resolve-expr-below t,
   resolve-expr.Post,
@@ -764,7 +719,6 @@ resolve-args-resolve-expr-requires : (t : ℕ) → resolve-args-lts.Need-resolve
 ) (resolve-args-at t) resolve-args.Post resolve-args-Inv-loop resolve-args-μ-loop
 resolve-args-resolve-expr-requires t c κs = search (walk-laws, needs)
 
--- src/expr.rt:435:22
 resolve-args-enum-known-k : (t : ℕ) → resolve-args-lts.Need-enum-known-k (
   resolve-expr-below t,
   resolve-expr.Post,
@@ -773,7 +727,6 @@ resolve-args-enum-known-k : (t : ℕ) → resolve-args-lts.Need-enum-known-k (
 ) (resolve-args-at t) resolve-args.Post resolve-args-Inv-loop resolve-args-μ-loop
 resolve-args-enum-known-k t c = search (walk-laws, needs)
 
--- src/expr.rt:435:28
 resolve-args-same-length : (t : ℕ) → resolve-args-lts.Need-same-length (
   resolve-expr-below t,
   resolve-expr.Post,
@@ -782,7 +735,6 @@ resolve-args-same-length : (t : ℕ) → resolve-args-lts.Need-same-length (
 ) (resolve-args-at t) resolve-args.Post resolve-args-Inv-loop resolve-args-μ-loop
 resolve-args-same-length t c = search (walk-laws, needs)
 
--- src/expr.rt:435:28
 resolve-args-same-length-2 : (t : ℕ) → resolve-args-lts.Need-same-length-2 (
   resolve-expr-below t,
   resolve-expr.Post,
@@ -791,7 +743,6 @@ resolve-args-same-length-2 : (t : ℕ) → resolve-args-lts.Need-same-length-2 (
 ) (resolve-args-at t) resolve-args.Post resolve-args-Inv-loop resolve-args-μ-loop
 resolve-args-same-length-2 t c = search (walk-laws, needs)
 
--- src/expr.rt:435:28
 resolve-args-same-length-3 : (t : ℕ) → resolve-args-lts.Need-same-length-3 (
   resolve-expr-below t,
   resolve-expr.Post,
@@ -800,7 +751,6 @@ resolve-args-same-length-3 : (t : ℕ) → resolve-args-lts.Need-same-length-3 (
 ) (resolve-args-at t) resolve-args.Post resolve-args-Inv-loop resolve-args-μ-loop
 resolve-args-same-length-3 t c = search (walk-laws, needs)
 
--- src/expr.rt:435:28
 resolve-args-returns : (t : ℕ) → resolve-args-lts.Need-returns (
   resolve-expr-below t,
   resolve-expr.Post,
@@ -809,7 +759,6 @@ resolve-args-returns : (t : ℕ) → resolve-args-lts.Need-returns (
 ) (resolve-args-at t) resolve-args.Post resolve-args-Inv-loop resolve-args-μ-loop
 resolve-args-returns t c = search (args-no, needs)
 
--- src/expr.rt:436:30
 resolve-args-enum-known-next : (t : ℕ) → resolve-args-lts.Need-enum-known-next (
   resolve-expr-below t,
   resolve-expr.Post,
@@ -818,7 +767,6 @@ resolve-args-enum-known-next : (t : ℕ) → resolve-args-lts.Need-enum-known-ne
 ) (resolve-args-at t) resolve-args.Post resolve-args-Inv-loop resolve-args-μ-loop
 resolve-args-enum-known-next t c = search (walk-laws, needs)
 
--- src/expr.rt:437:17
 resolve-args-put-arg-requires : (t : ℕ) → resolve-args-lts.Need-put-arg-requires (
   resolve-expr-below t,
   resolve-expr.Post,
@@ -827,7 +775,6 @@ resolve-args-put-arg-requires : (t : ℕ) → resolve-args-lts.Need-put-arg-requ
 ) (resolve-args-at t) resolve-args.Post resolve-args-Inv-loop resolve-args-μ-loop
 resolve-args-put-arg-requires t c κs = search (walk-laws, needs)
 
--- src/expr.rt:433:9
 resolve-args-add-i : (t : ℕ) → resolve-args-lts.Need-add-i (
   resolve-expr-below t,
   resolve-expr.Post,
@@ -836,7 +783,6 @@ resolve-args-add-i : (t : ℕ) → resolve-args-lts.Need-add-i (
 ) (resolve-args-at t) resolve-args.Post resolve-args-Inv-loop resolve-args-μ-loop
 resolve-args-add-i t c = omega (arith, c .before .before .before .before .before .before .before .before .before .before .before .before .before .before .loop-test .taken, c .before .before .before .before .before .before .before .before .before .before .before .before .before .before .before .before .before .before .before .before .before .fits .count)
 
--- src/expr.rt:433:5
 resolve-args-loop-less : (t : ℕ) → resolve-args-lts.Need-loop-less (
   resolve-expr-below t,
   resolve-expr.Post,
@@ -845,7 +791,6 @@ resolve-args-loop-less : (t : ℕ) → resolve-args-lts.Need-loop-less (
 ) (resolve-args-at t) resolve-args.Post resolve-args-Inv-loop resolve-args-μ-loop
 resolve-args-loop-less t c = search (walk-laws, needs)
 
--- src/expr.rt:433:5
 resolve-args-loop-again : (t : ℕ) → resolve-args-lts.Need-loop-again (
   resolve-expr-below t,
   resolve-expr.Post,
@@ -854,7 +799,6 @@ resolve-args-loop-again : (t : ℕ) → resolve-args-lts.Need-loop-again (
 ) (resolve-args-at t) resolve-args.Post resolve-args-Inv-loop resolve-args-μ-loop
 resolve-args-loop-again t c = (search needs, search needs, search needs, search (args-more, needs))
 
--- src/expr.rt:416:1
 resolve-args-same-length-4 : (t : ℕ) → resolve-args-lts.Need-same-length-4 (
   resolve-expr-below t,
   resolve-expr.Post,
@@ -863,7 +807,6 @@ resolve-args-same-length-4 : (t : ℕ) → resolve-args-lts.Need-same-length-4 (
 ) (resolve-args-at t) resolve-args.Post resolve-args-Inv-loop resolve-args-μ-loop
 resolve-args-same-length-4 t c = search (walk-laws, needs)
 
--- src/expr.rt:416:1
 resolve-args-same-length-5 : (t : ℕ) → resolve-args-lts.Need-same-length-5 (
   resolve-expr-below t,
   resolve-expr.Post,
@@ -872,7 +815,6 @@ resolve-args-same-length-5 : (t : ℕ) → resolve-args-lts.Need-same-length-5 (
 ) (resolve-args-at t) resolve-args.Post resolve-args-Inv-loop resolve-args-μ-loop
 resolve-args-same-length-5 t c = search (walk-laws, needs)
 
--- src/expr.rt:416:1
 resolve-args-same-length-6 : (t : ℕ) → resolve-args-lts.Need-same-length-6 (
   resolve-expr-below t,
   resolve-expr.Post,
@@ -881,7 +823,6 @@ resolve-args-same-length-6 : (t : ℕ) → resolve-args-lts.Need-same-length-6 (
 ) (resolve-args-at t) resolve-args.Post resolve-args-Inv-loop resolve-args-μ-loop
 resolve-args-same-length-6 t c = search (walk-laws, needs)
 
--- src/expr.rt:416:1
 resolve-args-returns-2 : (t : ℕ) → resolve-args-lts.Need-returns-2 (
   resolve-expr-below t,
   resolve-expr.Post,
@@ -890,7 +831,6 @@ resolve-args-returns-2 : (t : ℕ) → resolve-args-lts.Need-returns-2 (
 ) (resolve-args-at t) resolve-args.Post resolve-args-Inv-loop resolve-args-μ-loop
 resolve-args-returns-2 t c = search (args-done, needs)
 
--- src/expr.rt:481:9
 resolve-call-u16-in-requires : (t : ℕ) → resolve-call-lts.Need-u16-in-requires (
   u16-in-reads.Asked,
   u16-in-reads.Learnt,
@@ -907,7 +847,6 @@ resolve-call-u16-in-requires : (t : ℕ) → resolve-call-lts.Need-u16-in-requir
 ) (resolve-call-at t) resolve-call.Post
 resolve-call-u16-in-requires t c κs = search (walk-laws, needs)
 
--- src/expr.rt:482:9
 resolve-call-byte-requires : (t : ℕ) → resolve-call-lts.Need-byte-requires (
   u16-in-reads.Asked,
   u16-in-reads.Learnt,
@@ -924,7 +863,6 @@ resolve-call-byte-requires : (t : ℕ) → resolve-call-lts.Need-byte-requires (
 ) (resolve-call-at t) resolve-call.Post
 resolve-call-byte-requires t c κs = search (walk-laws, needs)
 
--- src/expr.rt:483:9
 resolve-call-callee-of-requires : (t : ℕ) → resolve-call-lts.Need-callee-of-requires (
   u16-in-reads.Asked,
   u16-in-reads.Learnt,
@@ -941,7 +879,6 @@ resolve-call-callee-of-requires : (t : ℕ) → resolve-call-lts.Need-callee-of-
 ) (resolve-call-at t) resolve-call.Post
 resolve-call-callee-of-requires t c κs = search (walk-laws, needs)
 
--- src/expr.rt:486:14
 resolve-call-call-inbuilt-requires : (t : ℕ) → resolve-call-lts.Need-call-inbuilt-requires (
   u16-in-reads.Asked,
   u16-in-reads.Learnt,
@@ -958,7 +895,6 @@ resolve-call-call-inbuilt-requires : (t : ℕ) → resolve-call-lts.Need-call-in
 ) (resolve-call-at t) resolve-call.Post
 resolve-call-call-inbuilt-requires t c κs = search (walk-laws, needs)
 
--- src/expr.rt:487:14
 resolve-call-user-op-requires : (t : ℕ) → resolve-call-lts.Need-user-op-requires (
   u16-in-reads.Asked,
   u16-in-reads.Learnt,
@@ -975,7 +911,6 @@ resolve-call-user-op-requires : (t : ℕ) → resolve-call-lts.Need-user-op-requ
 ) (resolve-call-at t) resolve-call.Post
 resolve-call-user-op-requires t c κs = search (walk-laws, needs)
 
--- src/expr.rt:489:14
 resolve-call-subpiece-requires : (t : ℕ) → resolve-call-lts.Need-subpiece-requires (
   u16-in-reads.Asked,
   u16-in-reads.Learnt,
@@ -992,7 +927,6 @@ resolve-call-subpiece-requires : (t : ℕ) → resolve-call-lts.Need-subpiece-re
 ) (resolve-call-at t) resolve-call.Post
 resolve-call-subpiece-requires t c κs = search (walk-laws, needs)
 
--- src/expr.rt:468:1
 resolve-call-same-length : (t : ℕ) → resolve-call-lts.Need-same-length (
   u16-in-reads.Asked,
   u16-in-reads.Learnt,
@@ -1009,7 +943,6 @@ resolve-call-same-length : (t : ℕ) → resolve-call-lts.Need-same-length (
 ) (resolve-call-at t) resolve-call.Post
 resolve-call-same-length t c = search (walk-laws, needs)
 
--- src/expr.rt:468:1
 resolve-call-same-length-2 : (t : ℕ) → resolve-call-lts.Need-same-length-2 (
   u16-in-reads.Asked,
   u16-in-reads.Learnt,
@@ -1026,7 +959,6 @@ resolve-call-same-length-2 : (t : ℕ) → resolve-call-lts.Need-same-length-2 (
 ) (resolve-call-at t) resolve-call.Post
 resolve-call-same-length-2 t c = search (walk-laws, needs)
 
--- src/expr.rt:468:1
 resolve-call-returns : (t : ℕ) → resolve-call-lts.Need-returns (
   u16-in-reads.Asked,
   u16-in-reads.Learnt,
@@ -1043,7 +975,6 @@ resolve-call-returns : (t : ℕ) → resolve-call-lts.Need-returns (
 ) (resolve-call-at t) resolve-call.Post
 resolve-call-returns t c = search (walk-laws, needs)
 
--- src/expr.rt:468:1
 resolve-call-same-length-3 : (t : ℕ) → resolve-call-lts.Need-same-length-3 (
   u16-in-reads.Asked,
   u16-in-reads.Learnt,
@@ -1060,7 +991,6 @@ resolve-call-same-length-3 : (t : ℕ) → resolve-call-lts.Need-same-length-3 (
 ) (resolve-call-at t) resolve-call.Post
 resolve-call-same-length-3 t c = search (walk-laws, needs)
 
--- src/expr.rt:468:1
 resolve-call-same-length-4 : (t : ℕ) → resolve-call-lts.Need-same-length-4 (
   u16-in-reads.Asked,
   u16-in-reads.Learnt,
@@ -1077,7 +1007,6 @@ resolve-call-same-length-4 : (t : ℕ) → resolve-call-lts.Need-same-length-4 (
 ) (resolve-call-at t) resolve-call.Post
 resolve-call-same-length-4 t c = search (walk-laws, needs)
 
--- src/expr.rt:468:1
 resolve-call-returns-2 : (t : ℕ) → resolve-call-lts.Need-returns-2 (
   u16-in-reads.Asked,
   u16-in-reads.Learnt,
@@ -1094,7 +1023,6 @@ resolve-call-returns-2 : (t : ℕ) → resolve-call-lts.Need-returns-2 (
 ) (resolve-call-at t) resolve-call.Post
 resolve-call-returns-2 t c = search (walk-laws, needs)
 
--- src/expr.rt:468:1
 resolve-call-returns-3 : (t : ℕ) → resolve-call-lts.Need-returns-3 (
   u16-in-reads.Asked,
   u16-in-reads.Learnt,
@@ -1111,7 +1039,6 @@ resolve-call-returns-3 : (t : ℕ) → resolve-call-lts.Need-returns-3 (
 ) (resolve-call-at t) resolve-call.Post
 resolve-call-returns-3 t c = search (walk-laws, needs)
 
--- src/expr.rt:468:1
 resolve-call-same-length-5 : (t : ℕ) → resolve-call-lts.Need-same-length-5 (
   u16-in-reads.Asked,
   u16-in-reads.Learnt,
@@ -1128,7 +1055,6 @@ resolve-call-same-length-5 : (t : ℕ) → resolve-call-lts.Need-same-length-5 (
 ) (resolve-call-at t) resolve-call.Post
 resolve-call-same-length-5 t c = search (walk-laws, needs)
 
--- src/expr.rt:468:1
 resolve-call-same-length-6 : (t : ℕ) → resolve-call-lts.Need-same-length-6 (
   u16-in-reads.Asked,
   u16-in-reads.Learnt,
@@ -1145,7 +1071,6 @@ resolve-call-same-length-6 : (t : ℕ) → resolve-call-lts.Need-same-length-6 (
 ) (resolve-call-at t) resolve-call.Post
 resolve-call-same-length-6 t c = search (walk-laws, needs)
 
--- src/expr.rt:468:1
 resolve-call-returns-4 : (t : ℕ) → resolve-call-lts.Need-returns-4 (
   u16-in-reads.Asked,
   u16-in-reads.Learnt,
@@ -1162,7 +1087,6 @@ resolve-call-returns-4 : (t : ℕ) → resolve-call-lts.Need-returns-4 (
 ) (resolve-call-at t) resolve-call.Post
 resolve-call-returns-4 t c = search (walk-laws, needs)
 
--- src/expr.rt:507:9
 resolve-expr-returns : (t : ℕ) → resolve-expr-lts.Need-returns (
   byte-reads.Asked,
   byte-reads.Learnt,
@@ -1177,7 +1101,6 @@ resolve-expr-returns : (t : ℕ) → resolve-expr-lts.Need-returns (
 ) (resolve-expr-at t) resolve-expr.Post
 resolve-expr-returns t c = search (walk-laws, needs)
 
--- src/expr.rt:509:9
 resolve-expr-byte-requires : (t : ℕ) → resolve-expr-lts.Need-byte-requires (
   byte-reads.Asked,
   byte-reads.Learnt,
@@ -1192,7 +1115,6 @@ resolve-expr-byte-requires : (t : ℕ) → resolve-expr-lts.Need-byte-requires (
 ) (resolve-expr-at t) resolve-expr.Post
 resolve-expr-byte-requires t c κs = search (walk-laws, needs)
 
--- src/expr.rt:511:9
 resolve-expr-atom-requires : (t : ℕ) → resolve-expr-lts.Need-atom-requires (
   byte-reads.Asked,
   byte-reads.Learnt,
@@ -1207,7 +1129,6 @@ resolve-expr-atom-requires : (t : ℕ) → resolve-expr-lts.Need-atom-requires (
 ) (resolve-expr-at t) resolve-expr.Post
 resolve-expr-atom-requires t c κs = search (walk-laws, needs)
 
--- src/expr.rt:511:9
 resolve-expr-same-length : (t : ℕ) → resolve-expr-lts.Need-same-length (
   byte-reads.Asked,
   byte-reads.Learnt,
@@ -1222,7 +1143,6 @@ resolve-expr-same-length : (t : ℕ) → resolve-expr-lts.Need-same-length (
 ) (resolve-expr-at t) resolve-expr.Post
 resolve-expr-same-length t c = search (walk-laws, needs)
 
--- src/expr.rt:511:9
 resolve-expr-returns-2 : (t : ℕ) → resolve-expr-lts.Need-returns-2 (
   byte-reads.Asked,
   byte-reads.Learnt,
@@ -1237,7 +1157,6 @@ resolve-expr-returns-2 : (t : ℕ) → resolve-expr-lts.Need-returns-2 (
 ) (resolve-expr-at t) resolve-expr.Post
 resolve-expr-returns-2 t c = search (walk-laws, needs)
 
--- src/expr.rt:514:27
 resolve-expr-sub-resolve-op : (t : ℕ) → resolve-expr-lts.Need-sub-resolve-op (
   byte-reads.Asked,
   byte-reads.Learnt,
@@ -1252,7 +1171,6 @@ resolve-expr-sub-resolve-op : (t : ℕ) → resolve-expr-lts.Need-sub-resolve-op
 ) (resolve-expr-at t) resolve-expr.Post
 resolve-expr-sub-resolve-op t c = search (walk-laws, needs)
 
--- src/expr.rt:514:9
 resolve-expr-resolve-op-requires : (t : ℕ) → resolve-expr-lts.Need-resolve-op-requires (
   byte-reads.Asked,
   byte-reads.Learnt,
@@ -1267,7 +1185,6 @@ resolve-expr-resolve-op-requires : (t : ℕ) → resolve-expr-lts.Need-resolve-o
 ) (resolve-expr-at t) resolve-expr.Post
 resolve-expr-resolve-op-requires t c κs = search (walk-laws, needs)
 
--- src/expr.rt:514:9
 resolve-expr-same-length-2 : (t : ℕ) → resolve-expr-lts.Need-same-length-2 (
   byte-reads.Asked,
   byte-reads.Learnt,
@@ -1282,7 +1199,6 @@ resolve-expr-same-length-2 : (t : ℕ) → resolve-expr-lts.Need-same-length-2 (
 ) (resolve-expr-at t) resolve-expr.Post
 resolve-expr-same-length-2 t c = search (walk-laws, needs)
 
--- src/expr.rt:514:9
 resolve-expr-same-length-3 : (t : ℕ) → resolve-expr-lts.Need-same-length-3 (
   byte-reads.Asked,
   byte-reads.Learnt,
@@ -1297,7 +1213,6 @@ resolve-expr-same-length-3 : (t : ℕ) → resolve-expr-lts.Need-same-length-3 (
 ) (resolve-expr-at t) resolve-expr.Post
 resolve-expr-same-length-3 t c = search (walk-laws, needs)
 
--- src/expr.rt:514:9
 resolve-expr-returns-3 : (t : ℕ) → resolve-expr-lts.Need-returns-3 (
   byte-reads.Asked,
   byte-reads.Learnt,
@@ -1312,7 +1227,6 @@ resolve-expr-returns-3 : (t : ℕ) → resolve-expr-lts.Need-returns-3 (
 ) (resolve-expr-at t) resolve-expr.Post
 resolve-expr-returns-3 t c = search (walk-laws, needs)
 
--- src/expr.rt:517:21
 resolve-expr-sub-part : (t : ℕ) → resolve-expr-lts.Need-sub-part (
   byte-reads.Asked,
   byte-reads.Learnt,
@@ -1327,7 +1241,6 @@ resolve-expr-sub-part : (t : ℕ) → resolve-expr-lts.Need-sub-part (
 ) (resolve-expr-at t) resolve-expr.Post
 resolve-expr-sub-part t c = search (walk-laws, needs)
 
--- src/expr.rt:517:9
 resolve-expr-part-requires : (t : ℕ) → resolve-expr-lts.Need-part-requires (
   byte-reads.Asked,
   byte-reads.Learnt,
@@ -1342,7 +1255,6 @@ resolve-expr-part-requires : (t : ℕ) → resolve-expr-lts.Need-part-requires (
 ) (resolve-expr-at t) resolve-expr.Post
 resolve-expr-part-requires t c κs = search (walk-laws, needs)
 
--- src/expr.rt:517:9
 resolve-expr-same-length-4 : (t : ℕ) → resolve-expr-lts.Need-same-length-4 (
   byte-reads.Asked,
   byte-reads.Learnt,
@@ -1357,7 +1269,6 @@ resolve-expr-same-length-4 : (t : ℕ) → resolve-expr-lts.Need-same-length-4 (
 ) (resolve-expr-at t) resolve-expr.Post
 resolve-expr-same-length-4 t c = search (walk-laws, needs)
 
--- src/expr.rt:517:9
 resolve-expr-same-length-5 : (t : ℕ) → resolve-expr-lts.Need-same-length-5 (
   byte-reads.Asked,
   byte-reads.Learnt,
@@ -1372,7 +1283,6 @@ resolve-expr-same-length-5 : (t : ℕ) → resolve-expr-lts.Need-same-length-5 (
 ) (resolve-expr-at t) resolve-expr.Post
 resolve-expr-same-length-5 t c = search (walk-laws, needs)
 
--- src/expr.rt:517:9
 resolve-expr-returns-4 : (t : ℕ) → resolve-expr-lts.Need-returns-4 (
   byte-reads.Asked,
   byte-reads.Learnt,
@@ -1387,7 +1297,6 @@ resolve-expr-returns-4 : (t : ℕ) → resolve-expr-lts.Need-returns-4 (
 ) (resolve-expr-at t) resolve-expr.Post
 resolve-expr-returns-4 t c = search (walk-laws, needs)
 
--- src/expr.rt:520:9
 resolve-expr-returns-5 : (t : ℕ) → resolve-expr-lts.Need-returns-5 (
   byte-reads.Asked,
   byte-reads.Learnt,
@@ -1402,7 +1311,6 @@ resolve-expr-returns-5 : (t : ℕ) → resolve-expr-lts.Need-returns-5 (
 ) (resolve-expr-at t) resolve-expr.Post
 resolve-expr-returns-5 t c = search (walk-laws, needs)
 
--- src/expr.rt:522:18
 resolve-expr-sub-resolve-call : (t : ℕ) → resolve-expr-lts.Need-sub-resolve-call (
   byte-reads.Asked,
   byte-reads.Learnt,
@@ -1417,7 +1325,6 @@ resolve-expr-sub-resolve-call : (t : ℕ) → resolve-expr-lts.Need-sub-resolve-
 ) (resolve-expr-at t) resolve-expr.Post
 resolve-expr-sub-resolve-call t c = search (walk-laws, needs)
 
--- src/expr.rt:522:5
 resolve-expr-resolve-call-requires : (t : ℕ) → resolve-expr-lts.Need-resolve-call-requires (
   byte-reads.Asked,
   byte-reads.Learnt,
@@ -1432,7 +1339,6 @@ resolve-expr-resolve-call-requires : (t : ℕ) → resolve-expr-lts.Need-resolve
 ) (resolve-expr-at t) resolve-expr.Post
 resolve-expr-resolve-call-requires t c κs = search (walk-laws, needs)
 
--- src/expr.rt:493:1
 resolve-expr-same-length-6 : (t : ℕ) → resolve-expr-lts.Need-same-length-6 (
   byte-reads.Asked,
   byte-reads.Learnt,
@@ -1447,7 +1353,6 @@ resolve-expr-same-length-6 : (t : ℕ) → resolve-expr-lts.Need-same-length-6 (
 ) (resolve-expr-at t) resolve-expr.Post
 resolve-expr-same-length-6 t c = search (walk-laws, needs)
 
--- src/expr.rt:493:1
 resolve-expr-same-length-7 : (t : ℕ) → resolve-expr-lts.Need-same-length-7 (
   byte-reads.Asked,
   byte-reads.Learnt,
@@ -1462,7 +1367,6 @@ resolve-expr-same-length-7 : (t : ℕ) → resolve-expr-lts.Need-same-length-7 (
 ) (resolve-expr-at t) resolve-expr.Post
 resolve-expr-same-length-7 t c = search (walk-laws, needs)
 
--- src/expr.rt:493:1
 resolve-expr-returns-6 : (t : ℕ) → resolve-expr-lts.Need-returns-6 (
   byte-reads.Asked,
   byte-reads.Learnt,
@@ -1477,7 +1381,6 @@ resolve-expr-returns-6 : (t : ℕ) → resolve-expr-lts.Need-returns-6 (
 ) (resolve-expr-at t) resolve-expr.Post
 resolve-expr-returns-6 t c = search (walk-laws, needs)
 
--- src/expr.rt:372:9
 resolve-op-operands-of-requires : (t : ℕ) → resolve-op-lts.Need-operands-of-requires (
   operands-of-reads.Asked,
   operands-of-reads.Learnt,
@@ -1488,7 +1391,6 @@ resolve-op-operands-of-requires : (t : ℕ) → resolve-op-lts.Need-operands-of-
 ) (resolve-op-at t) resolve-op.Post
 resolve-op-operands-of-requires t c κs = search (walk-laws, needs)
 
--- src/expr.rt:373:11
 resolve-op-expr-value-requires : (t : ℕ) → resolve-op-lts.Need-expr-value-requires (
   operands-of-reads.Asked,
   operands-of-reads.Learnt,
@@ -1499,7 +1401,6 @@ resolve-op-expr-value-requires : (t : ℕ) → resolve-op-lts.Need-expr-value-re
 ) (resolve-op-at t) resolve-op.Post
 resolve-op-expr-value-requires t c κs = search (walk-laws, needs)
 
--- src/expr.rt:374:21
 resolve-op-enum-known-n : (t : ℕ) → resolve-op-lts.Need-enum-known-n (
   operands-of-reads.Asked,
   operands-of-reads.Learnt,
@@ -1510,7 +1411,6 @@ resolve-op-enum-known-n : (t : ℕ) → resolve-op-lts.Need-enum-known-n (
 ) (resolve-op-at t) resolve-op.Post
 resolve-op-enum-known-n t c = search (walk-laws, needs)
 
--- src/expr.rt:375:26
 resolve-op-enum-known-v : (t : ℕ) → resolve-op-lts.Need-enum-known-v (
   operands-of-reads.Asked,
   operands-of-reads.Learnt,
@@ -1521,7 +1421,6 @@ resolve-op-enum-known-v : (t : ℕ) → resolve-op-lts.Need-enum-known-v (
 ) (resolve-op-at t) resolve-op.Post
 resolve-op-enum-known-v t c = search (walk-laws, needs)
 
--- src/expr.rt:379:13
 resolve-op-expr-value-requires-2 : (t : ℕ) → resolve-op-lts.Need-expr-value-requires-2 (
   operands-of-reads.Asked,
   operands-of-reads.Learnt,
@@ -1532,7 +1431,6 @@ resolve-op-expr-value-requires-2 : (t : ℕ) → resolve-op-lts.Need-expr-value-
 ) (resolve-op-at t) resolve-op.Post
 resolve-op-expr-value-requires-2 t c κs = (omega (arith, c .before .before .before .before .before .before .before .before .before .before .before .before .before .before .before .before .before .pre .0), search needs)
 
--- src/expr.rt:375:48
 resolve-op-apply2-requires : (t : ℕ) → resolve-op-lts.Need-apply2-requires (
   operands-of-reads.Asked,
   operands-of-reads.Learnt,
@@ -1543,7 +1441,6 @@ resolve-op-apply2-requires : (t : ℕ) → resolve-op-lts.Need-apply2-requires (
 ) (resolve-op-at t) resolve-op.Post
 resolve-op-apply2-requires t c κs = search (walk-laws, needs)
 
--- src/expr.rt:359:1
 resolve-op-same-length : (t : ℕ) → resolve-op-lts.Need-same-length (
   operands-of-reads.Asked,
   operands-of-reads.Learnt,
@@ -1554,7 +1451,6 @@ resolve-op-same-length : (t : ℕ) → resolve-op-lts.Need-same-length (
 ) (resolve-op-at t) resolve-op.Post
 resolve-op-same-length t c = search (walk-laws, needs)
 
--- src/expr.rt:359:1
 resolve-op-same-length-2 : (t : ℕ) → resolve-op-lts.Need-same-length-2 (
   operands-of-reads.Asked,
   operands-of-reads.Learnt,
@@ -1565,7 +1461,6 @@ resolve-op-same-length-2 : (t : ℕ) → resolve-op-lts.Need-same-length-2 (
 ) (resolve-op-at t) resolve-op.Post
 resolve-op-same-length-2 t c = search (walk-laws, needs)
 
--- src/expr.rt:359:1
 resolve-op-returns : (t : ℕ) → resolve-op-lts.Need-returns (
   operands-of-reads.Asked,
   operands-of-reads.Learnt,
@@ -1576,7 +1471,6 @@ resolve-op-returns : (t : ℕ) → resolve-op-lts.Need-returns (
 ) (resolve-op-at t) resolve-op.Post
 resolve-op-returns t c = search (walk-laws, needs)
 
--- src/expr.rt:359:1
 resolve-op-same-length-3 : (t : ℕ) → resolve-op-lts.Need-same-length-3 (
   operands-of-reads.Asked,
   operands-of-reads.Learnt,
@@ -1587,7 +1481,6 @@ resolve-op-same-length-3 : (t : ℕ) → resolve-op-lts.Need-same-length-3 (
 ) (resolve-op-at t) resolve-op.Post
 resolve-op-same-length-3 t c = search (walk-laws, needs)
 
--- src/expr.rt:359:1
 resolve-op-same-length-4 : (t : ℕ) → resolve-op-lts.Need-same-length-4 (
   operands-of-reads.Asked,
   operands-of-reads.Learnt,
@@ -1598,7 +1491,6 @@ resolve-op-same-length-4 : (t : ℕ) → resolve-op-lts.Need-same-length-4 (
 ) (resolve-op-at t) resolve-op.Post
 resolve-op-same-length-4 t c = search (walk-laws, needs)
 
--- src/expr.rt:359:1
 resolve-op-returns-2 : (t : ℕ) → resolve-op-lts.Need-returns-2 (
   operands-of-reads.Asked,
   operands-of-reads.Learnt,
@@ -1609,7 +1501,6 @@ resolve-op-returns-2 : (t : ℕ) → resolve-op-lts.Need-returns-2 (
 ) (resolve-op-at t) resolve-op.Post
 resolve-op-returns-2 t c = search (walk-laws, needs)
 
--- src/expr.rt:462:39
 user-op-after-requires : (t : ℕ) → user-op-lts.Need-after-requires (
   after-reads.Asked,
   after-reads.Learnt,
@@ -1620,7 +1511,6 @@ user-op-after-requires : (t : ℕ) → user-op-lts.Need-after-requires (
 ) (user-op-at t) user-op.Post
 user-op-after-requires t c κs = search (walk-laws, needs)
 
--- src/expr.rt:462:66
 user-op-slice-aggregate-resolve-args : (t : ℕ) → user-op-lts.Need-slice-aggregate-resolve-args (
   after-reads.Asked,
   after-reads.Learnt,
@@ -1631,7 +1521,6 @@ user-op-slice-aggregate-resolve-args : (t : ℕ) → user-op-lts.Need-slice-aggr
 ) (user-op-at t) user-op.Post
 user-op-slice-aggregate-resolve-args t c = search (walk-laws, needs)
 
--- src/expr.rt:462:11
 user-op-resolve-args-requires : (t : ℕ) → user-op-lts.Need-resolve-args-requires (
   after-reads.Asked,
   after-reads.Learnt,
@@ -1642,7 +1531,6 @@ user-op-resolve-args-requires : (t : ℕ) → user-op-lts.Need-resolve-args-requ
 ) (user-op-at t) user-op.Post
 user-op-resolve-args-requires t c κs = search (walk-laws, needs)
 
--- src/expr.rt:463:18
 user-op-enum-known-k : (t : ℕ) → user-op-lts.Need-enum-known-k (
   after-reads.Asked,
   after-reads.Learnt,
@@ -1653,7 +1541,6 @@ user-op-enum-known-k : (t : ℕ) → user-op-lts.Need-enum-known-k (
 ) (user-op-at t) user-op.Post
 user-op-enum-known-k t c = search (walk-laws, needs)
 
--- src/expr.rt:464:22
 user-op-enum-known-next : (t : ℕ) → user-op-lts.Need-enum-known-next (
   after-reads.Asked,
   after-reads.Learnt,
@@ -1664,7 +1551,6 @@ user-op-enum-known-next : (t : ℕ) → user-op-lts.Need-enum-known-next (
 ) (user-op-at t) user-op.Post
 user-op-enum-known-next t c = search (walk-laws, needs)
 
--- src/expr.rt:464:66
 user-op-slice-aggregate-call-user-op : (t : ℕ) → user-op-lts.Need-slice-aggregate-call-user-op (
   after-reads.Asked,
   after-reads.Learnt,
@@ -1675,7 +1561,6 @@ user-op-slice-aggregate-call-user-op : (t : ℕ) → user-op-lts.Need-slice-aggr
 ) (user-op-at t) user-op.Post
 user-op-slice-aggregate-call-user-op t c = search (walk-laws, needs)
 
--- src/expr.rt:464:41
 user-op-call-user-op-requires : (t : ℕ) → user-op-lts.Need-call-user-op-requires (
   after-reads.Asked,
   after-reads.Learnt,
@@ -1686,7 +1571,6 @@ user-op-call-user-op-requires : (t : ℕ) → user-op-lts.Need-call-user-op-requ
 ) (user-op-at t) user-op.Post
 user-op-call-user-op-requires t c κs = search (walk-laws, needs)
 
--- src/expr.rt:446:1
 user-op-same-length : (t : ℕ) → user-op-lts.Need-same-length (
   after-reads.Asked,
   after-reads.Learnt,
@@ -1697,7 +1581,6 @@ user-op-same-length : (t : ℕ) → user-op-lts.Need-same-length (
 ) (user-op-at t) user-op.Post
 user-op-same-length t c = search (walk-laws, needs)
 
--- src/expr.rt:446:1
 user-op-same-length-2 : (t : ℕ) → user-op-lts.Need-same-length-2 (
   after-reads.Asked,
   after-reads.Learnt,
@@ -1708,7 +1591,6 @@ user-op-same-length-2 : (t : ℕ) → user-op-lts.Need-same-length-2 (
 ) (user-op-at t) user-op.Post
 user-op-same-length-2 t c = search (walk-laws, needs)
 
--- src/expr.rt:446:1
 user-op-returns : (t : ℕ) → user-op-lts.Need-returns (
   after-reads.Asked,
   after-reads.Learnt,
@@ -1719,7 +1601,6 @@ user-op-returns : (t : ℕ) → user-op-lts.Need-returns (
 ) (user-op-at t) user-op.Post
 user-op-returns t c = search (walk-laws, needs)
 
--- src/expr.rt:446:1
 user-op-same-length-3 : (t : ℕ) → user-op-lts.Need-same-length-3 (
   after-reads.Asked,
   after-reads.Learnt,
@@ -1730,7 +1611,6 @@ user-op-same-length-3 : (t : ℕ) → user-op-lts.Need-same-length-3 (
 ) (user-op-at t) user-op.Post
 user-op-same-length-3 t c = search (walk-laws, needs)
 
--- src/expr.rt:446:1
 user-op-same-length-4 : (t : ℕ) → user-op-lts.Need-same-length-4 (
   after-reads.Asked,
   after-reads.Learnt,
@@ -1741,7 +1621,6 @@ user-op-same-length-4 : (t : ℕ) → user-op-lts.Need-same-length-4 (
 ) (user-op-at t) user-op.Post
 user-op-same-length-4 t c = search (walk-laws, needs)
 
--- src/expr.rt:446:1
 user-op-returns-2 : (t : ℕ) → user-op-lts.Need-returns-2 (
   after-reads.Asked,
   after-reads.Learnt,

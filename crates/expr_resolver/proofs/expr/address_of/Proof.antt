@@ -9,39 +9,30 @@ use Rattle.expr_scope.proofs.scope.resolve_ident.Reads as resolve-ident-reads
 use Rattle.access.proofs.u16_in.Reads as u16-in-reads
 use Rattle.expr_resolver.proofs.ExprLaws.{expr-laws}
 
--- src/expr.rt:88:44
 u16-in-requires : tie.Need-u16-in-requires
 u16-in-requires c κs = search (expr-laws, needs)
 
--- src/expr.rt:88:11
 resolve-ident-requires : tie.Need-resolve-ident-requires
 resolve-ident-requires c κs = search (expr-laws, needs)
 
--- src/expr.rt:89:24
 enum-known-n : tie.Need-enum-known-n
 enum-known-n c = search (expr-laws, needs)
 
--- src/expr.rt:90:24
 enum-known-x : tie.Need-enum-known-x
 enum-known-x c = search (expr-laws, needs)
 
--- src/expr.rt:90:47
 u16-in-requires-2 : tie.Need-u16-in-requires-2
 u16-in-requires-2 c κs = search (expr-laws, needs)
 
--- src/expr.rt:90:66
 after-requires : tie.Need-after-requires
 after-requires c κs = search (expr-laws, needs)
 
--- src/expr.rt:90:30
 local-address-requires : tie.Need-local-address-requires
 local-address-requires c κs = search (expr-laws, needs)
 
--- src/expr.rt:85:1
 returns : tie.Need-returns
 returns c = search (expr-laws, needs)
 
--- src/expr.rt:85:1
 returns-2 : tie.Need-returns-2
 returns-2 c = search (expr-laws, needs)
 

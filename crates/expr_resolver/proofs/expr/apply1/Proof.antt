@@ -7,27 +7,21 @@ use Rattle.expr_terms.proofs.calls.applied.Reads as applied-reads
 use Rattle.list_values.proofs.value.absent.Reads as absent-reads
 use Rattle.expr_resolver.proofs.ExprLaws.{expr-laws}
 
--- src/expr.rt:176:21
 enum-known-answer : tie.Need-enum-known-answer
 enum-known-answer c = search (expr-laws, needs)
 
--- src/expr.rt:177:26
 enum-known-answer-2 : tie.Need-enum-known-answer-2
 enum-known-answer-2 c = search (expr-laws, needs)
 
--- src/expr.rt:177:64
 absent-requires : tie.Need-absent-requires
 absent-requires c κs = search (expr-laws, needs)
 
--- src/expr.rt:177:43
 applied-requires : tie.Need-applied-requires
 applied-requires c κs = search (expr-laws, needs)
 
--- src/expr.rt:172:1
 returns : tie.Need-returns
 returns c = search (expr-laws, needs)
 
--- src/expr.rt:172:1
 returns-2 : tie.Need-returns-2
 returns-2 c = search (expr-laws, needs)
 

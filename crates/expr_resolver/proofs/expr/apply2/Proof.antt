@@ -7,27 +7,21 @@ use Rattle.expr_terms.proofs.calls.applied.Reads as applied-reads
 use Rattle.expr_resolver.proofs.expr.later.Reads as later-reads
 use Rattle.expr_resolver.proofs.ExprLaws.{expr-laws}
 
--- src/expr.rt:186:21
 enum-known-answer : tie.Need-enum-known-answer
 enum-known-answer c = search (expr-laws, needs)
 
--- src/expr.rt:187:29
 enum-known-answer-2 : tie.Need-enum-known-answer-2
 enum-known-answer-2 c = search (expr-laws, needs)
 
--- src/expr.rt:187:70
 later-requires : tie.Need-later-requires
 later-requires c κs = search (expr-laws, needs)
 
--- src/expr.rt:187:46
 applied-requires : tie.Need-applied-requires
 applied-requires c κs = search (expr-laws, needs)
 
--- src/expr.rt:182:1
 returns : tie.Need-returns
 returns c = search (expr-laws, needs)
 
--- src/expr.rt:182:1
 returns-2 : tie.Need-returns-2
 returns-2 c = search (expr-laws, needs)
 

@@ -9,35 +9,27 @@ use Rattle.expr_terms.proofs.answers.after.Reads as after-reads
 use Rattle.expr_resolver.proofs.expr.name_at.Reads as name-at-reads
 use Rattle.expr_resolver.proofs.ExprLaws.{expr-laws}
 
--- src/expr.rt:122:14
 name-at-requires : tie.Need-name-at-requires
 name-at-requires c κs = search (expr-laws, needs)
 
--- src/expr.rt:125:41
 after-requires : tie.Need-after-requires
 after-requires c κs = search (expr-laws, needs)
 
--- src/expr.rt:125:24
 u64-at-requires : tie.Need-u64-at-requires
 u64-at-requires c κs = search (expr-laws, needs)
 
--- src/expr.rt:128:19
 after-requires-2 : tie.Need-after-requires-2
 after-requires-2 c κs = search (expr-laws, needs)
 
--- src/expr.rt:131:14
 address-of-requires : tie.Need-address-of-requires
 address-of-requires c κs = search (expr-laws, needs)
 
--- src/expr.rt:118:1
 returns : tie.Need-returns
 returns c = search (expr-laws, needs)
 
--- src/expr.rt:118:1
 returns-2 : tie.Need-returns-2
 returns-2 c = search (expr-laws, needs)
 
--- src/expr.rt:118:1
 returns-3 : tie.Need-returns-3
 returns-3 c = search (expr-laws, needs)
 

@@ -5,11 +5,9 @@ use Rattle.expr_resolver.proofs.expr.later.Lts as lts
 use Rattle.expr_resolver.proofs.ExprLaws.{expr-laws}
 use borrow.Author.Needs.{needs}
 
--- src/expr.rt:127:1
 returns : tie.Need-returns
 returns c = search (expr-laws, needs)
 
--- src/expr.rt:127:1
 returns-2 : tie.Need-returns-2
 returns-2 c = search (expr-laws, needs)
 

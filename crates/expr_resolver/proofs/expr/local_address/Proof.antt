@@ -5,15 +5,12 @@ use Rattle.expr_resolver.proofs.expr.local_address.Reads as reads
 use Rattle.expr_resolver.proofs.expr.local_address.Lts as lts
 use Rattle.expr_resolver.proofs.ExprLaws.{expr-laws}
 
--- src/expr.rt:76:26
 enum-known-expr : tie.Need-enum-known-expr
 enum-known-expr c = search (expr-laws, needs)
 
--- src/expr.rt:72:1
 returns : tie.Need-returns
 returns c = search (expr-laws, needs)
 
--- src/expr.rt:72:1
 returns-2 : tie.Need-returns-2
 returns-2 c = search (expr-laws, needs)
 

@@ -5,19 +5,15 @@ use Rattle.expr_resolver.proofs.expr.means_at.Reads as reads
 use Rattle.expr_resolver.proofs.expr.means_at.Lts as lts
 use Rattle.expr_resolver.proofs.ExprLaws.{expr-laws}
 
--- src/expr.rt:67:24
 enum-known-answer : tie.Need-enum-known-answer
 enum-known-answer c = search (expr-laws, needs)
 
--- src/expr.rt:68:24
 enum-known-answer-2 : tie.Need-enum-known-answer-2
 enum-known-answer-2 c = search (expr-laws, needs)
 
--- src/expr.rt:63:1
 returns : tie.Need-returns
 returns c = search (expr-laws, needs)
 
--- src/expr.rt:63:1
 returns-2 : tie.Need-returns-2
 returns-2 c = search (expr-laws, needs)
 

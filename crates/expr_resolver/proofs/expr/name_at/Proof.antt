@@ -11,43 +11,33 @@ use Rattle.access.proofs.u16_in.Reads as u16-in-reads
 use Rattle.list_values.proofs.value.local.Reads as local-reads
 use Rattle.expr_resolver.proofs.ExprLaws.{expr-laws}
 
--- src/expr.rt:105:9
 u16-in-requires : tie.Need-u16-in-requires
 u16-in-requires c κs = search (expr-laws, needs)
 
--- src/expr.rt:106:9
 plain-local-requires : tie.Need-plain-local-requires
 plain-local-requires c κs = search (expr-laws, needs)
 
--- src/expr.rt:109:46
 sub-local : tie.Need-sub-local
 sub-local c = search (expr-laws, needs)
 
--- src/expr.rt:109:33
 local-requires : tie.Need-local-requires
 local-requires c κs = search (expr-laws, needs)
 
--- src/expr.rt:110:19
 after-requires : tie.Need-after-requires
 after-requires c κs = search (expr-laws, needs)
 
--- src/expr.rt:108:9
 returns : tie.Need-returns
 returns c = search (expr-laws, needs)
 
--- src/expr.rt:114:14
 resolve-ident-requires : tie.Need-resolve-ident-requires
 resolve-ident-requires c κs = search (expr-laws, needs)
 
--- src/expr.rt:114:54
 after-requires-2 : tie.Need-after-requires-2
 after-requires-2 c κs = search (expr-laws, needs)
 
--- src/expr.rt:114:5
 means-at-requires : tie.Need-means-at-requires
 means-at-requires c κs = search (expr-laws, needs)
 
--- src/expr.rt:102:1
 returns-2 : tie.Need-returns-2
 returns-2 c = search (expr-laws, needs)
 

@@ -9,31 +9,24 @@ use Rattle.expr_resolver.proofs.expr.operation_of.Reads as operation-of
 use Rattle.expr_resolver.proofs.expr.skip_expr.Reads as skip-expr-reads
 use Rattle.expr_resolver.proofs.ExprLaws.{expr-laws}
 
--- src/expr.rt:154:9
 after-requires : tie.Need-after-requires
 after-requires c κs = search (expr-laws, needs)
 
--- src/expr.rt:155:9
 skip-expr-requires : tie.Need-skip-expr-requires
 skip-expr-requires c κs = search (expr-laws, needs)
 
--- src/expr.rt:156:9
 byte-requires : tie.Need-byte-requires
 byte-requires c κs = search (expr-laws, needs)
 
--- src/expr.rt:157:9
 after-requires-2 : tie.Need-after-requires-2
 after-requires-2 c κs = search (expr-laws, needs)
 
--- src/expr.rt:159:9
 returns : tie.Need-returns
 returns c = search (expr-laws, needs)
 
--- src/expr.rt:166:13
 operation-of-requires : tie.Need-operation-of-requires
 operation-of-requires c κs = search (expr-laws, needs)
 
--- src/expr.rt:151:1
 returns-2 : tie.Need-returns-2
 returns-2 c = search (expr-laws, needs)
 

@@ -8,31 +8,24 @@ use Rattle.expr_scope.proofs.scope.plain_local.Reads as plain-local-reads
 use Rattle.access.proofs.u16_in.Reads as u16-in-reads
 use Rattle.expr_resolver.proofs.ExprLaws.{expr-laws}
 
--- src/expr.rt:259:9
 returns : tie.Need-returns
 returns c = search (expr-laws, needs)
 
--- src/expr.rt:261:9
 byte-requires : tie.Need-byte-requires
 byte-requires c κs = search (expr-laws, needs)
 
--- src/expr.rt:263:45
 u16-in-requires : tie.Need-u16-in-requires
 u16-in-requires c κs = search (expr-laws, needs)
 
--- src/expr.rt:263:14
 plain-local-requires : tie.Need-plain-local-requires
 plain-local-requires c κs = search (expr-laws, needs)
 
--- src/expr.rt:255:1
 returns-2 : tie.Need-returns-2
 returns-2 c = search (expr-laws, needs)
 
--- src/expr.rt:255:1
 returns-3 : tie.Need-returns-3
 returns-3 c = search (expr-laws, needs)
 
--- src/expr.rt:255:1
 returns-4 : tie.Need-returns-4
 returns-4 c = search (expr-laws, needs)
 

@@ -9,39 +9,30 @@ use Rattle.expr_reading.proofs.read.constant.Reads as constant-reads
 use Rattle.list_values.proofs.value.local.Reads as local-reads
 use Rattle.expr_resolver.proofs.ExprLaws.{expr-laws}
 
--- src/expr.rt:275:29
 sub-local : tie.Need-sub-local
 sub-local c = search (expr-laws, needs)
 
--- src/expr.rt:275:16
 local-requires : tie.Need-local-requires
 local-requires c κs = search (expr-laws, needs)
 
--- src/expr.rt:276:19
 after-requires : tie.Need-after-requires
 after-requires c κs = search (expr-laws, needs)
 
--- src/expr.rt:274:9
 returns : tie.Need-returns
 returns c = search (expr-laws, needs)
 
--- src/expr.rt:281:38
 after-requires-2 : tie.Need-after-requires-2
 after-requires-2 c κs = search (expr-laws, needs)
 
--- src/expr.rt:281:21
 u64-at-requires : tie.Need-u64-at-requires
 u64-at-requires c κs = search (expr-laws, needs)
 
--- src/expr.rt:281:12
 constant-requires : tie.Need-constant-requires
 constant-requires c κs = search (expr-laws, needs)
 
--- src/expr.rt:282:15
 after-requires-3 : tie.Need-after-requires-3
 after-requires-3 c κs = search (expr-laws, needs)
 
--- src/expr.rt:270:1
 returns-2 : tie.Need-returns-2
 returns-2 c = search (expr-laws, needs)
 

@@ -7,15 +7,12 @@ use Rattle.access.proofs.u16_at.Reads as u16-at-reads
 use Rattle.file_syntax.proofs.expressions.expr.Reads as expr-reads
 use Rattle.expr_resolver.proofs.ExprLaws.{expr-laws}
 
--- src/expr.rt:140:9
 u16-at-requires : tie.Need-u16-at-requires
 u16-at-requires c κs = search (expr-laws, needs)
 
--- src/expr.rt:137:9
 expr-requires : tie.Need-expr-requires
 expr-requires c κs = search (expr-laws, needs)
 
--- src/expr.rt:134:1
 returns : tie.Need-returns
 returns c = search (expr-laws, needs)
 

@@ -9,83 +9,63 @@ use Rattle.access.proofs.u16_in.Reads as u16-in-reads
 use Rattle.expr_terms.proofs.slices.slice_bits.Reads as slice-bits-reads
 use Rattle.expr_resolver.proofs.ExprLaws.{expr-laws}
 
--- src/expr.rt:203:50
 u16-in-requires : tie.Need-u16-in-requires
 u16-in-requires c κs = search (expr-laws, needs)
 
--- src/expr.rt:203:46
 mul-bits : tie.Need-mul-bits
 mul-bits c = search (expr-laws, needs)
 
--- src/expr.rt:203:70
 after-requires : tie.Need-after-requires
 after-requires c κs = search (expr-laws, needs)
 
--- src/expr.rt:203:14
 slice-bits-requires : tie.Need-slice-bits-requires
 slice-bits-requires c κs = search (expr-laws, needs)
 
--- src/expr.rt:204:43
 u16-in-requires-2 : tie.Need-u16-in-requires-2
 u16-in-requires-2 c κs = search (expr-laws, needs)
 
--- src/expr.rt:204:63
 u16-in-requires-3 : tie.Need-u16-in-requires-3
 u16-in-requires-3 c κs = search (expr-laws, needs)
 
--- src/expr.rt:204:83
 after-requires-2 : tie.Need-after-requires-2
 after-requires-2 c κs = search (expr-laws, needs)
 
--- src/expr.rt:204:14
 slice-bits-requires-2 : tie.Need-slice-bits-requires-2
 slice-bits-requires-2 c κs = search (expr-laws, needs)
 
--- src/expr.rt:205:45
 u16-in-requires-4 : tie.Need-u16-in-requires-4
 u16-in-requires-4 c κs = search (expr-laws, needs)
 
--- src/expr.rt:205:64
 u16-in-requires-5 : tie.Need-u16-in-requires-5
 u16-in-requires-5 c κs = search (expr-laws, needs)
 
--- src/expr.rt:205:14
 resolve-address-requires : tie.Need-resolve-address-requires
 resolve-address-requires c κs = search (expr-laws, needs)
 
--- src/expr.rt:199:1
 same-length : tie.Need-same-length
 same-length c = search (expr-laws, needs)
 
--- src/expr.rt:199:1
 same-length-2 : tie.Need-same-length-2
 same-length-2 c = search (expr-laws, needs)
 
--- src/expr.rt:199:1
 returns : tie.Need-returns
 returns c = search (expr-laws, needs)
 
--- src/expr.rt:199:1
 same-length-3 : tie.Need-same-length-3
 same-length-3 c = search (expr-laws, needs)
 
--- src/expr.rt:199:1
 same-length-4 : tie.Need-same-length-4
 same-length-4 c = search (expr-laws, needs)
 
--- src/expr.rt:199:1
 returns-2 : tie.Need-returns-2
 returns-2 c = search (expr-laws, needs)
 
--- src/expr.rt:199:1
 same-length-5 : tie.Need-same-length-5
 same-length-5 c = search (expr-laws, needs)
 
--- src/expr.rt:199:1
 same-length-6 : tie.Need-same-length-6
 same-length-6 c = search (expr-laws, needs)
 
--- src/expr.rt:199:1
 returns-3 : tie.Need-returns-3
 returns-3 c = search (expr-laws, needs)
 

@@ -8,19 +8,15 @@ use Rattle.expr_scope.proofs.scope.param_place.Reads as param-place-rea
 use Rattle.expr_scope.proofs.scope.slot_at.Reads as slot-at-reads
 use Rattle.expr_scope.proofs.SlotLaws.{slot-laws}
 
--- src/args.rt:26:27
 param-place-requires : tie.Need-param-place-requires
 param-place-requires c κs = search (slot-laws, needs)
 
--- src/args.rt:26:13
 slot-at-requires : tie.Need-slot-at-requires
 slot-at-requires c κs = search (slot-laws, needs)
 
--- src/args.rt:26:5
 of-slot-requires : tie.Need-of-slot-requires
 of-slot-requires c κs = search (slot-laws, needs)
 
--- src/args.rt:23:1
 returns : tie.Need-returns
 returns c = search (slot-laws, needs)
 

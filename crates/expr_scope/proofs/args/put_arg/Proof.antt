@@ -8,23 +8,18 @@ use Rattle.expr_scope.proofs.scope.put_slot.Reads as put-slot-reads
 use Rattle.expr_scope.proofs.scope.slot_of.Reads as slot-of-reads
 use Rattle.expr_scope.proofs.SlotLaws.{slot-laws}
 
--- src/args.rt:20:20
 param-place-requires : tie.Need-param-place-requires
 param-place-requires c κs = search (slot-laws, needs)
 
--- src/args.rt:20:48
 slot-of-requires : tie.Need-slot-of-requires
 slot-of-requires c κs = search (slot-laws, needs)
 
--- src/args.rt:20:5
 put-slot-requires : tie.Need-put-slot-requires
 put-slot-requires c κs = search (slot-laws, needs)
 
--- src/args.rt:17:1
 same-length : tie.Need-same-length
 same-length c = search (slot-laws, needs)
 
--- src/args.rt:17:1
 returns : tie.Need-returns
 returns c = search (slot-laws, needs)
 

@@ -21,51 +21,39 @@ Inv-loop m₀ n name scope i₀ h₀ m i h = (length m ≡ length m₀) × Attac
 abbrev μ-loop : tie.MeasureT-loop
 μ-loop m₀ n name scope i₀ h₀ m i h = n - i
 
--- src/scope.rt:270:9
 path-requires : tie.Need-path-requires Inv-loop μ-loop
 path-requires c κs = search (scope-laws, needs)
 
--- src/scope.rt:271:5
 loop-holds : tie.Need-loop-holds Inv-loop μ-loop
 loop-holds c = (refl, attach-start _ _ _ _ _ (c .path .ensures))
 
--- src/scope.rt:272:13
 get-requires : tie.Need-get-requires Inv-loop μ-loop
 get-requires c κs = search (scope-laws, needs)
 
--- src/scope.rt:273:13
 onward-requires : tie.Need-onward-requires Inv-loop μ-loop
 onward-requires c κs = search (scope-laws, needs)
 
--- src/scope.rt:275:30
 linked-requires : tie.Need-linked-requires Inv-loop μ-loop
 linked-requires c κs = search (scope-laws, needs)
 
--- src/scope.rt:275:13
 put-requires : tie.Need-put-requires Inv-loop μ-loop
 put-requires c κs = search (scope-laws, needs)
 
--- src/scope.rt:276:13
 same-length : tie.Need-same-length Inv-loop μ-loop
 same-length c = search (scope-laws, needs)
 
--- src/scope.rt:276:13
 returns : tie.Need-returns Inv-loop μ-loop
 returns c = attach-here _ _ _ _ _ _ (c .before .before .before .before .before .before .before .before .before .before .loop .inv .1) _ _ _ (c .before .before .before .before .before .before .before .before .before .loop-test .taken) (c .before .before .before .before .before .before .before .get .ensures) (c .before .before .before .before .before .before .onward .ensures) (c .before .before .before .before .before .if1 .taken) (c .before .before .before .linked .ensures) (c .before .before .put .ensures)
 
--- src/scope.rt:271:5
 loop-less : tie.Need-loop-less Inv-loop μ-loop
 loop-less c = let a = onward-far (c .before .before .get .result) (c .before .before .before .before .before .loop .i) (c .before .before .before .before .before .loop .h) _ (c .before .before .before .before .loop-test .taken) in let b = c .before .onward .ensures in omega arith
 
--- src/scope.rt:271:5
 loop-again : tie.Need-loop-again Inv-loop μ-loop
 loop-again c = (c .before .before .before .before .before .loop .inv .0, attach-on _ _ _ _ _ _ (c .before .before .before .before .before .loop .inv .1) _ (c .before .before .before .before .loop-test .taken) (c .before .before .get .ensures) (c .before .onward .ensures) (c .if1 .left))
 
--- src/scope.rt:266:1
 same-length-2 : tie.Need-same-length-2 Inv-loop μ-loop
 same-length-2 c = search (scope-laws, needs)
 
--- src/scope.rt:266:1
 returns-2 : tie.Need-returns-2 Inv-loop μ-loop
 returns-2 c = attach-end _ _ _ _ 0 _ (c .before .loop .inv .1) (c .loop-test .left)
 

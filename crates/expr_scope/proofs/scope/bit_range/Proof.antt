@@ -8,31 +8,24 @@ use Rattle.list_values.proofs.sizes.entry.Reads as entry-reads
 use Rattle.list_values.proofs.value.local.Reads as local-reads
 use Rattle.expr_scope.proofs.ScopeLaws.{scope-laws}
 
--- src/scope.rt:239:26
 mul-entry : tie.Need-mul-entry
 mul-entry c = search (scope-laws, needs)
 
--- src/scope.rt:239:9
 entry-requires : tie.Need-entry-requires
 entry-requires c κs = search (scope-laws, needs)
 
--- src/scope.rt:241:21
 u16-in-requires : tie.Need-u16-in-requires
 u16-in-requires c κs = search (scope-laws, needs)
 
--- src/scope.rt:241:12
 local-requires : tie.Need-local-requires
 local-requires c κs = search (scope-laws, needs)
 
--- src/scope.rt:242:15
 u16-in-requires-2 : tie.Need-u16-in-requires-2
 u16-in-requires-2 c κs = search (scope-laws, needs)
 
--- src/scope.rt:243:15
 u16-in-requires-3 : tie.Need-u16-in-requires-3
 u16-in-requires-3 c κs = search (scope-laws, needs)
 
--- src/scope.rt:236:1
 returns : tie.Need-returns
 returns c = search (scope-laws, needs)
 

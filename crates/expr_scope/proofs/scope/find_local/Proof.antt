@@ -18,39 +18,30 @@ Inv-loop m n name scope i₀ h₀ i h = Searching n i h m name scope (findLocal 
 abbrev μ-loop : tie.MeasureT-loop
 μ-loop m n name scope i₀ h₀ i h = n - i
 
--- src/scope.rt:253:9
 path-requires : tie.Need-path-requires Inv-loop μ-loop
 path-requires c κs = search (scope-laws, needs)
 
--- src/scope.rt:254:5
 loop-holds : tie.Need-loop-holds Inv-loop μ-loop
 loop-holds c = find-start _ _ _ _ _ (c .path .ensures)
 
--- src/scope.rt:255:13
 get-requires : tie.Need-get-requires Inv-loop μ-loop
 get-requires c κs = search (scope-laws, needs)
 
--- src/scope.rt:256:12
 is-local-requires : tie.Need-is-local-requires Inv-loop μ-loop
 is-local-requires c κs = search (scope-laws, needs)
 
--- src/scope.rt:257:13
 returns : tie.Need-returns Inv-loop μ-loop
 returns c = find-hit _ _ _ _ _ _ _ _ (c .before .before .before .before .loop .inv) _ (c .before .before .before .loop-test .taken) (c .before .before .get .ensures) (c .before .is-local .ensures) (c .if1 .taken)
 
--- src/scope.rt:259:9
 onward-requires : tie.Need-onward-requires Inv-loop μ-loop
 onward-requires c κs = search (scope-laws, needs)
 
--- src/scope.rt:254:5
 loop-less : tie.Need-loop-less Inv-loop μ-loop
 loop-less c = let a = onward-far (c .before .before .before .get .result) (c .before .before .before .before .before .loop .i) (c .before .before .before .before .before .loop .h) _ (c .before .before .before .before .loop-test .taken) in let b = c .onward .ensures in omega arith
 
--- src/scope.rt:254:5
 loop-again : tie.Need-loop-again Inv-loop μ-loop
 loop-again c = find-miss _ _ _ _ _ _ _ _ (c .before .before .before .before .before .loop .inv) _ _ (c .before .before .before .before .loop-test .taken) (c .before .before .before .get .ensures) (c .before .before .is-local .ensures) (c .before .if1 .left) (c .onward .ensures)
 
--- src/scope.rt:249:1
 returns-2 : tie.Need-returns-2 Inv-loop μ-loop
 returns-2 c = find-end _ _ _ _ _ _ 0 _ (c .before .loop .inv) (c .loop-test .left)
 

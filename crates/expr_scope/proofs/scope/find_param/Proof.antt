@@ -17,39 +17,30 @@ Inv-loop p count name i₀ i = (i ≤ count) × (findParam i p name ≡ findPara
 abbrev μ-loop : tie.MeasureT-loop
 μ-loop p count name i₀ i = i
 
--- src/scope.rt:149:5
 loop-holds : tie.Need-loop-holds Inv-loop μ-loop
 loop-holds c = (omega arith, refl)
 
--- src/scope.rt:150:39
 sub-param-place : tie.Need-sub-param-place Inv-loop μ-loop
 sub-param-place c = omega arith
 
--- src/scope.rt:150:19
 param-place-requires : tie.Need-param-place-requires Inv-loop μ-loop
 param-place-requires c κs = search (scope-laws, needs)
 
--- src/scope.rt:150:12
 get-requires : tie.Need-get-requires Inv-loop μ-loop
 get-requires c κs = search (scope-laws, needs)
 
--- src/scope.rt:151:13
 returns : tie.Need-returns Inv-loop μ-loop
 returns c = param-hit _ _ _ _ _ _ (c .before .before .before .loop-test .taken) (c .before .before .param-place .ensures) (c .before .get .ensures) (c .if1 .taken) (c .before .before .before .before .loop .inv .1)
 
--- src/scope.rt:153:9
 sub-i : tie.Need-sub-i Inv-loop μ-loop
 sub-i c = omega arith
 
--- src/scope.rt:149:5
 loop-less : tie.Need-loop-less Inv-loop μ-loop
 loop-less c = omega arith
 
--- src/scope.rt:149:5
 loop-again : tie.Need-loop-again Inv-loop μ-loop
 loop-again c = (omega arith, param-miss _ _ _ _ _ _ (c .before .before .before .loop-test .taken) (c .before .before .param-place .ensures) (c .before .get .ensures) (c .if1 .left) (c .before .before .before .before .loop .inv .1))
 
--- src/scope.rt:145:1
 returns-2 : tie.Need-returns-2 Inv-loop μ-loop
 returns-2 c = param-end _ _ _ _ (c .loop-test .left) (c .before .loop .inv .1)
 

@@ -6,19 +6,15 @@ use Rattle.expr_scope.proofs.scope.global.Lts as lts
 use Rattle.access.proofs.get_u16.Reads as get-u16-reads
 use Rattle.expr_scope.proofs.ScopeLaws.{scope-laws}
 
--- src/scope.rt:233:23
 add-get-u16 : tie.Need-add-get-u16
 add-get-u16 c = search (scope-laws, needs)
 
--- src/scope.rt:233:5
 get-u16-requires : tie.Need-get-u16-requires
 get-u16-requires c κs = search (scope-laws, needs)
 
--- src/scope.rt:233:5
 cast-result : tie.Need-cast-result
 cast-result c = search (scope-laws, needs)
 
--- src/scope.rt:230:1
 returns : tie.Need-returns
 returns c = search (scope-laws, needs)
 

@@ -5,11 +5,9 @@ use Rattle.expr_scope.proofs.scope.link.Lts as lts
 use Rattle.expr_scope.proofs.ScopeLaws.{scope-laws}
 use borrow.Author.Needs.{needs}
 
--- src/scope.rt:215:1
 returns : tie.Need-returns
 returns c = search (scope-laws, needs)
 
--- src/scope.rt:215:1
 returns-2 : tie.Need-returns-2
 returns-2 c = search (scope-laws, needs)
 

@@ -5,43 +5,33 @@ use Rattle.expr_scope.proofs.scope.linked.Reads as reads
 use Rattle.expr_scope.proofs.scope.linked.Lts as lts
 use Rattle.expr_scope.proofs.ScopeLaws.{scope-laws}
 
--- src/scope.rt:229:26
 mul-result : tie.Need-mul-result
 mul-result c = search (scope-laws, needs)
 
--- src/scope.rt:229:9
 add-result : tie.Need-add-result
 add-result c = search (scope-laws, needs)
 
--- src/scope.rt:229:58
 mul-result-2 : tie.Need-mul-result-2
 mul-result-2 c = search (scope-laws, needs)
 
--- src/scope.rt:229:9
 add-result-2 : tie.Need-add-result-2
 add-result-2 c = search (scope-laws, needs)
 
--- src/scope.rt:231:29
 mul-result-3 : tie.Need-mul-result-3
 mul-result-3 c = search (scope-laws, needs)
 
--- src/scope.rt:231:9
 add-result-3 : tie.Need-add-result-3
 add-result-3 c = search (scope-laws, needs)
 
--- src/scope.rt:231:64
 mul-result-4 : tie.Need-mul-result-4
 mul-result-4 c = search (scope-laws, needs)
 
--- src/scope.rt:231:9
 add-result-4 : tie.Need-add-result-4
 add-result-4 c = search (scope-laws, needs)
 
--- src/scope.rt:225:1
 returns : tie.Need-returns
 returns c = search (scope-laws, needs)
 
--- src/scope.rt:225:1
 returns-2 : tie.Need-returns-2
 returns-2 c = search (scope-laws, needs)
 

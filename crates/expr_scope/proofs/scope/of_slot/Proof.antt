@@ -5,35 +5,27 @@ use Rattle.expr_scope.proofs.scope.of_slot.Lts as lts
 use Rattle.expr_scope.proofs.SlotLaws.{slot-laws}
 use borrow.Author.Needs.{needs}
 
--- src/scope.rt:89:1
 returns : tie.Need-returns
 returns c = search (slot-laws, needs)
 
--- src/scope.rt:89:1
 returns-2 : tie.Need-returns-2
 returns-2 c = search (slot-laws, needs)
 
--- src/scope.rt:89:1
 returns-3 : tie.Need-returns-3
 returns-3 c = search (slot-laws, needs)
 
--- src/scope.rt:89:1
 returns-4 : tie.Need-returns-4
 returns-4 c = search (slot-laws, needs)
 
--- src/scope.rt:89:1
 returns-5 : tie.Need-returns-5
 returns-5 c = search (slot-laws, needs)
 
--- src/scope.rt:89:1
 returns-6 : tie.Need-returns-6
 returns-6 c = search (slot-laws, needs)
 
--- src/scope.rt:89:1
 returns-7 : tie.Need-returns-7
 returns-7 c = search (slot-laws, needs)
 
--- src/scope.rt:89:1
 returns-8 : tie.Need-returns-8
 returns-8 c = search (slot-laws, needs)
 

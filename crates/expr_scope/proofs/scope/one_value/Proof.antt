@@ -6,11 +6,9 @@ use Rattle.expr_scope.proofs.scope.one_value.Lts as lts
 use Rattle.list_values.proofs.value.absent.Reads as absent-reads
 use Rattle.expr_scope.proofs.SlotLaws.{slot-laws}
 
--- src/scope.rt:64:12
 absent-requires : tie.Need-absent-requires
 absent-requires c κs = search (slot-laws, needs)
 
--- src/scope.rt:56:1
 returns : tie.Need-returns
 returns c = search (slot-laws, needs)
 

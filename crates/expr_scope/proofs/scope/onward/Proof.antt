@@ -6,19 +6,15 @@ use Rattle.expr_scope.proofs.scope.onward.Lts as lts
 use Rattle.expr_scope.proofs.scope.link.Reads as link-reads
 use Rattle.expr_scope.proofs.ScopeLaws.{scope-laws}
 
--- src/scope.rt:239:9
 link-requires : tie.Need-link-requires
 link-requires c κs = search (scope-laws, needs)
 
--- src/scope.rt:242:13
 returns : tie.Need-returns
 returns c = search (scope-laws, needs)
 
--- src/scope.rt:236:1
 returns-2 : tie.Need-returns-2
 returns-2 c = search (scope-laws, needs)
 
--- src/scope.rt:236:1
 returns-3 : tie.Need-returns-3
 returns-3 c = search (scope-laws, needs)
 

@@ -7,31 +7,24 @@ use Rattle.expr_scope.proofs.scope.bit_range.Reads as bit-range-reads
 use Rattle.expr_scope.proofs.scope.global.Reads as global-reads
 use Rattle.expr_scope.proofs.ScopeLaws.{scope-laws}
 
--- src/scope.rt:387:9
 global-requires : tie.Need-global-requires
 global-requires c κs = search (scope-laws, needs)
 
--- src/scope.rt:389:9
 returns : tie.Need-returns
 returns c = search (scope-laws, needs)
 
--- src/scope.rt:391:9
 sub-if2 : tie.Need-sub-if2
 sub-if2 c = search (scope-laws, needs)
 
--- src/scope.rt:392:48
 sub-bit-range : tie.Need-sub-bit-range
 sub-bit-range c = search (scope-laws, needs)
 
--- src/scope.rt:392:31
 bit-range-requires : tie.Need-bit-range-requires
 bit-range-requires c κs = search (scope-laws, needs)
 
--- src/scope.rt:392:9
 returns-2 : tie.Need-returns-2
 returns-2 c = search (scope-laws, needs)
 
--- src/scope.rt:384:1
 returns-3 : tie.Need-returns-3
 returns-3 c = search (scope-laws, needs)
 

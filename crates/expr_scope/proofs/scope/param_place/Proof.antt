@@ -5,11 +5,9 @@ use Rattle.expr_scope.proofs.scope.param_place.Reads as reads
 use Rattle.expr_scope.proofs.scope.param_place.Lts as lts
 use Rattle.expr_scope.proofs.SlotLaws.{slot-laws}
 
--- src/scope.rt:170:5
 mul-result : tie.Need-mul-result
 mul-result c = search (slot-laws, needs)
 
--- src/scope.rt:167:1
 returns : tie.Need-returns
 returns c = search (slot-laws, needs)
 

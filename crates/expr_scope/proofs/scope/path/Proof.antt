@@ -6,15 +6,12 @@ use Rattle.expr_scope.proofs.scope.path.Reads as reads
 use Rattle.expr_scope.proofs.scope.path.Lts as lts
 use Rattle.expr_scope.proofs.ScopeLaws.{scope-laws}
 
--- src/scope.rt:211:20
 mul-result : tie.Need-mul-result
 mul-result c = search (scope-laws, needs)
 
--- src/scope.rt:211:5
 add-result : tie.Need-add-result
 add-result c = search (scope-laws, needs)
 
--- src/scope.rt:208:1
 returns : tie.Need-returns
 unfolding path
 returns c = search (scope-laws, needs)

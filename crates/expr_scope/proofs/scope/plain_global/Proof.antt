@@ -6,43 +6,33 @@ use Rattle.expr_scope.proofs.scope.plain_global.Lts as lts
 use Rattle.expr_scope.proofs.scope.global.Reads as global-reads
 use Rattle.expr_scope.proofs.PlainLaws.{plain-laws}
 
--- src/scope.rt:336:9
 global-requires : tie.Need-global-requires
 global-requires c κs = search (plain-laws, needs)
 
--- src/scope.rt:338:9
 returns : tie.Need-returns
 returns c = search (plain-laws, needs)
 
--- src/scope.rt:340:17
 sub-kind : tie.Need-sub-kind
 sub-kind c = search (plain-laws, needs)
 
--- src/scope.rt:342:24
 sub-result : tie.Need-sub-result
 sub-result c = search (plain-laws, needs)
 
--- src/scope.rt:342:23
 add-result : tie.Need-add-result
 add-result c = search (plain-laws, needs)
 
--- src/scope.rt:342:18
 mul-result : tie.Need-mul-result
 mul-result c = search (plain-laws, needs)
 
--- src/scope.rt:342:14
 add-result-2 : tie.Need-add-result-2
 add-result-2 c = search (plain-laws, needs)
 
--- src/scope.rt:333:1
 returns-2 : tie.Need-returns-2
 returns-2 c = search (plain-laws, needs)
 
--- src/scope.rt:333:1
 returns-3 : tie.Need-returns-3
 returns-3 c = search (plain-laws, needs)
 
--- src/scope.rt:333:1
 returns-4 : tie.Need-returns-4
 returns-4 c = search (plain-laws, needs)
 

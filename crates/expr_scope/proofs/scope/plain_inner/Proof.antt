@@ -8,35 +8,27 @@ use Rattle.expr_scope.proofs.scope.plain_found.Reads as plain-found-rea
 use Rattle.expr_scope.proofs.scope.plain_global.Reads as plain-global-reads
 use Rattle.expr_scope.proofs.PlainLaws.{plain-laws}
 
--- src/scope.rt:455:16
 u16-at-requires : tie.Need-u16-at-requires
 u16-at-requires c κs = search (plain-laws, needs)
 
--- src/scope.rt:456:9
 returns : tie.Need-returns
 returns c = search (plain-laws, needs)
 
--- src/scope.rt:458:16
 u16-at-requires-2 : tie.Need-u16-at-requires-2
 u16-at-requires-2 c κs = search (plain-laws, needs)
 
--- src/scope.rt:459:9
 returns-2 : tie.Need-returns-2
 returns-2 c = search (plain-laws, needs)
 
--- src/scope.rt:461:9
 plain-found-requires : tie.Need-plain-found-requires
 plain-found-requires c κs = search (plain-laws, needs)
 
--- src/scope.rt:463:9
 plain-global-requires : tie.Need-plain-global-requires
 plain-global-requires c κs = search (plain-laws, needs)
 
--- src/scope.rt:463:9
 returns-3 : tie.Need-returns-3
 returns-3 c = search (plain-laws, needs)
 
--- src/scope.rt:452:1
 returns-4 : tie.Need-returns-4
 returns-4 c = search (plain-laws, needs)
 

@@ -7,19 +7,15 @@ use Rattle.expr_scope.proofs.scope.find_param.Reads as find-param-reads
 use Rattle.expr_scope.proofs.scope.plain_inner.Reads as plain-inner-reads
 use Rattle.expr_scope.proofs.PlainLaws.{plain-laws}
 
--- src/scope.rt:481:12
 find-param-requires : tie.Need-find-param-requires
 find-param-requires c κs = search (plain-laws, needs)
 
--- src/scope.rt:482:9
 returns : tie.Need-returns
 returns c = search (plain-laws, needs)
 
--- src/scope.rt:484:5
 plain-inner-requires : tie.Need-plain-inner-requires
 plain-inner-requires c κs = search (plain-laws, needs)
 
--- src/scope.rt:470:1
 returns-2 : tie.Need-returns-2
 returns-2 c = search (plain-laws, needs)
 

@@ -6,47 +6,36 @@ use Rattle.expr_scope.proofs.scope.plain_own.Lts as lts
 use Rattle.access.proofs.get_u16.Reads as get-u16-reads
 use Rattle.expr_scope.proofs.PlainLaws.{plain-laws}
 
--- src/scope.rt:403:31
 add-get-u16 : tie.Need-add-get-u16
 add-get-u16 c = search (plain-laws, needs)
 
--- src/scope.rt:403:13
 get-u16-requires : tie.Need-get-u16-requires
 get-u16-requires c κs = search (plain-laws, needs)
 
--- src/scope.rt:403:13
 cast-k : tie.Need-cast-k
 cast-k c = search (plain-laws, needs)
 
--- src/scope.rt:405:9
 returns : tie.Need-returns
 returns c = search (plain-laws, needs)
 
--- src/scope.rt:408:25
 add-result : tie.Need-add-result
 add-result c = search (plain-laws, needs)
 
--- src/scope.rt:408:20
 mul-result : tie.Need-mul-result
 mul-result c = search (plain-laws, needs)
 
--- src/scope.rt:408:16
 add-result-2 : tie.Need-add-result-2
 add-result-2 c = search (plain-laws, needs)
 
--- src/scope.rt:408:9
 returns-2 : tie.Need-returns-2
 returns-2 c = search (plain-laws, needs)
 
--- src/scope.rt:410:9
 mul-result-2 : tie.Need-mul-result-2
 mul-result-2 c = search (plain-laws, needs)
 
--- src/scope.rt:410:5
 add-result-3 : tie.Need-add-result-3
 add-result-3 c = search (plain-laws, needs)
 
--- src/scope.rt:400:1
 returns-3 : tie.Need-returns-3
 returns-3 c = search (plain-laws, needs)
 

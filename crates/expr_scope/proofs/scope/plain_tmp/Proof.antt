@@ -7,27 +7,21 @@ use Rattle.expr_scope.proofs.scope.find_local.Reads as find-local-reads
 use Rattle.expr_scope.proofs.PlainLaws.{plain-laws, found-small}
 use native.Mathlib.Omega.{arith}
 
--- src/scope.rt:416:9
 find-local-requires : tie.Need-find-local-requires
 find-local-requires c κs = search (plain-laws, needs)
 
--- src/scope.rt:418:25
 add-result : tie.Need-add-result
 add-result c = search (plain-laws, needs)
 
--- src/scope.rt:418:20
 mul-result : tie.Need-mul-result
 mul-result c = let l = found-small _ _ _ _ _ (c .before .find-local .ensures) (c .if1 .taken) in omega arith
 
--- src/scope.rt:418:16
 add-result-2 : tie.Need-add-result-2
 add-result-2 c = let l = found-small _ _ _ _ _ (c .before .find-local .ensures) (c .if1 .taken) in omega arith
 
--- src/scope.rt:418:9
 returns : tie.Need-returns
 returns c = search (plain-laws, needs)
 
--- src/scope.rt:413:1
 returns-2 : tie.Need-returns-2
 returns-2 c = search (plain-laws, needs)
 

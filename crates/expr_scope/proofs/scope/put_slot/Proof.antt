@@ -7,31 +7,24 @@ use Rattle.list_values.proofs.value.put.Reads as put-reads
 use Rattle.list_values.proofs.value.put_value.Reads as put-value-reads
 use Rattle.expr_scope.proofs.SlotLaws.{slot-laws}
 
--- src/scope.rt:118:5
 put-requires : tie.Need-put-requires
 put-requires c κs = search (slot-laws, needs)
 
--- src/scope.rt:119:5
 put-requires-2 : tie.Need-put-requires-2
 put-requires-2 c κs = search (slot-laws, needs)
 
--- src/scope.rt:120:5
 put-requires-3 : tie.Need-put-requires-3
 put-requires-3 c κs = search (slot-laws, needs)
 
--- src/scope.rt:121:5
 put-value-requires : tie.Need-put-value-requires
 put-value-requires c κs = search (slot-laws, needs)
 
--- src/scope.rt:122:5
 put-value-requires-2 : tie.Need-put-value-requires-2
 put-value-requires-2 c κs = search (slot-laws, needs)
 
--- src/scope.rt:115:1
 same-length : tie.Need-same-length
 same-length c = search (slot-laws, needs)
 
--- src/scope.rt:115:1
 returns : tie.Need-returns
 returns c = search (slot-laws, needs)
 

@@ -12,51 +12,39 @@ use Rattle.expr_scope.proofs.scope.slot_at.Reads as slot-at-reads
 use Rattle.list_values.proofs.value.local.Reads as local-reads
 use Rattle.expr_scope.proofs.ScopeLaws.{scope-laws}
 
--- src/scope.rt:408:9
 find-param-requires : tie.Need-find-param-requires
 find-param-requires c κs = search (scope-laws, needs)
 
--- src/scope.rt:410:72
 sub-param-place : tie.Need-sub-param-place
 sub-param-place c = search (scope-laws, needs)
 
--- src/scope.rt:410:50
 param-place-requires : tie.Need-param-place-requires
 param-place-requires c κs = search (scope-laws, needs)
 
--- src/scope.rt:410:39
 slot-at-requires : tie.Need-slot-at-requires
 slot-at-requires c κs = search (scope-laws, needs)
 
--- src/scope.rt:410:31
 of-slot-requires : tie.Need-of-slot-requires
 of-slot-requires c κs = search (scope-laws, needs)
 
--- src/scope.rt:410:9
 returns : tie.Need-returns
 returns c = search (scope-laws, needs)
 
--- src/scope.rt:412:9
 plain-inner-requires : tie.Need-plain-inner-requires
 plain-inner-requires c κs = search (scope-laws, needs)
 
--- src/scope.rt:414:61
 sub-local : tie.Need-sub-local
 sub-local c = search (scope-laws, needs)
 
--- src/scope.rt:414:48
 local-requires : tie.Need-local-requires
 local-requires c κs = search (scope-laws, needs)
 
--- src/scope.rt:414:9
 returns-2 : tie.Need-returns-2
 returns-2 c = search (scope-laws, needs)
 
--- src/scope.rt:416:5
 other-global-requires : tie.Need-other-global-requires
 other-global-requires c κs = search (scope-laws, needs)
 
--- src/scope.rt:397:1
 returns-3 : tie.Need-returns-3
 returns-3 c = search (scope-laws, needs)
 

@@ -7,27 +7,21 @@ use Rattle.list_values.proofs.value.get.Reads as get-reads
 use Rattle.list_values.proofs.value.value_at.Reads as value-at-reads
 use Rattle.expr_scope.proofs.SlotLaws.{slot-laws}
 
--- src/scope.rt:129:14
 get-requires : tie.Need-get-requires
 get-requires c κs = search (slot-laws, needs)
 
--- src/scope.rt:130:12
 get-requires-2 : tie.Need-get-requires-2
 get-requires-2 c κs = search (slot-laws, needs)
 
--- src/scope.rt:131:12
 get-requires-3 : tie.Need-get-requires-3
 get-requires-3 c κs = search (slot-laws, needs)
 
--- src/scope.rt:132:12
 value-at-requires : tie.Need-value-at-requires
 value-at-requires c κs = search (slot-laws, needs)
 
--- src/scope.rt:133:12
 value-at-requires-2 : tie.Need-value-at-requires-2
 value-at-requires-2 c κs = search (slot-laws, needs)
 
--- src/scope.rt:125:1
 returns : tie.Need-returns
 returns c = search (slot-laws, needs)
 

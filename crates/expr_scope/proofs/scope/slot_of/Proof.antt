@@ -7,107 +7,81 @@ use Rattle.expr_scope.proofs.scope.one_value.Reads as one-value-reads
 use Rattle.list_values.proofs.value.absent.Reads as absent-reads
 use Rattle.expr_scope.proofs.SlotLaws.{slot-laws}
 
--- src/scope.rt:72:26
 enum-known-expr : tie.Need-enum-known-expr
 enum-known-expr c = search (slot-laws, needs)
 
--- src/scope.rt:72:32
 one-value-requires : tie.Need-one-value-requires
 one-value-requires c κs = search (slot-laws, needs)
 
--- src/scope.rt:73:28
 enum-known-expr-2 : tie.Need-enum-known-expr-2
 enum-known-expr-2 c = search (slot-laws, needs)
 
--- src/scope.rt:73:34
 one-value-requires-2 : tie.Need-one-value-requires-2
 one-value-requires-2 c κs = search (slot-laws, needs)
 
--- src/scope.rt:74:28
 enum-known-expr-3 : tie.Need-enum-known-expr-3
 enum-known-expr-3 c = search (slot-laws, needs)
 
--- src/scope.rt:74:71
 absent-requires : tie.Need-absent-requires
 absent-requires c κs = search (slot-laws, needs)
 
--- src/scope.rt:74:45
 one-value-requires-3 : tie.Need-one-value-requires-3
 one-value-requires-3 c κs = search (slot-laws, needs)
 
--- src/scope.rt:75:28
 enum-known-expr-4 : tie.Need-enum-known-expr-4
 enum-known-expr-4 c = search (slot-laws, needs)
 
--- src/scope.rt:77:27
 mul-t24 : tie.Need-mul-t24
 mul-t24 c = search (slot-laws, needs)
 
--- src/scope.rt:77:16
 add-t25 : tie.Need-add-t25
 add-t25 c = search (slot-laws, needs)
 
--- src/scope.rt:82:29
 enum-known-expr-5 : tie.Need-enum-known-expr-5
 enum-known-expr-5 c = search (slot-laws, needs)
 
--- src/scope.rt:82:48
 one-value-requires-4 : tie.Need-one-value-requires-4
 one-value-requires-4 c κs = search (slot-laws, needs)
 
--- src/scope.rt:83:34
 enum-known-expr-6 : tie.Need-enum-known-expr-6
 enum-known-expr-6 c = search (slot-laws, needs)
 
--- src/scope.rt:83:53
 one-value-requires-5 : tie.Need-one-value-requires-5
 one-value-requires-5 c κs = search (slot-laws, needs)
 
--- src/scope.rt:84:32
 enum-known-expr-7 : tie.Need-enum-known-expr-7
 enum-known-expr-7 c = search (slot-laws, needs)
 
--- src/scope.rt:84:48
 one-value-requires-6 : tie.Need-one-value-requires-6
 one-value-requires-6 c κs = search (slot-laws, needs)
 
--- src/scope.rt:85:31
 enum-known-expr-8 : tie.Need-enum-known-expr-8
 enum-known-expr-8 c = search (slot-laws, needs)
 
--- src/scope.rt:85:50
 one-value-requires-7 : tie.Need-one-value-requires-7
 one-value-requires-7 c κs = search (slot-laws, needs)
 
--- src/scope.rt:68:1
 returns : tie.Need-returns
 returns c = search (slot-laws, needs)
 
--- src/scope.rt:68:1
 returns-2 : tie.Need-returns-2
 returns-2 c = search (slot-laws, needs)
 
--- src/scope.rt:68:1
 returns-3 : tie.Need-returns-3
 returns-3 c = search (slot-laws, needs)
 
--- src/scope.rt:68:1
 returns-4 : tie.Need-returns-4
 returns-4 c = search (slot-laws, needs)
 
--- src/scope.rt:68:1
 returns-5 : tie.Need-returns-5
 returns-5 c = search (slot-laws, needs)
 
--- src/scope.rt:68:1
 returns-6 : tie.Need-returns-6
 returns-6 c = search (slot-laws, needs)
 
--- src/scope.rt:68:1
 returns-7 : tie.Need-returns-7
 returns-7 c = search (slot-laws, needs)
 
--- src/scope.rt:68:1
 returns-8 : tie.Need-returns-8
 returns-8 c = search (slot-laws, needs)
 

@@ -8,39 +8,30 @@ use Rattle.expr_terms.proofs.address.resolve_space.Reads as resolve-spa
 use Rattle.expr_reading.proofs.read.read_operand.Reads as read-operand-reads
 use Rattle.expr_terms.proofs.SliceLaws.{address-laws}
 
--- src/address.rt:110:11
 resolve-space-requires : tie.Need-resolve-space-requires
 resolve-space-requires c κs = search (address-laws, needs)
 
--- src/address.rt:111:19
 enum-known-n : tie.Need-enum-known-n
 enum-known-n c = search (address-laws, needs)
 
--- src/address.rt:112:21
 enum-known-kind : tie.Need-enum-known-kind
 enum-known-kind c = search (address-laws, needs)
 
--- src/address.rt:112:40
 read-operand-requires : tie.Need-read-operand-requires
 read-operand-requires c κs = search (address-laws, needs)
 
--- src/address.rt:112:30
 reference-requires : tie.Need-reference-requires
 reference-requires c κs = search (address-laws, needs)
 
--- src/address.rt:107:1
 returns : tie.Need-returns
 returns c = search (address-laws, needs)
 
--- src/address.rt:107:1
 same-length : tie.Need-same-length
 same-length c = search (address-laws, needs)
 
--- src/address.rt:107:1
 same-length-2 : tie.Need-same-length-2
 same-length-2 c = search (address-laws, needs)
 
--- src/address.rt:107:1
 returns-2 : tie.Need-returns-2
 returns-2 c = search (address-laws, needs)
 

@@ -7,35 +7,27 @@ use Rattle.expr_terms.proofs.address.or_size.Reads as or-size-reads
 use Rattle.list_values.proofs.value.with_size.Reads as with-size-reads
 use Rattle.expr_terms.proofs.SliceLaws.{address-laws}
 
--- src/address.rt:25:26
 enum-known-expr : tie.Need-enum-known-expr
 enum-known-expr c = search (address-laws, needs)
 
--- src/address.rt:26:46
 or-size-requires : tie.Need-or-size-requires
 or-size-requires c κs = search (address-laws, needs)
 
--- src/address.rt:26:33
 with-size-requires : tie.Need-with-size-requires
 with-size-requires c κs = search (address-laws, needs)
 
--- src/address.rt:30:28
 enum-known-expr-2 : tie.Need-enum-known-expr-2
 enum-known-expr-2 c = search (address-laws, needs)
 
--- src/address.rt:33:23
 or-size-requires-2 : tie.Need-or-size-requires-2
 or-size-requires-2 c κs = search (address-laws, needs)
 
--- src/address.rt:21:1
 returns : tie.Need-returns
 returns c = search (address-laws, needs)
 
--- src/address.rt:21:1
 returns-2 : tie.Need-returns-2
 returns-2 c = search (address-laws, needs)
 
--- src/address.rt:21:1
 returns-3 : tie.Need-returns-3
 returns-3 c = search (address-laws, needs)
 

@@ -7,19 +7,15 @@ use Rattle.access.proofs.byte.Reads as byte-reads
 use Rattle.list_values.proofs.sizes.entry.Reads as entry-reads
 use Rattle.expr_terms.proofs.SliceLaws.{address-laws}
 
--- src/address.rt:50:44
 mul-entry : tie.Need-mul-entry
 mul-entry c = search (address-laws, needs)
 
--- src/address.rt:50:32
 entry-requires : tie.Need-entry-requires
 entry-requires c κs = search (address-laws, needs)
 
--- src/address.rt:50:17
 byte-requires : tie.Need-byte-requires
 byte-requires c κs = search (address-laws, needs)
 
--- src/address.rt:47:1
 returns : tie.Need-returns
 returns c = search (address-laws, needs)
 

@@ -7,31 +7,24 @@ use Rattle.expr_terms.proofs.address.kind_of_space.Reads as kind-of-spa
 use Rattle.expr_scope.proofs.scope.global.Reads as global-reads
 use Rattle.expr_terms.proofs.SliceLaws.{address-laws}
 
--- src/address.rt:56:9
 global-requires : tie.Need-global-requires
 global-requires c κs = search (address-laws, needs)
 
--- src/address.rt:58:9
 returns : tie.Need-returns
 returns c = search (address-laws, needs)
 
--- src/address.rt:60:9
 sub-if2 : tie.Need-sub-if2
 sub-if2 c = search (address-laws, needs)
 
--- src/address.rt:61:9
 returns-2 : tie.Need-returns-2
 returns-2 c = search (address-laws, needs)
 
--- src/address.rt:63:26
 sub-kind-of-space : tie.Need-sub-kind-of-space
 sub-kind-of-space c = search (address-laws, needs)
 
--- src/address.rt:63:5
 kind-of-space-requires : tie.Need-kind-of-space-requires
 kind-of-space-requires c κs = search (address-laws, needs)
 
--- src/address.rt:53:1
 returns-3 : tie.Need-returns-3
 returns-3 c = search (address-laws, needs)
 

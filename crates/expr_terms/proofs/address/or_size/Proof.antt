@@ -5,11 +5,9 @@ use Rattle.expr_terms.proofs.address.or_size.Lts as lts
 use Rattle.expr_terms.proofs.SliceLaws.{address-laws}
 use borrow.Author.Needs.{needs}
 
--- src/address.rt:15:1
 returns : tie.Need-returns
 returns c = search (address-laws, needs)
 
--- src/address.rt:15:1
 returns-2 : tie.Need-returns-2
 returns-2 c = search (address-laws, needs)
 

@@ -6,35 +6,27 @@ use Rattle.expr_terms.proofs.address.reference.Lts as lts
 use Rattle.expr_terms.proofs.address.or_size.Reads as or-size-reads
 use Rattle.expr_terms.proofs.SliceLaws.{address-laws}
 
--- src/address.rt:84:18
 enum-known-answer : tie.Need-enum-known-answer
 enum-known-answer c = search (address-laws, needs)
 
--- src/address.rt:85:23
 enum-known-answer-2 : tie.Need-enum-known-answer-2
 enum-known-answer-2 c = search (address-laws, needs)
 
--- src/address.rt:89:27
 or-size-requires : tie.Need-or-size-requires
 or-size-requires c κs = search (address-laws, needs)
 
--- src/address.rt:97:27
 or-size-requires-2 : tie.Need-or-size-requires-2
 or-size-requires-2 c κs = search (address-laws, needs)
 
--- src/address.rt:80:1
 returns : tie.Need-returns
 returns c = search (address-laws, needs)
 
--- src/address.rt:80:1
 returns-2 : tie.Need-returns-2
 returns-2 c = search (address-laws, needs)
 
--- src/address.rt:80:1
 returns-3 : tie.Need-returns-3
 returns-3 c = search (address-laws, needs)
 
--- src/address.rt:80:1
 returns-4 : tie.Need-returns-4
 returns-4 c = search (address-laws, needs)
 

@@ -8,31 +8,24 @@ use Rattle.expr_terms.proofs.address.address_in.Reads as address-in-rea
 use Rattle.expr_terms.proofs.address.in_const_space.Reads as in-const-space-reads
 use Rattle.expr_terms.proofs.SliceLaws.{address-laws}
 
--- src/address.rt:120:17
 u16-at-requires : tie.Need-u16-at-requires
 u16-at-requires c κs = search (address-laws, needs)
 
--- src/address.rt:121:9
 in-const-space-requires : tie.Need-in-const-space-requires
 in-const-space-requires c κs = search (address-laws, needs)
 
--- src/address.rt:121:9
 returns : tie.Need-returns
 returns c = search (address-laws, needs)
 
--- src/address.rt:123:5
 address-in-requires : tie.Need-address-in-requires
 address-in-requires c κs = search (address-laws, needs)
 
--- src/address.rt:117:1
 same-length : tie.Need-same-length
 same-length c = search (address-laws, needs)
 
--- src/address.rt:117:1
 same-length-2 : tie.Need-same-length-2
 same-length-2 c = search (address-laws, needs)
 
--- src/address.rt:117:1
 returns-2 : tie.Need-returns-2
 returns-2 c = search (address-laws, needs)
 

@@ -8,27 +8,21 @@ use Rattle.expr_terms.proofs.address.kind_of_space.Reads as kind-of-spa
 use Rattle.expr_terms.proofs.address.named_space.Reads as named-space-reads
 use Rattle.expr_terms.proofs.SliceLaws.{address-laws}
 
--- src/address.rt:71:9
 named-space-requires : tie.Need-named-space-requires
 named-space-requires c κs = search (address-laws, needs)
 
--- src/address.rt:71:9
 returns : tie.Need-returns
 returns c = search (address-laws, needs)
 
--- src/address.rt:73:9
 u16-at-requires : tie.Need-u16-at-requires
 u16-at-requires c κs = search (address-laws, needs)
 
--- src/address.rt:75:9
 returns-2 : tie.Need-returns-2
 returns-2 c = search (address-laws, needs)
 
--- src/address.rt:77:5
 kind-of-space-requires : tie.Need-kind-of-space-requires
 kind-of-space-requires c κs = search (address-laws, needs)
 
--- src/address.rt:67:1
 returns-3 : tie.Need-returns-3
 returns-3 c = search (address-laws, needs)
 

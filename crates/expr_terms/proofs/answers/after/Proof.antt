@@ -5,19 +5,15 @@ use Rattle.expr_terms.proofs.answers.after.Reads as reads
 use Rattle.expr_terms.proofs.answers.after.Lts as lts
 use Rattle.expr_terms.proofs.AnswerLaws.{answer-laws}
 
--- src/answers.rt:29:20
 add-result : tie.Need-add-result
 add-result c = search (answer-laws, needs)
 
--- src/answers.rt:29:13
 returns : tie.Need-returns
 returns c = search (answer-laws, needs)
 
--- src/answers.rt:24:1
 returns-2 : tie.Need-returns-2
 returns-2 c = search (answer-laws, needs)
 
--- src/answers.rt:24:1
 returns-3 : tie.Need-returns-3
 returns-3 c = search (answer-laws, needs)
 

@@ -9,67 +9,51 @@ use Rattle.expr_terms.proofs.calls.user_op_some.Reads as user-op-some-r
 use Rattle.list_values.proofs.value.absent.Reads as absent-reads
 use Rattle.expr_terms.proofs.CallLaws.{call-laws}
 
--- src/calls.rt:147:11
 pass-args-requires : tie.Need-pass-args-requires
 pass-args-requires c κs = search (call-laws, needs)
 
--- src/calls.rt:148:20
 enum-known-k : tie.Need-enum-known-k
 enum-known-k c = search (call-laws, needs)
 
--- src/calls.rt:149:22
 enum-known-st1 : tie.Need-enum-known-st1
 enum-known-st1 c = search (call-laws, needs)
 
--- src/calls.rt:151:43
 absent-requires : tie.Need-absent-requires
 absent-requires c κs = search (call-laws, needs)
 
--- src/calls.rt:151:53
 absent-requires-2 : tie.Need-absent-requires-2
 absent-requires-2 c κs = search (call-laws, needs)
 
--- src/calls.rt:151:17
 applied-requires : tie.Need-applied-requires
 applied-requires c κs = search (call-laws, needs)
 
--- src/calls.rt:151:17
 same-length : tie.Need-same-length
 same-length c = search (call-laws, needs)
 
--- src/calls.rt:151:17
 same-length-2 : tie.Need-same-length-2
 same-length-2 c = search (call-laws, needs)
 
--- src/calls.rt:151:17
 returns : tie.Need-returns
 returns c = search (call-laws, needs)
 
--- src/calls.rt:153:13
 user-op-some-requires : tie.Need-user-op-some-requires
 user-op-some-requires c κs = search (call-laws, needs)
 
--- src/calls.rt:144:1
 same-length-3 : tie.Need-same-length-3
 same-length-3 c = search (call-laws, needs)
 
--- src/calls.rt:144:1
 same-length-4 : tie.Need-same-length-4
 same-length-4 c = search (call-laws, needs)
 
--- src/calls.rt:144:1
 returns-2 : tie.Need-returns-2
 returns-2 c = search (call-laws, needs)
 
--- src/calls.rt:144:1
 same-length-5 : tie.Need-same-length-5
 same-length-5 c = search (call-laws, needs)
 
--- src/calls.rt:144:1
 same-length-6 : tie.Need-same-length-6
 same-length-6 c = search (call-laws, needs)
 
--- src/calls.rt:144:1
 returns-3 : tie.Need-returns-3
 returns-3 c = search (call-laws, needs)
 

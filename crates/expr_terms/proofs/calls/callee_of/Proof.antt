@@ -8,23 +8,18 @@ use Rattle.expr_terms.proofs.calls.inbuilt_or.Reads as inbuilt-or-reads
 use Rattle.expr_inbuilts.proofs.inbuilt.translate_inbuilt_func.Reads as translate-inbuilt-func-reads
 use Rattle.expr_terms.proofs.CallLaws.{call-laws}
 
--- src/calls.rt:74:14
 get-u16-requires : tie.Need-get-u16-requires
 get-u16-requires c κs = search (call-laws, needs)
 
--- src/calls.rt:74:14
 cast-at : tie.Need-cast-at
 cast-at c = search (call-laws, needs)
 
--- src/calls.rt:75:16
 translate-inbuilt-func-requires : tie.Need-translate-inbuilt-func-requires
 translate-inbuilt-func-requires c κs = search (call-laws, needs)
 
--- src/calls.rt:75:5
 inbuilt-or-requires : tie.Need-inbuilt-or-requires
 inbuilt-or-requires c κs = search (call-laws, needs)
 
--- src/calls.rt:71:1
 returns : tie.Need-returns
 returns c = search (call-laws, needs)
 

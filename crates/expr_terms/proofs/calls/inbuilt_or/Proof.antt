@@ -7,23 +7,18 @@ use Rattle.expr_terms.proofs.calls.symbol_of.Reads as symbol-of-reads
 use Rattle.expr_scope.proofs.scope.global.Reads as global-reads
 use Rattle.expr_terms.proofs.CallLaws.{call-laws}
 
--- src/calls.rt:57:26
 global-requires : tie.Need-global-requires
 global-requires c κs = search (call-laws, needs)
 
--- src/calls.rt:57:9
 symbol-of-requires : tie.Need-symbol-of-requires
 symbol-of-requires c κs = search (call-laws, needs)
 
--- src/calls.rt:57:9
 returns : tie.Need-returns
 returns c = search (call-laws, needs)
 
--- src/calls.rt:60:9
 returns-2 : tie.Need-returns-2
 returns-2 c = search (call-laws, needs)
 
--- src/calls.rt:53:1
 returns-3 : tie.Need-returns-3
 returns-3 c = search (call-laws, needs)
 

@@ -9,51 +9,39 @@ use Rattle.list_values.proofs.value.absent.Reads as absent-reads
 use Rattle.list_values.proofs.value.no_output.Reads as no-output-reads
 use Rattle.expr_terms.proofs.CallLaws.{call-laws}
 
--- src/calls.rt:81:11
 read-operand-requires : tie.Need-read-operand-requires
 read-operand-requires c κs = search (call-laws, needs)
 
--- src/calls.rt:82:18
 enum-known-n : tie.Need-enum-known-n
 enum-known-n c = search (call-laws, needs)
 
--- src/calls.rt:83:23
 enum-known-v : tie.Need-enum-known-v
 enum-known-v c = search (call-laws, needs)
 
--- src/calls.rt:83:72
 no-output-requires : tie.Need-no-output-requires
 no-output-requires c κs = search (call-laws, needs)
 
--- src/calls.rt:83:88
 absent-requires : tie.Need-absent-requires
 absent-requires c κs = search (call-laws, needs)
 
--- src/calls.rt:83:39
 push-op-requires : tie.Need-push-op-requires
 push-op-requires c κs = search (call-laws, needs)
 
--- src/calls.rt:78:1
 same-length : tie.Need-same-length
 same-length c = search (call-laws, needs)
 
--- src/calls.rt:78:1
 same-length-2 : tie.Need-same-length-2
 same-length-2 c = search (call-laws, needs)
 
--- src/calls.rt:78:1
 returns : tie.Need-returns
 returns c = search (call-laws, needs)
 
--- src/calls.rt:78:1
 same-length-3 : tie.Need-same-length-3
 same-length-3 c = search (call-laws, needs)
 
--- src/calls.rt:78:1
 same-length-4 : tie.Need-same-length-4
 same-length-4 c = search (call-laws, needs)
 
--- src/calls.rt:78:1
 returns-2 : tie.Need-returns-2
 returns-2 c = search (call-laws, needs)
 

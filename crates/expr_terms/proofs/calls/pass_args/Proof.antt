@@ -18,63 +18,48 @@ Inv-loop s t a₀ m₀ args n e st₀ i₀ a m st i = (2 ≤ i) × (length a ≡
 abbrev μ-loop : tie.MeasureT-loop
 μ-loop s t a₀ m₀ args n e st₀ i₀ a m st i = n - i
 
--- src/calls.rt:92:5
 loop-holds : tie.Need-loop-holds Inv-loop μ-loop
 loop-holds c = (omega arith, refl, refl, args-start _ _ _ _ _ _ _ _)
 
--- src/calls.rt:93:36
 arg-at-requires : tie.Need-arg-at-requires Inv-loop μ-loop
 arg-at-requires c κs = search (call-laws, needs)
 
--- src/calls.rt:93:53
 sub-pass-arg : tie.Need-sub-pass-arg Inv-loop μ-loop
 sub-pass-arg c = omega arith
 
--- src/calls.rt:93:15
 pass-arg-requires : tie.Need-pass-arg-requires Inv-loop μ-loop
 pass-arg-requires c κs = search (call-laws, needs)
 
--- src/calls.rt:94:24
 enum-known-k : tie.Need-enum-known-k Inv-loop μ-loop
 enum-known-k c = search (call-laws, needs)
 
--- src/calls.rt:94:30
 same-length : tie.Need-same-length Inv-loop μ-loop
 same-length c = search (call-laws, needs)
 
--- src/calls.rt:94:30
 same-length-2 : tie.Need-same-length-2 Inv-loop μ-loop
 same-length-2 c = search (call-laws, needs)
 
--- src/calls.rt:94:30
 returns : tie.Need-returns Inv-loop μ-loop
 returns c = search (args-no, needs)
 
--- src/calls.rt:95:26
 enum-known-st1 : tie.Need-enum-known-st1 Inv-loop μ-loop
 enum-known-st1 c = search (call-laws, needs)
 
--- src/calls.rt:92:9
 add-i : tie.Need-add-i Inv-loop μ-loop
 add-i c = omega arith
 
--- src/calls.rt:92:5
 loop-less : tie.Need-loop-less Inv-loop μ-loop
 loop-less c = omega arith
 
--- src/calls.rt:92:5
 loop-again : tie.Need-loop-again Inv-loop μ-loop
 loop-again c = (omega arith, search needs, search needs, search (args-more, needs))
 
--- src/calls.rt:88:1
 same-length-3 : tie.Need-same-length-3 Inv-loop μ-loop
 same-length-3 c = search (call-laws, needs)
 
--- src/calls.rt:88:1
 same-length-4 : tie.Need-same-length-4 Inv-loop μ-loop
 same-length-4 c = search (call-laws, needs)
 
--- src/calls.rt:88:1
 returns-2 : tie.Need-returns-2 Inv-loop μ-loop
 returns-2 c = search (args-done, needs)
 

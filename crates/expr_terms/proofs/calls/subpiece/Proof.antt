@@ -8,43 +8,33 @@ use Rattle.expr_reading.proofs.read.read_operand.Reads as read-operand-reads
 use Rattle.expr_scope.proofs.scope.resolve_ident.Reads as resolve-ident-reads
 use Rattle.expr_terms.proofs.CallLaws.{call-laws}
 
--- src/calls.rt:188:11
 resolve-ident-requires : tie.Need-resolve-ident-requires
 resolve-ident-requires c κs = search (call-laws, needs)
 
--- src/calls.rt:189:24
 enum-known-k : tie.Need-enum-known-k
 enum-known-k c = search (call-laws, needs)
 
--- src/calls.rt:190:24
 enum-known-x : tie.Need-enum-known-x
 enum-known-x c = search (call-laws, needs)
 
--- src/calls.rt:190:53
 read-operand-requires : tie.Need-read-operand-requires
 read-operand-requires c κs = search (call-laws, needs)
 
--- src/calls.rt:190:30
 subpiece-of-requires : tie.Need-subpiece-of-requires
 subpiece-of-requires c κs = search (call-laws, needs)
 
--- src/calls.rt:185:1
 same-length : tie.Need-same-length
 same-length c = search (call-laws, needs)
 
--- src/calls.rt:185:1
 returns : tie.Need-returns
 returns c = search (call-laws, needs)
 
--- src/calls.rt:185:1
 same-length-2 : tie.Need-same-length-2
 same-length-2 c = search (call-laws, needs)
 
--- src/calls.rt:185:1
 same-length-3 : tie.Need-same-length-3
 same-length-3 c = search (call-laws, needs)
 
--- src/calls.rt:185:1
 returns-2 : tie.Need-returns-2
 returns-2 c = search (call-laws, needs)
 

@@ -9,39 +9,30 @@ use Rattle.expr_terms.proofs.answers.after.Reads as after-reads
 use Rattle.list_values.proofs.value.absent.Reads as absent-reads
 use Rattle.expr_terms.proofs.CallLaws.{call-laws}
 
--- src/calls.rt:174:18
 enum-known-answer : tie.Need-enum-known-answer
 enum-known-answer c = search (call-laws, needs)
 
--- src/calls.rt:175:23
 enum-known-answer-2 : tie.Need-enum-known-answer-2
 enum-known-answer-2 c = search (call-laws, needs)
 
--- src/calls.rt:176:17
 only-integer-requires : tie.Need-only-integer-requires
 only-integer-requires c κs = search (call-laws, needs)
 
--- src/calls.rt:178:17
 returns : tie.Need-returns
 returns c = search (call-laws, needs)
 
--- src/calls.rt:180:39
 absent-requires : tie.Need-absent-requires
 absent-requires c κs = search (call-laws, needs)
 
--- src/calls.rt:180:49
 after-requires : tie.Need-after-requires
 after-requires c κs = search (call-laws, needs)
 
--- src/calls.rt:180:13
 applied-requires : tie.Need-applied-requires
 applied-requires c κs = search (call-laws, needs)
 
--- src/calls.rt:170:1
 returns-2 : tie.Need-returns-2
 returns-2 c = search (call-laws, needs)
 
--- src/calls.rt:170:1
 returns-3 : tie.Need-returns-3
 returns-3 c = search (call-laws, needs)
 

@@ -5,31 +5,24 @@ use Rattle.expr_terms.proofs.calls.symbol_of.Reads as reads
 use Rattle.expr_terms.proofs.calls.symbol_of.Lts as lts
 use Rattle.expr_terms.proofs.CallLaws.{call-laws}
 
--- src/calls.rt:36:9
 returns : tie.Need-returns
 returns c = search (call-laws, needs)
 
--- src/calls.rt:38:9
 sub-if2 : tie.Need-sub-if2
 sub-if2 c = search (call-laws, needs)
 
--- src/calls.rt:41:22
 sub-t5 : tie.Need-sub-t5
 sub-t5 c = search (call-laws, needs)
 
--- src/calls.rt:39:9
 returns-2 : tie.Need-returns-2
 returns-2 c = search (call-laws, needs)
 
--- src/calls.rt:44:9
 sub-if3 : tie.Need-sub-if3
 sub-if3 c = search (call-laws, needs)
 
--- src/calls.rt:45:9
 returns-3 : tie.Need-returns-3
 returns-3 c = search (call-laws, needs)
 
--- src/calls.rt:32:1
 returns-4 : tie.Need-returns-4
 returns-4 c = search (call-laws, needs)
 

@@ -10,67 +10,51 @@ use Rattle.expr_reading.proofs.read.read_operand.Reads as read-operand-reads
 use Rattle.list_values.proofs.value.absent.Reads as absent-reads
 use Rattle.expr_terms.proofs.CallLaws.{call-laws}
 
--- src/calls.rt:132:39
 arg-at-requires : tie.Need-arg-at-requires
 arg-at-requires c κs = search (call-laws, needs)
 
--- src/calls.rt:132:11
 read-operand-requires : tie.Need-read-operand-requires
 read-operand-requires c κs = search (call-laws, needs)
 
--- src/calls.rt:133:18
 enum-known-k : tie.Need-enum-known-k
 enum-known-k c = search (call-laws, needs)
 
--- src/calls.rt:134:23
 enum-known-v : tie.Need-enum-known-v
 enum-known-v c = search (call-laws, needs)
 
--- src/calls.rt:136:17
 user-op-two-requires : tie.Need-user-op-two-requires
 user-op-two-requires c κs = search (call-laws, needs)
 
--- src/calls.rt:136:17
 same-length : tie.Need-same-length
 same-length c = search (call-laws, needs)
 
--- src/calls.rt:136:17
 same-length-2 : tie.Need-same-length-2
 same-length-2 c = search (call-laws, needs)
 
--- src/calls.rt:136:17
 returns : tie.Need-returns
 returns c = search (call-laws, needs)
 
--- src/calls.rt:138:35
 absent-requires : tie.Need-absent-requires
 absent-requires c κs = search (call-laws, needs)
 
--- src/calls.rt:138:13
 applied-requires : tie.Need-applied-requires
 applied-requires c κs = search (call-laws, needs)
 
--- src/calls.rt:129:1
 same-length-3 : tie.Need-same-length-3
 same-length-3 c = search (call-laws, needs)
 
--- src/calls.rt:129:1
 same-length-4 : tie.Need-same-length-4
 same-length-4 c = search (call-laws, needs)
 
--- src/calls.rt:129:1
 returns-2 : tie.Need-returns-2
 returns-2 c = search (call-laws, needs)
 
--- src/calls.rt:129:1
 same-length-5 : tie.Need-same-length-5
 same-length-5 c = search (call-laws, needs)
 
--- src/calls.rt:129:1
 same-length-6 : tie.Need-same-length-6
 same-length-6 c = search (call-laws, needs)
 
--- src/calls.rt:129:1
 returns-3 : tie.Need-returns-3
 returns-3 c = search (call-laws, needs)
 

@@ -8,47 +8,36 @@ use Rattle.expr_terms.proofs.calls.applied.Reads as applied-reads
 use Rattle.expr_reading.proofs.read.read_operand.Reads as read-operand-reads
 use Rattle.expr_terms.proofs.CallLaws.{call-laws}
 
--- src/calls.rt:123:39
 arg-at-requires : tie.Need-arg-at-requires
 arg-at-requires c κs = search (call-laws, needs)
 
--- src/calls.rt:123:11
 read-operand-requires : tie.Need-read-operand-requires
 read-operand-requires c κs = search (call-laws, needs)
 
--- src/calls.rt:124:18
 enum-known-k : tie.Need-enum-known-k
 enum-known-k c = search (call-laws, needs)
 
--- src/calls.rt:125:26
 enum-known-w : tie.Need-enum-known-w
 enum-known-w c = search (call-laws, needs)
 
--- src/calls.rt:125:42
 applied-requires : tie.Need-applied-requires
 applied-requires c κs = search (call-laws, needs)
 
--- src/calls.rt:120:1
 same-length : tie.Need-same-length
 same-length c = search (call-laws, needs)
 
--- src/calls.rt:120:1
 same-length-2 : tie.Need-same-length-2
 same-length-2 c = search (call-laws, needs)
 
--- src/calls.rt:120:1
 returns : tie.Need-returns
 returns c = search (call-laws, needs)
 
--- src/calls.rt:120:1
 same-length-3 : tie.Need-same-length-3
 same-length-3 c = search (call-laws, needs)
 
--- src/calls.rt:120:1
 same-length-4 : tie.Need-same-length-4
 same-length-4 c = search (call-laws, needs)
 
--- src/calls.rt:120:1
 returns-2 : tie.Need-returns-2
 returns-2 c = search (call-laws, needs)
 

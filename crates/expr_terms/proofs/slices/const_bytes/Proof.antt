@@ -5,11 +5,9 @@ use Rattle.expr_terms.proofs.slices.const_bytes.Lts as lts
 use Rattle.expr_terms.proofs.SliceLaws.{slice-laws}
 use borrow.Author.Needs.{needs}
 
--- src/slices.rt:48:1
 returns : tie.Need-returns
 returns c = search (slice-laws, needs)
 
--- src/slices.rt:48:1
 returns-2 : tie.Need-returns-2
 returns-2 c = search (slice-laws, needs)
 

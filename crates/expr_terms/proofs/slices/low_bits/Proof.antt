@@ -6,15 +6,12 @@ use Rattle.expr_terms.proofs.slices.low_bits.Lts as lts
 use Rattle.access.proofs.mask.Reads as mask-reads
 use Rattle.expr_terms.proofs.SliceLaws.{slice-laws}
 
--- src/slices.rt:22:5
 shr-result : tie.Need-shr-result
 shr-result c = search (slice-laws, needs)
 
--- src/slices.rt:22:17
 mask-requires : tie.Need-mask-requires
 mask-requires c κs = search (slice-laws, needs)
 
--- src/slices.rt:18:1
 returns : tie.Need-returns
 returns c = search (slice-laws, needs)
 

@@ -8,51 +8,39 @@ use Rattle.expr_terms.proofs.slices.slice_range.Reads as slice-range-re
 use Rattle.expr_terms.proofs.slices.slice_read.Reads as slice-read-reads
 use Rattle.expr_terms.proofs.SliceLaws.{slice-laws}
 
--- src/slices.rt:94:26
 enum-known-expr : tie.Need-enum-known-expr
 enum-known-expr c = search (slice-laws, needs)
 
--- src/slices.rt:99:28
 enum-known-expr-2 : tie.Need-enum-known-expr-2
 enum-known-expr-2 c = search (slice-laws, needs)
 
--- src/slices.rt:99:45
 slice-const-requires : tie.Need-slice-const-requires
 slice-const-requires c κs = search (slice-laws, needs)
 
--- src/slices.rt:100:31
 enum-known-expr-3 : tie.Need-enum-known-expr-3
 enum-known-expr-3 c = search (slice-laws, needs)
 
--- src/slices.rt:100:65
 slice-range-requires : tie.Need-slice-range-requires
 slice-range-requires c κs = search (slice-laws, needs)
 
--- src/slices.rt:101:14
 slice-read-requires : tie.Need-slice-read-requires
 slice-read-requires c κs = search (slice-laws, needs)
 
--- src/slices.rt:90:1
 returns : tie.Need-returns
 returns c = search (slice-laws, needs)
 
--- src/slices.rt:90:1
 returns-2 : tie.Need-returns-2
 returns-2 c = search (slice-laws, needs)
 
--- src/slices.rt:90:1
 returns-3 : tie.Need-returns-3
 returns-3 c = search (slice-laws, needs)
 
--- src/slices.rt:90:1
 same-length : tie.Need-same-length
 same-length c = search (slice-laws, needs)
 
--- src/slices.rt:90:1
 same-length-2 : tie.Need-same-length-2
 same-length-2 c = search (slice-laws, needs)
 
--- src/slices.rt:90:1
 returns-4 : tie.Need-returns-4
 returns-4 c = search (slice-laws, needs)
 

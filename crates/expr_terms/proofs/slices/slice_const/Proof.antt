@@ -9,35 +9,27 @@ use Rattle.expr_terms.proofs.slices.low_bits.Reads as low-bits-reads
 use Rattle.expr_terms.proofs.SliceLaws.{slice-laws, bytes-small}
 use native.Mathlib.Omega.{arith}
 
--- src/slices.rt:57:12
 const-bytes-requires : tie.Need-const-bytes-requires
 const-bytes-requires c κs = search (slice-laws, needs)
 
--- src/slices.rt:57:8
 mul-if1 : tie.Need-mul-if1
 mul-if1 c = omega (arith, bytes-small _ _ (c .const-bytes .ensures))
 
--- src/slices.rt:57:32
 add-if1 : tie.Need-add-if1
 add-if1 c = search (slice-laws, needs)
 
--- src/slices.rt:58:9
 returns : tie.Need-returns
 returns c = search (slice-laws, needs)
 
--- src/slices.rt:61:9
 returns-2 : tie.Need-returns-2
 returns-2 c = search (slice-laws, needs)
 
--- src/slices.rt:65:20
 low-bits-requires : tie.Need-low-bits-requires
 low-bits-requires c κs = search (slice-laws, needs)
 
--- src/slices.rt:66:19
 needed-bytes-requires : tie.Need-needed-bytes-requires
 needed-bytes-requires c κs = search (slice-laws, needs)
 
--- src/slices.rt:54:1
 returns-3 : tie.Need-returns-3
 returns-3 c = search (slice-laws, needs)
 

@@ -5,19 +5,15 @@ use Rattle.expr_terms.proofs.slices.slice_range.Reads as reads
 use Rattle.expr_terms.proofs.slices.slice_range.Lts as lts
 use Rattle.expr_terms.proofs.SliceLaws.{slice-laws}
 
--- src/slices.rt:76:16
 add-if1 : tie.Need-add-if1
 add-if1 c = search (slice-laws, needs)
 
--- src/slices.rt:77:9
 returns : tie.Need-returns
 returns c = search (slice-laws, needs)
 
--- src/slices.rt:82:19
 add-t10 : tie.Need-add-t10
 add-t10 c = search (slice-laws, needs)
 
--- src/slices.rt:73:1
 returns-2 : tie.Need-returns-2
 returns-2 c = search (slice-laws, needs)
 

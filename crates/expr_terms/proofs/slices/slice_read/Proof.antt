@@ -9,51 +9,39 @@ use Rattle.expr_terms.proofs.slices.unbound_then.Reads as unbound-then-
 use Rattle.list_values.proofs.value.absent.Reads as absent-reads
 use Rattle.expr_terms.proofs.SliceLaws.{slice-laws}
 
--- src/slices.rt:41:11
 read-operand-requires : tie.Need-read-operand-requires
 read-operand-requires c κs = search (slice-laws, needs)
 
--- src/slices.rt:42:18
 enum-known-n : tie.Need-enum-known-n
 enum-known-n c = search (slice-laws, needs)
 
--- src/slices.rt:43:23
 enum-known-v : tie.Need-enum-known-v
 enum-known-v c = search (slice-laws, needs)
 
--- src/slices.rt:43:101
 absent-requires : tie.Need-absent-requires
 absent-requires c κs = search (slice-laws, needs)
 
--- src/slices.rt:43:53
 read-slice-requires : tie.Need-read-slice-requires
 read-slice-requires c κs = search (slice-laws, needs)
 
--- src/slices.rt:43:40
 unbound-then-requires : tie.Need-unbound-then-requires
 unbound-then-requires c κs = search (slice-laws, needs)
 
--- src/slices.rt:38:1
 same-length : tie.Need-same-length
 same-length c = search (slice-laws, needs)
 
--- src/slices.rt:38:1
 same-length-2 : tie.Need-same-length-2
 same-length-2 c = search (slice-laws, needs)
 
--- src/slices.rt:38:1
 returns : tie.Need-returns
 returns c = search (slice-laws, needs)
 
--- src/slices.rt:38:1
 same-length-3 : tie.Need-same-length-3
 same-length-3 c = search (slice-laws, needs)
 
--- src/slices.rt:38:1
 same-length-4 : tie.Need-same-length-4
 same-length-4 c = search (slice-laws, needs)
 
--- src/slices.rt:38:1
 returns-2 : tie.Need-returns-2
 returns-2 c = search (slice-laws, needs)
 

@@ -5,19 +5,15 @@ use Rattle.expr_terms.proofs.slices.unbound_then.Reads as reads
 use Rattle.expr_terms.proofs.slices.unbound_then.Lts as lts
 use Rattle.expr_terms.proofs.SliceLaws.{slice-laws}
 
--- src/slices.rt:29:18
 enum-known-answer : tie.Need-enum-known-answer
 enum-known-answer c = search (slice-laws, needs)
 
--- src/slices.rt:30:23
 enum-known-answer-2 : tie.Need-enum-known-answer-2
 enum-known-answer-2 c = search (slice-laws, needs)
 
--- src/slices.rt:25:1
 returns : tie.Need-returns
 returns c = search (slice-laws, needs)
 
--- src/slices.rt:25:1
 returns-2 : tie.Need-returns-2
 returns-2 c = search (slice-laws, needs)
 

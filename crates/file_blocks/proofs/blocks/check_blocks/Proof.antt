@@ -19,67 +19,51 @@ Inv-loop file len n k₀ k = (k ≤ n) × (refusalOf (payloads (n - k) k (drop (
 abbrev μ-loop : tie.MeasureT-loop
 μ-loop file len n k₀ k = n - k
 
--- src/blocks.rt:36:9
 returns : tie.Need-returns Inv-loop μ-loop
 returns c = length-none _ (c .if1 .taken)
 
--- src/blocks.rt:39:9
 returns-2 : tie.Need-returns-2 Inv-loop μ-loop
 returns-2 c = length-past _ (c .before .if1 .left) (c .if2 .taken)
 
--- src/blocks.rt:42:9
 returns-3 : tie.Need-returns-3 Inv-loop μ-loop
 returns-3 c = length-broken _ (c .before .before .if1 .left) (c .before .if2 .left) (c .if3 .taken)
 
--- src/blocks.rt:45:5
 loop-holds : tie.Need-loop-holds Inv-loop μ-loop
 loop-holds c = (omega arith, blocks-start _ (c .before .before .if1 .left) (c .before .if2 .left) (c .if3 .left))
 
--- src/blocks.rt:46:20
 mul-from : tie.Need-mul-from Inv-loop μ-loop
 mul-from c = search needs
 
--- src/blocks.rt:47:18
 mul-to : tie.Need-mul-to Inv-loop μ-loop
 mul-to c = search needs
 
--- src/blocks.rt:47:18
 add-to : tie.Need-add-to Inv-loop μ-loop
 add-to c = search needs
 
--- src/blocks.rt:48:24
 sub-checks-out : tie.Need-sub-checks-out Inv-loop μ-loop
 sub-checks-out c = search needs
 
--- src/blocks.rt:48:24
 part-checks-out-start : tie.Need-part-checks-out-start Inv-loop μ-loop
 part-checks-out-start c = search needs
 
--- src/blocks.rt:48:24
 part-checks-out-end : tie.Need-part-checks-out-end Inv-loop μ-loop
 part-checks-out-end c = search needs
 
--- src/blocks.rt:48:13
 checks-out-requires : tie.Need-checks-out-requires Inv-loop μ-loop
 checks-out-requires c κs = search needs
 
--- src/blocks.rt:49:13
 returns-4 : tie.Need-returns-4 Inv-loop μ-loop
 returns-4 c = block-wrong _ _ _ _ _ (c .before .before .before .loop-test .taken) (c .before .checks-out .ensures) (not-true _ (c .if4 .taken)) (c .before .before .before .before .loop .inv .1)
 
--- src/blocks.rt:45:9
 add-k : tie.Need-add-k Inv-loop μ-loop
 add-k c = search needs
 
--- src/blocks.rt:45:5
 loop-less : tie.Need-loop-less Inv-loop μ-loop
 loop-less c = search needs
 
--- src/blocks.rt:45:5
 loop-again : tie.Need-loop-again Inv-loop μ-loop
 loop-again c = (omega arith, block-right _ _ _ _ _ (c .before .before .before .loop-test .taken) (c .before .checks-out .ensures) (not-false _ (c .if4 .left)) (c .before .before .before .before .loop .inv .1))
 
--- src/blocks.rt:31:1
 returns-5 : tie.Need-returns-5 Inv-loop μ-loop
 returns-5 c = blocks-end _ _ _ _ (c .loop-test .left) (c .before .loop .inv .1)
 

@@ -9,51 +9,39 @@ use native.Mathlib.Omega.{arith}
 use lib.Seq.{length-take-le}
 use Rattle.file_blocks.proofs.BlockLaws.{checks-law}
 
--- src/blocks.rt:27:21
 slice-aggregate-sum : tie.Need-slice-aggregate-sum
 slice-aggregate-sum c = rw (length-take-le 256 (c .before .before .args .block .now) (omega arith))
 
--- src/blocks.rt:27:17
 sum-requires : tie.Need-sum-requires
 sum-requires c κs = rw (length-take-le 256 (c .before .before .args .block .now) (omega arith)) (omega arith)
 
--- src/blocks.rt:27:17
 cast-total : tie.Need-cast-total
 cast-total c = search needs
 
--- src/blocks.rt:27:49
 sub-sum : tie.Need-sub-sum
 sub-sum c = search needs
 
--- src/blocks.rt:27:49
 part-sum-start : tie.Need-part-sum-start
 part-sum-start c = search needs
 
--- src/blocks.rt:27:49
 part-sum-end : tie.Need-part-sum-end
 part-sum-end c = search needs
 
--- src/blocks.rt:27:45
 sum-requires-2 : tie.Need-sum-requires-2
 sum-requires-2 c κs = search needs
 
--- src/blocks.rt:27:45
 cast-total-2 : tie.Need-cast-total-2
 cast-total-2 c = search needs
 
--- src/blocks.rt:27:17
 add-total : tie.Need-add-total
 add-total c = search needs
 
--- src/blocks.rt:28:6
 add-result : tie.Need-add-result
 add-result c = search needs
 
--- src/blocks.rt:28:40
 u16-at-requires : tie.Need-u16-at-requires
 u16-at-requires c κs = search needs
 
--- src/blocks.rt:23:1
 returns : tie.Need-returns
 returns c = checks-law _ _ _ _ _ (c .before .before .before .sum .ensures) (c .before .sum2 .ensures) (c .u16-at .ensures)
 

@@ -16,35 +16,27 @@ Inv-loop block to₀ i₀ to i = (i ≤ 510) × (length to ≡ length to₀) × 
 abbrev μ-loop : tie.MeasureT-loop
 μ-loop block to₀ i₀ to i = 510 - i
 
--- src/blocks.rt:60:5
 loop-holds : tie.Need-loop-holds Inv-loop μ-loop
 loop-holds c = (omega arith, refl, refl)
 
--- src/blocks.rt:61:17
 shared-slice-read-to : tie.Need-shared-slice-read-to Inv-loop μ-loop
 shared-slice-read-to c = search needs
 
--- src/blocks.rt:61:9
 slice-write-to : tie.Need-slice-write-to Inv-loop μ-loop
 slice-write-to c = search needs
 
--- src/blocks.rt:60:9
 add-i : tie.Need-add-i Inv-loop μ-loop
 add-i c = search needs
 
--- src/blocks.rt:60:5
 loop-less : tie.Need-loop-less Inv-loop μ-loop
 loop-less c = search needs
 
--- src/blocks.rt:60:5
 loop-again : tie.Need-loop-again Inv-loop μ-loop
 loop-again c = (omega arith, simp length-set (omega arith), copy-more _ _ _ _ (omega arith) (omega arith) (c .before .before .loop .inv .2))
 
--- src/blocks.rt:56:1
 same-length : tie.Need-same-length Inv-loop μ-loop
 same-length c = c .before .loop .inv .1
 
--- src/blocks.rt:56:1
 returns : tie.Need-returns Inv-loop μ-loop
 returns c = copy-end _ _ _ (c .before .loop .i) 510 (omega arith) (omega arith) (c .before .loop .inv .2)
 

@@ -18,63 +18,48 @@ Inv-loop file stream₀ n k₀ stream k = (k ≤ n) × (length stream ≡ length
 abbrev μ-loop : tie.MeasureT-loop
 μ-loop file stream₀ n k₀ stream k = n - k
 
--- src/blocks.rt:71:5
 loop-holds : tie.Need-loop-holds Inv-loop μ-loop
 loop-holds c = (omega arith, refl, refl, join-start _ (c .before .before .args .stream .now) _)
 
--- src/blocks.rt:72:20
 mul-from : tie.Need-mul-from Inv-loop μ-loop
 mul-from c = search needs
 
--- src/blocks.rt:73:18
 mul-to : tie.Need-mul-to Inv-loop μ-loop
 mul-to c = search needs
 
--- src/blocks.rt:74:22
 sub-copy-payload : tie.Need-sub-copy-payload Inv-loop μ-loop
 sub-copy-payload c = search needs
 
--- src/blocks.rt:74:22
 part-copy-payload-start : tie.Need-part-copy-payload-start Inv-loop μ-loop
 part-copy-payload-start c = search needs
 
--- src/blocks.rt:74:22
 part-copy-payload-end : tie.Need-part-copy-payload-end Inv-loop μ-loop
 part-copy-payload-end c = search needs
 
--- src/blocks.rt:74:37
 sub-copy-payload-2 : tie.Need-sub-copy-payload-2 Inv-loop μ-loop
 sub-copy-payload-2 c = search needs
 
--- src/blocks.rt:74:37
 part-copy-payload-start-2 : tie.Need-part-copy-payload-start-2 Inv-loop μ-loop
 part-copy-payload-start-2 c = search needs
 
--- src/blocks.rt:74:37
 part-copy-payload-end-2 : tie.Need-part-copy-payload-end-2 Inv-loop μ-loop
 part-copy-payload-end-2 c = search needs
 
--- src/blocks.rt:74:9
 copy-payload-requires : tie.Need-copy-payload-requires Inv-loop μ-loop
 copy-payload-requires c κs = search needs
 
--- src/blocks.rt:71:9
 add-k : tie.Need-add-k Inv-loop μ-loop
 add-k c = search needs
 
--- src/blocks.rt:71:5
 loop-less : tie.Need-loop-less Inv-loop μ-loop
 loop-less c = search needs
 
--- src/blocks.rt:71:5
 loop-again : tie.Need-loop-again Inv-loop μ-loop
 loop-again c = (let x = placed (c .before .before .before .before .before .before .before .before .before .args .file .now) (c .before .before .before .before .before .before .loop .stream) _ _ (c .before .before .before .before .before .before .loop .k) (omega arith) (omega arith) (c .before .before .copy-payload .ensures) refl in (omega arith, search needs, join-rest (c .before .before .before .before .before .before .before .before .before .args .file .now) (c .before .before .before .before .before .before .loop .stream) _ _ (c .before .before .before .before .before .before .loop .k) (omega arith) (omega arith) x (c .before .before .before .before .before .before .loop .inv .2), join-more (c .before .before .before .before .before .before .before .before .before .args .file .now) (c .before .before .before .before .before .before .loop .stream) _ (c .before .before .before .before .before .before .loop .k) _ (omega arith) (omega arith) (omega arith) x (c .before .before .before .before .before .before .loop .inv .3)))
 
--- src/blocks.rt:66:1
 same-length : tie.Need-same-length Inv-loop μ-loop
 same-length c = c .before .loop .inv .1
 
--- src/blocks.rt:66:1
 returns : tie.Need-returns Inv-loop μ-loop
 returns c = join-end (c .before .before .before .before .args .file .now) (c .before .loop .stream) _ (c .before .loop .k) _ (c .before .loop .inv .0) (c .loop-test .left) (c .before .loop .inv .2) (c .before .loop .inv .3)
 

@@ -16,35 +16,27 @@ Inv-loop bytes total₀ i₀ i-end total i = (total + sum (drop i bytes) ≡ sum
 abbrev μ-loop : tie.MeasureT-loop
 μ-loop bytes total₀ i₀ i-end total i = length bytes - i
 
--- src/blocks.rt:16:5
 loop-holds : tie.Need-loop-holds Inv-loop μ-loop
 loop-holds c = (sum-start _, omega arith, omega arith)
 
--- src/blocks.rt:17:18
 shared-slice-read-total : tie.Need-shared-slice-read-total Inv-loop μ-loop
 shared-slice-read-total c = search needs
 
--- src/blocks.rt:17:18
 cast-total : tie.Need-cast-total Inv-loop μ-loop
 cast-total c = omega (arith, c .shared-slice-known .given (c .before .before .loop .i))
 
--- src/blocks.rt:17:9
 add-total : tie.Need-add-total Inv-loop μ-loop
 add-total c = omega (arith, c .shared-slice-known .given (c .before .before .loop .i))
 
--- src/blocks.rt:16:9
 add-i : tie.Need-add-i Inv-loop μ-loop
 add-i c = search needs
 
--- src/blocks.rt:16:5
 loop-less : tie.Need-loop-less Inv-loop μ-loop
 loop-less c = search needs
 
--- src/blocks.rt:16:5
 loop-again : tie.Need-loop-again Inv-loop μ-loop
 loop-again c = (sum-more (c .before .before .before .args .bytes .now) (c .before .before .loop .i) (c .before .before .loop .total) _ (c .before .loop-test .taken) (c .before .before .loop .inv .0), omega (arith, c .shared-slice-known .given (c .before .before .loop .i)), omega arith)
 
--- src/blocks.rt:11:1
 returns : tie.Need-returns Inv-loop μ-loop
 returns c = sum-end (c .before .before .args .bytes .now) (c .before .loop .i) (c .before .loop .total) _ (omega arith) (c .before .loop .inv .0)
 

@@ -7,15 +7,12 @@ use Rattle.file_section.proofs.chains.key.Reads as key-reads
 use Rattle.file_section.proofs.chains.spread.Reads as spread-reads
 use Rattle.file_section.proofs.ChainLaws.{hash-law}
 
--- src/chains.rt:49:12
 key-requires : tie.Need-key-requires
 key-requires c κs = search needs
 
--- src/chains.rt:49:5
 spread-requires : tie.Need-spread-requires
 spread-requires c κs = search needs
 
--- src/chains.rt:46:1
 returns : tie.Need-returns
 returns c = hash-law _ _ _ _ (c .before .key .ensures) (c .spread .ensures)
 

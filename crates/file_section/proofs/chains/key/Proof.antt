@@ -9,43 +9,33 @@ use Rattle.access.proofs.inside.four.Reads as four-reads
 use Rattle.file_section.proofs.ChainLaws.{key-within, key-short, key-long}
 use native.Mathlib.Omega.{arith}
 
--- src/chains.rt:16:13
 byte-requires : tie.Need-byte-requires
 byte-requires c κs = search needs
 
--- src/chains.rt:17:9
 byte-requires-2 : tie.Need-byte-requires-2
 byte-requires-2 c κs = search needs
 
--- src/chains.rt:19:16
 u16-at-requires : tie.Need-u16-at-requires
 u16-at-requires c κs = search needs
 
--- src/chains.rt:19:38
 mul-result : tie.Need-mul-result
 mul-result c = search needs
 
--- src/chains.rt:19:16
 add-result : tie.Need-add-result
 add-result c = search needs
 
--- src/chains.rt:19:9
 returns : tie.Need-returns
 returns c = key-short _ _ _ _ _ (c .before .before .before .byte .ensures) (c .before .before .byte2 .ensures) (c .before .if1 .taken) (c .u16-at .ensures)
 
--- src/chains.rt:21:18
 sub-four : tie.Need-sub-four
 sub-four c = omega (arith, key-within (c .before .before .before .before .args .stream .now) (c .before .before .before .before .args .at) (c .before .before .byte .result) (c .before .byte2 .result) (c .before .byte2 .ensures) (c .if1 .left))
 
--- src/chains.rt:21:13
 add-four : tie.Need-add-four
 add-four c = omega (arith, key-within (c .before .before .before .before .args .stream .now) (c .before .before .before .before .args .at) (c .before .before .byte .result) (c .before .byte2 .result) (c .before .byte2 .ensures) (c .if1 .left))
 
--- src/chains.rt:21:5
 four-requires : tie.Need-four-requires
 four-requires c κs = omega (arith, key-within (c .before .before .before .before .args .stream .now) (c .before .before .before .before .args .at) (c .before .before .byte .result) (c .before .byte2 .result) (c .before .byte2 .ensures) (c .if1 .left))
 
--- src/chains.rt:13:1
 returns-2 : tie.Need-returns-2
 returns-2 c = key-long _ _ _ _ _ (c .before .before .before .byte .ensures) (c .before .before .byte2 .ensures) (c .before .if1 .left) (c .four .ensures)
 

@@ -8,39 +8,30 @@ use Rattle.access.proofs.put_u16.Reads as put-u16-reads
 use Rattle.file_section.proofs.names.low.Reads as low-reads
 use Rattle.file_section.proofs.ChainLaws.{link-law}
 
--- src/chains.rt:39:44
 add-get-u16 : tie.Need-add-get-u16
 add-get-u16 c = search needs
 
--- src/chains.rt:39:26
 get-u16-requires : tie.Need-get-u16-requires
 get-u16-requires c κs = search needs
 
--- src/chains.rt:39:5
 put-u16-requires : tie.Need-put-u16-requires
 put-u16-requires c κs = search needs
 
--- src/chains.rt:40:23
 add-put-u16 : tie.Need-add-put-u16
 add-put-u16 c = search needs
 
--- src/chains.rt:40:37
 add-low : tie.Need-add-low
 add-low c = search needs
 
--- src/chains.rt:40:33
 low-requires : tie.Need-low-requires
 low-requires c κs = search needs
 
--- src/chains.rt:40:5
 put-u16-requires-2 : tie.Need-put-u16-requires-2
 put-u16-requires-2 c κs = search needs
 
--- src/chains.rt:35:1
 same-length : tie.Need-same-length
 same-length c = search (link-law, needs)
 
--- src/chains.rt:35:1
 returns : tie.Need-returns
 returns c = search (link-law, needs)
 

@@ -5,11 +5,9 @@ use Rattle.file_section.proofs.chains.spread.Reads as reads
 use Rattle.file_section.proofs.chains.spread.Lts as lts
 use Rattle.file_section.specs.Chains.{spread}
 
--- src/chains.rt:43:6
 mul-result : tie.Need-mul-result
 mul-result c = search needs
 
--- src/chains.rt:39:1
 returns : tie.Need-returns
 unfolding spread
 returns c = search needs

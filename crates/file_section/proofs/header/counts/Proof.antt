@@ -6,19 +6,15 @@ use Rattle.file_section.proofs.header.counts.Lts as lts
 use Rattle.file_syntax.proofs.cursor.u16_below.Reads as u16-below-reads
 use Rattle.file_section.proofs.HeaderLaws.{header-laws}
 
--- src/header.rt:28:9
 u16-below-requires : tie.Need-u16-below-requires
 u16-below-requires c κs = search (header-laws, needs)
 
--- src/header.rt:29:9
 u16-below-requires-2 : tie.Need-u16-below-requires-2
 u16-below-requires-2 c κs = search (header-laws, needs)
 
--- src/header.rt:30:5
 u16-below-requires-3 : tie.Need-u16-below-requires-3
 u16-below-requires-3 c κs = search (header-laws, needs)
 
--- src/header.rt:25:1
 returns : tie.Need-returns
 returns c = search (header-laws, needs)
 

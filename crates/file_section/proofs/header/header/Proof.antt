@@ -8,19 +8,15 @@ use Rattle.file_section.proofs.header.global_counts.Reads as global-cou
 use Rattle.file_section.proofs.header.roles.Reads as roles-reads
 use Rattle.file_section.proofs.HeaderLaws.{header-laws}
 
--- src/header.rt:53:24
 global-counts-requires : tie.Need-global-counts-requires
 global-counts-requires c κs = search (header-laws, needs)
 
--- src/header.rt:53:14
 counts-requires : tie.Need-counts-requires
 counts-requires c κs = search (header-laws, needs)
 
--- src/header.rt:53:5
 roles-requires : tie.Need-roles-requires
 roles-requires c κs = search (header-laws, needs)
 
--- src/header.rt:45:1
 returns : tie.Need-returns
 returns c = search (header-laws, needs)
 

@@ -8,35 +8,27 @@ use Rattle.file_syntax.proofs.cursor.name.Reads as name-reads
 use Rattle.file_syntax.proofs.cursor.u16_or.Reads as u16-or-reads
 use Rattle.file_section.proofs.HeaderLaws.{header-laws}
 
--- src/header.rt:37:9
 u16-at-requires : tie.Need-u16-at-requires
 u16-at-requires c κs = search (header-laws, needs)
 
--- src/header.rt:38:35
 u16-at-requires-2 : tie.Need-u16-at-requires-2
 u16-at-requires-2 c κs = search (header-laws, needs)
 
--- src/header.rt:38:9
 u16-or-requires : tie.Need-u16-or-requires
 u16-or-requires c κs = search (header-laws, needs)
 
--- src/header.rt:39:9
 name-requires : tie.Need-name-requires
 name-requires c κs = search (header-laws, needs)
 
--- src/header.rt:40:9
 name-requires-2 : tie.Need-name-requires-2
 name-requires-2 c κs = search (header-laws, needs)
 
--- src/header.rt:41:9
 name-requires-3 : tie.Need-name-requires-3
 name-requires-3 c κs = search (header-laws, needs)
 
--- src/header.rt:42:5
 name-requires-4 : tie.Need-name-requires-4
 name-requires-4 c κs = search (header-laws, needs)
 
--- src/header.rt:34:1
 returns : tie.Need-returns
 returns c = search (header-laws, needs)
 

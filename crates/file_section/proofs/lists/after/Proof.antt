@@ -11,79 +11,60 @@ use Rattle.file_syntax.proofs.cursor.size_or.Reads as size-or-reads
 use Rattle.file_syntax.proofs.cursor.u16_below.Reads as u16-below-reads
 use Rattle.file_section.proofs.ListLaws.{list-laws}
 
--- src/lists.rt:58:22
 code-requires : tie.Need-code-requires
 code-requires c κs = search (list-laws, needs)
 
--- src/lists.rt:58:14
 size-requires : tie.Need-size-requires
 size-requires c κs = search (list-laws, needs)
 
--- src/lists.rt:59:14
 size-requires-2 : tie.Need-size-requires-2
 size-requires-2 c κs = search (list-laws, needs)
 
--- src/lists.rt:60:35
 u16-at-requires : tie.Need-u16-at-requires
 u16-at-requires c κs = search (list-laws, needs)
 
--- src/lists.rt:60:22
 u16-below-requires : tie.Need-u16-below-requires
 u16-below-requires c κs = search (list-laws, needs)
 
--- src/lists.rt:60:14
 bits-requires : tie.Need-bits-requires
 bits-requires c κs = search (list-laws, needs)
 
--- src/lists.rt:61:14
 size-or-requires : tie.Need-size-or-requires
 size-or-requires c κs = search (list-laws, needs)
 
--- src/lists.rt:65:14
 size-or-requires-2 : tie.Need-size-or-requires-2
 size-or-requires-2 c κs = search (list-laws, needs)
 
--- src/lists.rt:66:27
 u16-at-requires-2 : tie.Need-u16-at-requires-2
 u16-at-requires-2 c κs = search (list-laws, needs)
 
--- src/lists.rt:66:14
 u16-below-requires-2 : tie.Need-u16-below-requires-2
 u16-below-requires-2 c κs = search (list-laws, needs)
 
--- src/lists.rt:54:1
 returns : tie.Need-returns
 returns c = search (list-laws, needs)
 
--- src/lists.rt:54:1
 returns-2 : tie.Need-returns-2
 returns-2 c = search (list-laws, needs)
 
--- src/lists.rt:54:1
 returns-3 : tie.Need-returns-3
 returns-3 c = search (list-laws, needs)
 
--- src/lists.rt:54:1
 returns-4 : tie.Need-returns-4
 returns-4 c = search (list-laws, needs)
 
--- src/lists.rt:54:1
 returns-5 : tie.Need-returns-5
 returns-5 c = search (list-laws, needs)
 
--- src/lists.rt:54:1
 returns-6 : tie.Need-returns-6
 returns-6 c = search (list-laws, needs)
 
--- src/lists.rt:54:1
 returns-7 : tie.Need-returns-7
 returns-7 c = search (list-laws, needs)
 
--- src/lists.rt:54:1
 returns-8 : tie.Need-returns-8
 returns-8 c = search (list-laws, needs)
 
--- src/lists.rt:54:1
 returns-9 : tie.Need-returns-9
 returns-9 c = search (list-laws, needs)
 

@@ -12,47 +12,36 @@ use Rattle.file_section.proofs.lists.slot.Reads as slot-reads
 use Rattle.file_section.proofs.lists.stamp.Reads as stamp-reads
 use Rattle.file_section.proofs.ListLaws.{list-laws}
 
--- src/lists.rt:114:9
 u16-at-requires : tie.Need-u16-at-requires
 u16-at-requires c κs = search (list-laws, needs)
 
--- src/lists.rt:115:9
 name-requires : tie.Need-name-requires
 name-requires c κs = search (list-laws, needs)
 
--- src/lists.rt:116:18
 slot-requires : tie.Need-slot-requires
 slot-requires c κs = search (list-laws, needs)
 
--- src/lists.rt:116:34
 stamp-requires : tie.Need-stamp-requires
 stamp-requires c κs = search (list-laws, needs)
 
--- src/lists.rt:116:9
 mark-requires : tie.Need-mark-requires
 mark-requires c κs = search (list-laws, needs)
 
--- src/lists.rt:118:9
 macro-entry-requires : tie.Need-macro-entry-requires
 macro-entry-requires c κs = search (list-laws, needs)
 
--- src/lists.rt:118:9
 same-length : tie.Need-same-length
 same-length c = search (list-laws, needs)
 
--- src/lists.rt:118:9
 returns : tie.Need-returns
 returns c = search (list-laws, needs)
 
--- src/lists.rt:120:5
 after-requires : tie.Need-after-requires
 after-requires c κs = search (list-laws, needs)
 
--- src/lists.rt:110:1
 same-length-2 : tie.Need-same-length-2
 same-length-2 c = search (list-laws, needs)
 
--- src/lists.rt:110:1
 returns-2 : tie.Need-returns-2
 returns-2 c = search (list-laws, needs)
 

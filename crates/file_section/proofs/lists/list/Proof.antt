@@ -23,55 +23,42 @@ Inv-loop k s t₀ n c₀ i₀ t c i = (i ≤ n) × (length t ≡ length t₀) ×
 abbrev μ-loop : tie.MeasureT-loop
 μ-loop k s t₀ n c₀ i₀ t c i = n - i
 
--- src/lists.rt:128:23
 add-put-u16 : tie.Need-add-put-u16 Inv-loop μ-loop
 add-put-u16 c = search needs
 
--- src/lists.rt:128:33
 low-requires : tie.Need-low-requires Inv-loop μ-loop
 low-requires c κs = search needs
 
--- src/lists.rt:128:5
 put-u16-requires : tie.Need-put-u16-requires Inv-loop μ-loop
 put-u16-requires c κs = search needs
 
--- src/lists.rt:129:34
 mul-u16-at : tie.Need-mul-u16-at Inv-loop μ-loop
 mul-u16-at c = search needs
 
--- src/lists.rt:129:30
 add-u16-at : tie.Need-add-u16-at Inv-loop μ-loop
 add-u16-at c = search needs
 
--- src/lists.rt:129:13
 u16-at-requires : tie.Need-u16-at-requires Inv-loop μ-loop
 u16-at-requires c κs = search needs
 
--- src/lists.rt:131:5
 loop-holds : tie.Need-loop-holds Inv-loop μ-loop
 loop-holds c = (omega arith, refl, run-start _ _ _)
 
--- src/lists.rt:132:9
 entry-requires : tie.Need-entry-requires Inv-loop μ-loop
 entry-requires c κs = omega arith
 
--- src/lists.rt:131:9
 add-i : tie.Need-add-i Inv-loop μ-loop
 add-i c = search needs
 
--- src/lists.rt:131:5
 loop-less : tie.Need-loop-less Inv-loop μ-loop
 loop-less c = search needs
 
--- src/lists.rt:131:5
 loop-again : tie.Need-loop-again Inv-loop μ-loop
 loop-again c = (omega arith, c .before .before .entry .kept .1 .1 .1 .1 .0 ∙ c .before .before .before .before .before .loop .inv .1, run-again _ _ _ _ _ _ (omega arith) (c .before .before .before .before .before .loop .inv .2) (c .before .before .entry .ensures))
 
--- src/lists.rt:124:1
 same-length : tie.Need-same-length Inv-loop μ-loop
 same-length c = c .before .loop .inv .1 ∙ c .before .before .before .before .before .put-u16 .kept .0
 
--- src/lists.rt:124:1
 returns : tie.Need-returns Inv-loop μ-loop
 returns c = list-law _ _ _ _ _ _ _ _ _ _ (c .before .before .before .before .before .before .low .ensures) (c .before .before .before .before .before .put-u16 .ensures) (c .before .before .u16-at .ensures) (omega arith) (c .before .loop .inv .2)
 

@@ -19,31 +19,24 @@ Inv-loop s t₀ c₀ k₀ t c k = (k ≤ 9) × (length t ≡ length t₀) × (ru
 abbrev μ-loop : tie.MeasureT-loop
 μ-loop s t₀ c₀ k₀ t c k = 9 - k
 
--- src/lists.rt:142:5
 loop-holds : tie.Need-loop-holds Inv-loop μ-loop
 loop-holds c = (omega arith, refl, refl)
 
--- src/lists.rt:143:9
 list-requires : tie.Need-list-requires Inv-loop μ-loop
 list-requires c κs = omega arith
 
--- src/lists.rt:142:9
 add-k : tie.Need-add-k Inv-loop μ-loop
 add-k c = search needs
 
--- src/lists.rt:142:5
 loop-less : tie.Need-loop-less Inv-loop μ-loop
 loop-less c = search needs
 
--- src/lists.rt:142:5
 loop-again : tie.Need-loop-again Inv-loop μ-loop
 loop-again c = (omega arith, c .before .before .list .kept .1 .1 .1 .0 ∙ c .before .before .before .before .before .loop .inv .1, run-again 9 _ _ _ _ _ (omega arith) (c .before .before .before .before .before .loop .inv .2) (c .before .before .list .ensures))
 
--- src/lists.rt:138:1
 same-length : tie.Need-same-length Inv-loop μ-loop
 same-length c = c .before .loop .inv .1
 
--- src/lists.rt:138:1
 returns : tie.Need-returns Inv-loop μ-loop
 unfolding lists
 returns c = run-end 9 (c .before .loop .k) _ _ _ (omega arith) (c .before .loop .inv .2)

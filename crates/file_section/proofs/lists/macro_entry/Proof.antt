@@ -8,23 +8,18 @@ use Rattle.file_section.proofs.lists.note_macro.Reads as note-macro-rea
 use Rattle.file_syntax.proofs.statements.body.Reads as body-reads
 use Rattle.file_section.proofs.ListLaws.{list-laws}
 
--- src/lists.rt:104:9
 macro-head-requires : tie.Need-macro-head-requires
 macro-head-requires c κs = search (list-laws, needs)
 
--- src/lists.rt:105:5
 note-macro-requires : tie.Need-note-macro-requires
 note-macro-requires c κs = search (list-laws, needs)
 
--- src/lists.rt:106:5
 body-requires : tie.Need-body-requires
 body-requires c κs = search (list-laws, needs)
 
--- src/lists.rt:100:1
 same-length : tie.Need-same-length
 same-length c = search (list-laws, needs)
 
--- src/lists.rt:100:1
 returns : tie.Need-returns
 returns c = search (list-laws, needs)
 

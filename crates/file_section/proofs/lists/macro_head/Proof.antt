@@ -8,19 +8,15 @@ use Rattle.file_syntax.proofs.cursor.u16_below.Reads as u16-below-reads
 use Rattle.file_section.proofs.lists.params.Reads as params-reads
 use Rattle.file_section.proofs.ListLaws.{list-laws}
 
--- src/lists.rt:86:40
 small-count-requires : tie.Need-small-count-requires
 small-count-requires c κs = search (list-laws, needs)
 
--- src/lists.rt:86:27
 params-requires : tie.Need-params-requires
 params-requires c κs = search (list-laws, needs)
 
--- src/lists.rt:86:5
 u16-below-requires : tie.Need-u16-below-requires
 u16-below-requires c κs = search (list-laws, needs)
 
--- src/lists.rt:83:1
 returns : tie.Need-returns
 returns c = search (list-laws, needs)
 

@@ -8,35 +8,27 @@ use Rattle.access.proofs.put_u16.Reads as put-u16-reads
 use Rattle.file_syntax.proofs.cursor.refuse.Reads as refuse-reads
 use Rattle.file_section.proofs.ListLaws.{list-laws}
 
--- src/lists.rt:44:9
 returns : tie.Need-returns
 returns c = search (list-laws, needs)
 
--- src/lists.rt:46:8
 get-u16-requires : tie.Need-get-u16-requires
 get-u16-requires c κs = search (list-laws, needs)
 
--- src/lists.rt:47:9
 refuse-requires : tie.Need-refuse-requires
 refuse-requires c κs = search (list-laws, needs)
 
--- src/lists.rt:47:9
 same-length : tie.Need-same-length
 same-length c = search (list-laws, needs)
 
--- src/lists.rt:47:9
 returns-2 : tie.Need-returns-2
 returns-2 c = search (list-laws, needs)
 
--- src/lists.rt:49:5
 put-u16-requires : tie.Need-put-u16-requires
 put-u16-requires c κs = search (list-laws, needs)
 
--- src/lists.rt:40:1
 same-length-2 : tie.Need-same-length-2
 same-length-2 c = search (list-laws, needs)
 
--- src/lists.rt:40:1
 returns-3 : tie.Need-returns-3
 returns-3 c = search (list-laws, needs)
 

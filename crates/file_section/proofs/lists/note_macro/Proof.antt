@@ -8,51 +8,39 @@ use Rattle.access.proofs.put_u16.Reads as put-u16-reads
 use Rattle.file_section.proofs.names.low.Reads as low-reads
 use Rattle.file_section.proofs.ListLaws.{list-laws}
 
--- src/lists.rt:94:9
 get-u16-requires : tie.Need-get-u16-requires
 get-u16-requires c κs = search (list-laws, needs)
 
--- src/lists.rt:95:23
 add-put-u16 : tie.Need-add-put-u16
 add-put-u16 c = search (list-laws, needs)
 
--- src/lists.rt:95:33
 low-requires : tie.Need-low-requires
 low-requires c κs = search (list-laws, needs)
 
--- src/lists.rt:95:5
 put-u16-requires : tie.Need-put-u16-requires
 put-u16-requires c κs = search (list-laws, needs)
 
--- src/lists.rt:96:23
 add-put-u16-2 : tie.Need-add-put-u16-2
 add-put-u16-2 c = search (list-laws, needs)
 
--- src/lists.rt:96:5
 put-u16-requires-2 : tie.Need-put-u16-requires-2
 put-u16-requires-2 c κs = search (list-laws, needs)
 
--- src/lists.rt:97:33
 cast-low : tie.Need-cast-low
 cast-low c = search (list-laws, needs)
 
--- src/lists.rt:97:33
 add-low : tie.Need-add-low
 add-low c = search (list-laws, needs)
 
--- src/lists.rt:97:29
 low-requires-2 : tie.Need-low-requires-2
 low-requires-2 c κs = search (list-laws, needs)
 
--- src/lists.rt:97:5
 put-u16-requires-3 : tie.Need-put-u16-requires-3
 put-u16-requires-3 c κs = search (list-laws, needs)
 
--- src/lists.rt:90:1
 same-length : tie.Need-same-length
 same-length c = search (list-laws, needs)
 
--- src/lists.rt:90:1
 returns : tie.Need-returns
 returns c = search (list-laws, needs)
 

@@ -18,27 +18,21 @@ Inv-loop s m n c₀ i₀ c i = (i ≤ n) × (n ≡ c₀ .val) × (run (n - i) i 
 abbrev μ-loop : tie.MeasureT-loop
 μ-loop s m n c₀ i₀ c i = n - i
 
--- src/lists.rt:76:5
 loop-holds : tie.Need-loop-holds Inv-loop μ-loop
 loop-holds c = (omega arith, refl, run-start _ _ _)
 
--- src/lists.rt:77:9
 name-requires : tie.Need-name-requires Inv-loop μ-loop
 name-requires c κs = search needs
 
--- src/lists.rt:76:9
 add-i : tie.Need-add-i Inv-loop μ-loop
 add-i c = search needs
 
--- src/lists.rt:76:5
 loop-less : tie.Need-loop-less Inv-loop μ-loop
 loop-less c = search needs
 
--- src/lists.rt:76:5
 loop-again : tie.Need-loop-again Inv-loop μ-loop
 loop-again c = (omega arith, c .before .before .loop .inv .1, run-again _ _ _ _ _ _ (omega arith) (c .before .before .loop .inv .2) (c .name .ensures))
 
--- src/lists.rt:71:1
 returns : tie.Need-returns Inv-loop μ-loop
 returns c = params-law _ _ _ _ _ _ (c .before .loop .inv .1) (omega arith) (c .before .loop .inv .2)
 

@@ -5,19 +5,15 @@ use Rattle.file_section.proofs.lists.slot.Reads as reads
 use Rattle.file_section.proofs.lists.slot.Lts as lts
 use Rattle.file_section.proofs.ListLaws.{list-laws}
 
--- src/lists.rt:24:16
 add-result : tie.Need-add-result
 add-result c = search (list-laws, needs)
 
--- src/lists.rt:24:9
 returns : tie.Need-returns
 returns c = search (list-laws, needs)
 
--- src/lists.rt:26:5
 add-result-2 : tie.Need-add-result-2
 add-result-2 c = search (list-laws, needs)
 
--- src/lists.rt:20:1
 returns-2 : tie.Need-returns-2
 returns-2 c = search (list-laws, needs)
 

@@ -5,43 +5,33 @@ use Rattle.file_section.proofs.lists.stamp.Reads as reads
 use Rattle.file_section.proofs.lists.stamp.Lts as lts
 use Rattle.file_section.proofs.ListLaws.{list-laws}
 
--- src/lists.rt:35:18
 add-result : tie.Need-add-result
 add-result c = search (list-laws, needs)
 
--- src/lists.rt:35:26
 mul-result : tie.Need-mul-result
 mul-result c = search (list-laws, needs)
 
--- src/lists.rt:35:18
 add-result-2 : tie.Need-add-result-2
 add-result-2 c = search (list-laws, needs)
 
--- src/lists.rt:35:16
 cast-result : tie.Need-cast-result
 cast-result c = search (list-laws, needs)
 
--- src/lists.rt:35:9
 returns : tie.Need-returns
 returns c = search (list-laws, needs)
 
--- src/lists.rt:37:7
 sub-result : tie.Need-sub-result
 sub-result c = search (list-laws, needs)
 
--- src/lists.rt:37:15
 mul-result-2 : tie.Need-mul-result-2
 mul-result-2 c = search (list-laws, needs)
 
--- src/lists.rt:37:7
 add-result-3 : tie.Need-add-result-3
 add-result-3 c = search (list-laws, needs)
 
--- src/lists.rt:37:5
 cast-result-2 : tie.Need-cast-result-2
 cast-result-2 c = search (list-laws, needs)
 
--- src/lists.rt:30:1
 returns-2 : tie.Need-returns-2
 returns-2 c = search (list-laws, needs)
 

@@ -8,27 +8,21 @@ use Rattle.access.proofs.u16_at.Reads as u16-at-reads
 use Rattle.file_section.proofs.names.rest_alike.Reads as rest-alike-reads
 use Rattle.file_section.proofs.NameLaws.{name-laws, alike-differ}
 
--- src/names.rt:31:8
 u16-at-requires : tie.Need-u16-at-requires
 u16-at-requires c κs = search (name-laws, needs)
 
--- src/names.rt:31:31
 u16-at-requires-2 : tie.Need-u16-at-requires-2
 u16-at-requires-2 c κs = search (name-laws, needs)
 
--- src/names.rt:32:9
 returns : tie.Need-returns
 returns c = alike-differ _ _ _ _ _ (c .before .before .u16-at .ensures) (c .before .u16-at2 .ensures) (c .if1 .taken)
 
--- src/names.rt:34:25
 byte-requires : tie.Need-byte-requires
 byte-requires c κs = search (name-laws, needs)
 
--- src/names.rt:34:5
 rest-alike-requires : tie.Need-rest-alike-requires
 rest-alike-requires c κs = search (name-laws, needs)
 
--- src/names.rt:28:1
 returns-2 : tie.Need-returns-2
 returns-2 c = search (name-laws, needs)
 

@@ -19,31 +19,24 @@ Inv-loop s n t₀ k₀ c₀ i₀ t k c i = (i ≤ n) × (length t ≡ length t�
 abbrev μ-loop : tie.MeasureT-loop
 μ-loop s n t₀ k₀ c₀ i₀ t k c i = n - i
 
--- src/names.rt:117:5
 loop-holds : tie.Need-loop-holds Inv-loop μ-loop
 loop-holds c = (omega arith, refl, run-start _ _ _, c .before .before .pre .1)
 
--- src/names.rt:118:9
 name-at-requires : tie.Need-name-at-requires Inv-loop μ-loop
 name-at-requires c κs = (omega arith, c .before .before .before .loop .inv .3)
 
--- src/names.rt:117:9
 add-i : tie.Need-add-i Inv-loop μ-loop
 add-i c = omega arith
 
--- src/names.rt:117:5
 loop-less : tie.Need-loop-less Inv-loop μ-loop
 loop-less c = omega arith
 
--- src/names.rt:117:5
 loop-again : tie.Need-loop-again Inv-loop μ-loop
 loop-again c = (omega arith, c .before .before .name-at .kept .1 .1 .1 .0 ∙ c .before .before .before .before .before .before .loop .inv .1, run-again _ _ _ _ _ _ (omega arith) (c .before .before .before .before .before .before .loop .inv .2) (c .before .before .name-at .ensures .0), c .before .before .name-at .ensures .1)
 
--- src/names.rt:112:1
 same-length : tie.Need-same-length Inv-loop μ-loop
 same-length c = c .before .loop .inv .1
 
--- src/names.rt:112:1
 returns : tie.Need-returns Inv-loop μ-loop
 unfolding names
 returns c = run-end _ _ _ _ _ (omega arith) (c .before .loop .inv .2)

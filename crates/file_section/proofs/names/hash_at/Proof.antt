@@ -6,15 +6,12 @@ use Rattle.file_section.proofs.names.hash_at.Lts as lts
 use Rattle.file_section.proofs.chains.hash.Reads as hash-reads
 use Rattle.file_section.proofs.ChainLaws.{hashed-same}
 
--- src/names.rt:96:28
 hash-requires : tie.Need-hash-requires
 hash-requires c κs = search needs
 
--- src/names.rt:92:1
 returns : tie.Need-returns
 returns c = hashed-same _ _ _ _ (c .before .before .pre) (c .if1 .taken)
 
--- src/names.rt:92:1
 returns-2 : tie.Need-returns-2
 returns-2 c = search needs
 

@@ -16,59 +16,45 @@ Inv-loop s t k p h n j₀ j = Walk s t p h n j
 abbrev μ-loop : tie.MeasureT-loop
 μ-loop s t k p h n j₀ j = j
 
--- src/names.rt:58:41
 add-get-u16 : tie.Need-add-get-u16 Inv-loop μ-loop
 add-get-u16 c = search needs
 
--- src/names.rt:58:23
 get-u16-requires : tie.Need-get-u16-requires Inv-loop μ-loop
 get-u16-requires c κs = search needs
 
--- src/names.rt:58:9
 place-requires : tie.Need-place-requires Inv-loop μ-loop
 place-requires c κs = search needs
 
--- src/names.rt:59:5
 loop-holds : tie.Need-loop-holds Inv-loop μ-loop
 loop-holds c = walk-start _ _ _ _ _ _ _ _ (c .before .before .before .before .before .pre) (c .before .get-u16 .ensures) (c .place .ensures)
 
--- src/names.rt:60:17
 sub-i : tie.Need-sub-i Inv-loop μ-loop
 sub-i c = omega arith
 
--- src/names.rt:61:30
 get-u16-requires-2 : tie.Need-get-u16-requires-2 Inv-loop μ-loop
 get-u16-requires-2 c κs = search needs
 
--- src/names.rt:61:24
 place-requires-2 : tie.Need-place-requires-2 Inv-loop μ-loop
 place-requires-2 c κs = search needs
 
--- src/names.rt:61:12
 alike-requires : tie.Need-alike-requires Inv-loop μ-loop
 alike-requires c κs = search needs
 
--- src/names.rt:62:13
 returns : tie.Need-returns Inv-loop μ-loop
 returns c = known-hit _ _ _ _ _ _ _ _ (c .before .before .before .before .loop-test .taken) (c .before .before .before .get-u162 .ensures) (c .before .before .place2 .ensures) (c .before .alike .ensures) (c .if1 .taken) (c .before .before .before .before .before .loop .inv .left)
 
--- src/names.rt:64:19
 get-u16-requires-3 : tie.Need-get-u16-requires-3 Inv-loop μ-loop
 get-u16-requires-3 c κs = search needs
 
--- src/names.rt:64:9
 place-requires-3 : tie.Need-place-requires-3 Inv-loop μ-loop
 place-requires-3 c κs = search needs
 
--- src/names.rt:59:5
 loop-less : tie.Need-loop-less Inv-loop μ-loop
 loop-less c = walk-less _ _ _ _ _ _ _ _ _ (c .before .before .before .before .before .before .before .before .before .before .before .before .before .pre) (c .before .before .before .before .before .before .before .loop .inv) (c .before .before .before .before .before .before .loop-test .taken) (c .before .get-u163 .ensures) (c .place3 .ensures)
 
--- src/names.rt:59:5
 loop-again : tie.Need-loop-again Inv-loop μ-loop
 loop-again c = walk-on _ _ _ _ _ _ _ _ _ _ _ _ (c .before .before .before .before .before .before .before .before .before .before .before .before .before .pre) (c .before .before .before .before .before .before .before .loop .inv) (c .before .before .before .before .before .before .loop-test .taken) (c .before .before .before .before .before .get-u162 .ensures) (c .before .before .before .before .place2 .ensures) (c .before .before .before .alike .ensures) (c .before .before .if1 .left) (c .before .get-u163 .ensures) (c .place3 .ensures)
 
--- src/names.rt:54:1
 returns-2 : tie.Need-returns-2 Inv-loop μ-loop
 returns-2 c = known-end _ _ _ _ _ (c .loop-test .left) (c .before .loop .inv .left)
 

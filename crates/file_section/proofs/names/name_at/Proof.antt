@@ -14,47 +14,36 @@ use Rattle.file_section.proofs.names.spelling.Reads as spelling-reads
 use Rattle.file_section.proofs.ChainLaws.{linked-step}
 use Rattle.file_section.proofs.NameLaws.{name-turn}
 
--- src/names.rt:103:9
 hash-requires : tie.Need-hash-requires
 hash-requires c κs = search needs
 
--- src/names.rt:104:9
 spelling-requires : tie.Need-spelling-requires
 spelling-requires c κs = search needs
 
--- src/names.rt:105:26
 low-requires : tie.Need-low-requires
 low-requires c κs = search needs
 
--- src/names.rt:105:5
 put-u16-requires : tie.Need-put-u16-requires
 put-u16-requires c κs = search needs
 
--- src/names.rt:106:19
 get-u16-requires : tie.Need-get-u16-requires
 get-u16-requires c κs = search needs
 
--- src/names.rt:106:9
 place-requires : tie.Need-place-requires
 place-requires c κs = search needs
 
--- src/names.rt:107:10
 hash-at-requires : tie.Need-hash-at-requires
 hash-at-requires c κs = search needs
 
--- src/names.rt:107:5
 link-requires : tie.Need-link-requires
 link-requires c κs = search needs
 
--- src/names.rt:99:1
 same-length : tie.Need-same-length
 same-length c = search needs
 
--- src/names.rt:99:1
 same-length-2 : tie.Need-same-length-2
 same-length-2 c = search needs
 
--- src/names.rt:99:1
 returns : tie.Need-returns
 returns c = (name-turn _ _ _ _ _ _ _ (c .before .before .before .before .before .before .before .before .before .before .before .before .before .spelling .ensures) (c .before .before .before .before .before .before .before .before .before .before .before .low .ensures) (c .before .before .before .before .before .before .before .before .before .before .put-u16 .ensures), linked-step _ _ _ _ _ _ _ _ _ _ (c .before .before .before .before .before .before .before .before .before .before .before .before .before .before .before .before .before .before .before .before .pre) (c .before .before .before .before .before .before .before .before .before .before .put-u16 .ensures) (c .before .before .before .before .before .before .get-u16 .ensures) (c .before .before .before .before .before .place .ensures) (c .before .before .before .before .hash-at .ensures) (c .before .before .link .ensures))
 

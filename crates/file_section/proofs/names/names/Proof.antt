@@ -6,15 +6,12 @@ use Rattle.file_section.proofs.names.names.Lts as lts
 use Rattle.file_section.proofs.names.chained.Reads as chained-reads
 use Rattle.file_section.proofs.ChainLaws.{linked-none}
 
--- src/names.rt:128:5
 chained-requires : tie.Need-chained-requires
 chained-requires c κs = (c .before .before .before .before .pre, linked-none _ _)
 
--- src/names.rt:123:1
 same-length : tie.Need-same-length
 same-length c = search needs
 
--- src/names.rt:123:1
 returns : tie.Need-returns
 returns c = search needs
 

@@ -16,35 +16,27 @@ Inv-loop s a b n i₀ i = agree (n + 1 - i) i s a b ≡ restAlike s a b n
 abbrev μ-loop : tie.MeasureT-loop
 μ-loop s a b n i₀ i = n + 1 - i
 
--- src/names.rt:18:5
 loop-holds : tie.Need-loop-holds Inv-loop μ-loop
 loop-holds c = agree-start _ _ _ _
 
--- src/names.rt:19:12
 byte-requires : tie.Need-byte-requires Inv-loop μ-loop
 byte-requires c κs = search needs
 
--- src/names.rt:19:36
 byte-requires-2 : tie.Need-byte-requires-2 Inv-loop μ-loop
 byte-requires-2 c κs = search needs
 
--- src/names.rt:20:13
 returns : tie.Need-returns Inv-loop μ-loop
 returns c = agree-differ _ _ _ _ _ _ _ _ (c .before .before .before .loop-test .taken) (c .before .before .byte .ensures) (c .before .byte2 .ensures) (c .if1 .taken) (c .before .before .before .before .loop .inv)
 
--- src/names.rt:22:9
 add-i : tie.Need-add-i Inv-loop μ-loop
 add-i c = search needs
 
--- src/names.rt:18:5
 loop-less : tie.Need-loop-less Inv-loop μ-loop
 loop-less c = search needs
 
--- src/names.rt:18:5
 loop-again : tie.Need-loop-again Inv-loop μ-loop
 loop-again c = agree-same _ _ _ _ _ _ _ _ (c .before .before .before .loop-test .taken) (c .before .before .byte .ensures) (c .before .byte2 .ensures) (c .if1 .left) (c .before .before .before .before .loop .inv)
 
--- src/names.rt:13:1
 returns-2 : tie.Need-returns-2 Inv-loop μ-loop
 returns-2 c = agree-end _ _ _ _ _ _ (c .loop-test .left) (c .before .loop .inv)
 

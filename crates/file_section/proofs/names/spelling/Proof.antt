@@ -9,43 +9,33 @@ use Rattle.file_syntax.proofs.cursor.u8_below.Reads as u8-below-reads
 use Rattle.file_section.proofs.names.known.Reads as known-reads
 use Rattle.file_section.proofs.NameLaws.{name-laws}
 
--- src/names.rt:74:9
 u8-below-requires : tie.Need-u8-below-requires
 u8-below-requires c κs = search (name-laws, needs)
 
--- src/names.rt:76:9
 returns : tie.Need-returns
 returns c = search (name-laws, needs)
 
--- src/names.rt:79:9
 refuse-requires : tie.Need-refuse-requires
 refuse-requires c κs = search (name-laws, needs)
 
--- src/names.rt:79:9
 returns-2 : tie.Need-returns-2
 returns-2 c = search (name-laws, needs)
 
--- src/names.rt:81:9
 skip-requires : tie.Need-skip-requires
 skip-requires c κs = search (name-laws, needs)
 
--- src/names.rt:83:9
 returns-3 : tie.Need-returns-3
 returns-3 c = search (name-laws, needs)
 
--- src/names.rt:85:8
 known-requires : tie.Need-known-requires
 known-requires c κs = search (name-laws, needs)
 
--- src/names.rt:86:9
 refuse-requires-2 : tie.Need-refuse-requires-2
 refuse-requires-2 c κs = search (name-laws, needs)
 
--- src/names.rt:86:9
 returns-4 : tie.Need-returns-4
 returns-4 c = search (name-laws, needs)
 
--- src/names.rt:70:1
 returns-5 : tie.Need-returns-5
 returns-5 c = search (name-laws, needs)
 

@@ -17,39 +17,30 @@ Inv-loop s from n i₀ i = zeros (length s - i) i s ≡ zeros (length s - from) 
 abbrev μ-loop : tie.MeasureT-loop
 μ-loop s from n i₀ i = length s - i
 
--- src/zeros.rt:35:9
 returns : tie.Need-returns Inv-loop μ-loop
 returns c = refl
 
--- src/zeros.rt:38:5
 loop-holds : tie.Need-loop-holds Inv-loop μ-loop
 loop-holds c = refl
 
--- src/zeros.rt:38:15
 sub-loop : tie.Need-sub-loop Inv-loop μ-loop
 sub-loop c = omega arith
 
--- src/zeros.rt:39:12
 eight-requires : tie.Need-eight-requires Inv-loop μ-loop
 eight-requires c κs = omega arith
 
--- src/zeros.rt:40:13
 returns-2 : tie.Need-returns-2 Inv-loop μ-loop
 returns-2 c = c .before .before .before .loop .inv
 
--- src/zeros.rt:42:9
 add-i : tie.Need-add-i Inv-loop μ-loop
 add-i c = omega arith
 
--- src/zeros.rt:38:5
 loop-less : tie.Need-loop-less Inv-loop μ-loop
 loop-less c = omega arith
 
--- src/zeros.rt:38:5
 loop-again : tie.Need-loop-again Inv-loop μ-loop
 loop-again c = zeros-eight (c .before .before .before .before .before .before .args .stream .now) _ _ _ (c .before .before .loop-test .taken) (c .before .eight .ensures) (c .if2 .left) (c .before .before .before .loop .inv)
 
--- src/zeros.rt:30:1
 returns-3 : tie.Need-returns-3 Inv-loop μ-loop
 returns-3 c = c .before .loop .inv
 

@@ -18,39 +18,30 @@ Inv-loop s c i₀ i = zeros (length s - i) i s ≡ zeros (length s - c .at) (c .
 abbrev μ-loop : tie.MeasureT-loop
 μ-loop s c i₀ i = length s - i
 
--- src/zeros.rt:53:9
 past-zeros-requires : tie.Need-past-zeros-requires Inv-loop μ-loop
 past-zeros-requires c κs = search needs
 
--- src/zeros.rt:54:5
 loop-holds : tie.Need-loop-holds Inv-loop μ-loop
 loop-holds c = c .past-zeros .ensures
 
--- src/zeros.rt:55:12
 shared-slice-read-if1 : tie.Need-shared-slice-read-if1 Inv-loop μ-loop
 shared-slice-read-if1 c = search needs
 
--- src/zeros.rt:56:13
 refuse-requires : tie.Need-refuse-requires Inv-loop μ-loop
 refuse-requires c κs = search needs
 
--- src/zeros.rt:56:13
 returns : tie.Need-returns Inv-loop μ-loop
 returns c = tail-found _ _ _ (zeros-found (c .before .before .before .before .before .before .before .args .stream .now) _ _ (c .before .before .before .loop-test .taken) (c .before .if1 .taken) (c .before .before .before .before .loop .inv)) (c .refuse .ensures)
 
--- src/zeros.rt:58:9
 add-i : tie.Need-add-i Inv-loop μ-loop
 add-i c = search needs
 
--- src/zeros.rt:54:5
 loop-less : tie.Need-loop-less Inv-loop μ-loop
 loop-less c = search needs
 
--- src/zeros.rt:54:5
 loop-again : tie.Need-loop-again Inv-loop μ-loop
 loop-again c = zeros-more (c .before .before .before .before .before .before .args .stream .now) _ _ (c .before .before .loop-test .taken) (c .if1 .left) (c .before .before .before .loop .inv)
 
--- src/zeros.rt:50:1
 returns-2 : tie.Need-returns-2 Inv-loop μ-loop
 returns-2 c = tail-end _ _ (zeros-end (c .before .before .before .before .args .stream .now) _ _ (c .loop-test .left) (c .before .loop .inv))
 

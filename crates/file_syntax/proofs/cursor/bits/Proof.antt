@@ -6,15 +6,12 @@ use Rattle.file_syntax.proofs.cursor.bits.Lts as lts
 use Rattle.file_syntax.proofs.cursor.u16_below.Reads as u16-below-reads
 use mathlib.Core.Path.{_≡_, refl}
 
--- src/cursor.rt:137:27
 u16-below-requires : tie.Need-u16-below-requires
 u16-below-requires c κs = search needs
 
--- src/cursor.rt:137:5
 u16-below-requires-2 : tie.Need-u16-below-requires-2
 u16-below-requires-2 c κs = search needs
 
--- src/cursor.rt:134:1
 returns : tie.Need-returns
 returns c = rw (c .before .u16-below .ensures) at (c .u16-below2 .ensures)
 

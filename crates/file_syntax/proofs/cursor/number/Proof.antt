@@ -6,39 +6,30 @@ use Rattle.file_syntax.proofs.cursor.number.Lts as lts
 use Rattle.file_syntax.proofs.cursor.refuse.Reads as refuse-reads
 use Rattle.file_syntax.proofs.CursorLaws.{cursor-laws}
 
--- src/cursor.rt:32:9
 returns : tie.Need-returns
 returns c = search (cursor-laws, needs)
 
--- src/cursor.rt:35:9
 refuse-requires : tie.Need-refuse-requires
 refuse-requires c κs = search (cursor-laws, needs)
 
--- src/cursor.rt:35:9
 returns-2 : tie.Need-returns-2
 returns-2 c = search (cursor-laws, needs)
 
--- src/cursor.rt:38:9
 refuse-requires-2 : tie.Need-refuse-requires-2
 refuse-requires-2 c κs = search (cursor-laws, needs)
 
--- src/cursor.rt:38:9
 returns-3 : tie.Need-returns-3
 returns-3 c = search (cursor-laws, needs)
 
--- src/cursor.rt:42:17
 add-t9 : tie.Need-add-t9
 add-t9 c = search (cursor-laws, needs)
 
--- src/cursor.rt:41:9
 returns-4 : tie.Need-returns-4
 returns-4 c = search (cursor-laws, needs)
 
--- src/cursor.rt:47:5
 refuse-requires-3 : tie.Need-refuse-requires-3
 refuse-requires-3 c κs = search (cursor-laws, needs)
 
--- src/cursor.rt:28:1
 returns-5 : tie.Need-returns-5
 returns-5 c = search (cursor-laws, needs)
 

@@ -5,11 +5,9 @@ use Rattle.file_syntax.proofs.cursor.refuse.Lts as lts
 use Rattle.file_syntax.proofs.CursorLaws.{cursor-laws}
 use borrow.Author.Needs.{needs}
 
--- src/cursor.rt:18:9
 returns : tie.Need-returns
 returns c = search (cursor-laws, needs)
 
--- src/cursor.rt:14:1
 returns-2 : tie.Need-returns-2
 returns-2 c = search (cursor-laws, needs)
 

@@ -6,11 +6,9 @@ use Rattle.file_syntax.proofs.cursor.skip.Lts as lts
 use Rattle.file_syntax.proofs.cursor.number.Reads as number-reads
 use Rattle.file_syntax.proofs.CursorLaws.{cursor-laws}
 
--- src/cursor.rt:91:5
 number-requires : tie.Need-number-requires
 number-requires c κs = search (cursor-laws, needs)
 
--- src/cursor.rt:88:1
 returns : tie.Need-returns
 returns c = search (cursor-laws, needs)
 

@@ -7,35 +7,27 @@ use Rattle.access.proofs.inside.two.Reads as two-reads
 use Rattle.file_syntax.proofs.cursor.number.Reads as number-reads
 use Rattle.file_syntax.proofs.CursorLaws.{cursor-laws}
 
--- src/cursor.rt:62:17
 sub-if2 : tie.Need-sub-if2
 sub-if2 c = search (cursor-laws, needs)
 
--- src/cursor.rt:63:17
 two-requires : tie.Need-two-requires
 two-requires c κs = search (cursor-laws, needs)
 
--- src/cursor.rt:66:25
 add-t15 : tie.Need-add-t15
 add-t15 c = search (cursor-laws, needs)
 
--- src/cursor.rt:65:17
 returns : tie.Need-returns
 returns c = search (cursor-laws, needs)
 
--- src/cursor.rt:71:13
 returns-2 : tie.Need-returns-2
 returns-2 c = search (cursor-laws, needs)
 
--- src/cursor.rt:73:9
 returns-3 : tie.Need-returns-3
 returns-3 c = search (cursor-laws, needs)
 
--- src/cursor.rt:75:5
 number-requires : tie.Need-number-requires
 number-requires c κs = search (cursor-laws, needs)
 
--- src/cursor.rt:57:1
 returns-4 : tie.Need-returns-4
 returns-4 c = search (cursor-laws, needs)
 

@@ -7,23 +7,18 @@ use Rattle.access.proofs.u16_at.Reads as u16-at-reads
 use Rattle.file_syntax.proofs.cursor.u16_below.Reads as u16-below-reads
 use Rattle.file_syntax.proofs.CursorLaws.{cursor-laws}
 
--- src/cursor.rt:82:8
 u16-at-requires : tie.Need-u16-at-requires
 u16-at-requires c κs = search (cursor-laws, needs)
 
--- src/cursor.rt:83:9
 u16-below-requires : tie.Need-u16-below-requires
 u16-below-requires c κs = search (cursor-laws, needs)
 
--- src/cursor.rt:83:9
 returns : tie.Need-returns
 returns c = search (cursor-laws, needs)
 
--- src/cursor.rt:85:5
 u16-below-requires-2 : tie.Need-u16-below-requires-2
 u16-below-requires-2 c κs = search (cursor-laws, needs)
 
--- src/cursor.rt:79:1
 returns-2 : tie.Need-returns-2
 returns-2 c = search (cursor-laws, needs)
 

@@ -7,15 +7,12 @@ use Rattle.access.proofs.byte.Reads as byte-reads
 use Rattle.file_syntax.proofs.cursor.number.Reads as number-reads
 use Rattle.file_syntax.proofs.CursorLaws.{cursor-laws}
 
--- src/cursor.rt:53:12
 byte-requires : tie.Need-byte-requires
 byte-requires c κs = search (cursor-laws, needs)
 
--- src/cursor.rt:53:5
 number-requires : tie.Need-number-requires
 number-requires c κs = search (cursor-laws, needs)
 
--- src/cursor.rt:50:1
 returns : tie.Need-returns
 returns c = search (cursor-laws, needs)
 

@@ -58,7 +58,6 @@ longer-at t = and 1 longer-kinds.ps (is 1 longer-kinds.ps μ-longer t) longer.Pr
 abbrev longer-below : ℕ → In 1 longer-kinds.ps
 longer-below t = and 1 longer-kinds.ps (falls 1 longer-kinds.ps _<_ μ-longer t) longer.Pre
 
--- src/expressions.rt:65:24
 expr-shared-slice-read-kind : (t : ℕ) → expr-lts.Need-shared-slice-read-kind (
   name-reads.Asked,
   name-reads.Learnt,
@@ -69,7 +68,6 @@ expr-shared-slice-read-kind : (t : ℕ) → expr-lts.Need-shared-slice-read-kind
 ) (expr-at t) expr.Post
 expr-shared-slice-read-kind t c = search (code-laws, needs)
 
--- src/expressions.rt:68:25
 expr-add-t16 : (t : ℕ) → expr-lts.Need-add-t16 (
   name-reads.Asked,
   name-reads.Learnt,
@@ -80,7 +78,6 @@ expr-add-t16 : (t : ℕ) → expr-lts.Need-add-t16 (
 ) (expr-at t) expr.Post
 expr-add-t16 t c = search (code-laws, needs)
 
--- src/expressions.rt:72:17
 expr-name-requires : (t : ℕ) → expr-lts.Need-name-requires (
   name-reads.Asked,
   name-reads.Learnt,
@@ -91,7 +88,6 @@ expr-name-requires : (t : ℕ) → expr-lts.Need-name-requires (
 ) (expr-at t) expr.Post
 expr-name-requires t c κs = search (code-laws, needs)
 
--- src/expressions.rt:72:17
 expr-returns : (t : ℕ) → expr-lts.Need-returns (
   name-reads.Asked,
   name-reads.Learnt,
@@ -102,7 +98,6 @@ expr-returns : (t : ℕ) → expr-lts.Need-returns (
 ) (expr-at t) expr.Post
 expr-returns t c = search (code-laws, needs)
 
--- src/expressions.rt:75:40
 expr-add-integer-here : (t : ℕ) → expr-lts.Need-add-integer-here (
   name-reads.Asked,
   name-reads.Learnt,
@@ -113,7 +108,6 @@ expr-add-integer-here : (t : ℕ) → expr-lts.Need-add-integer-here (
 ) (expr-at t) expr.Post
 expr-add-integer-here t c = search (code-laws, needs)
 
--- src/expressions.rt:75:17
 expr-integer-here-requires : (t : ℕ) → expr-lts.Need-integer-here-requires (
   name-reads.Asked,
   name-reads.Learnt,
@@ -124,7 +118,6 @@ expr-integer-here-requires : (t : ℕ) → expr-lts.Need-integer-here-requires (
 ) (expr-at t) expr.Post
 expr-integer-here-requires t c κs = search (code-laws, needs)
 
--- src/expressions.rt:75:17
 expr-returns-2 : (t : ℕ) → expr-lts.Need-returns-2 (
   name-reads.Asked,
   name-reads.Learnt,
@@ -135,7 +128,6 @@ expr-returns-2 : (t : ℕ) → expr-lts.Need-returns-2 (
 ) (expr-at t) expr.Post
 expr-returns-2 t c = search (code-laws, needs)
 
--- src/expressions.rt:79:5
 expr-longer-requires : (t : ℕ) → expr-lts.Need-longer-requires (
   name-reads.Asked,
   name-reads.Learnt,
@@ -146,7 +138,6 @@ expr-longer-requires : (t : ℕ) → expr-lts.Need-longer-requires (
 ) (expr-at t) expr.Post
 expr-longer-requires t c κs = search (code-laws, needs)
 
--- src/expressions.rt:59:1
 expr-returns-3 : (t : ℕ) → expr-lts.Need-returns-3 (
   name-reads.Asked,
   name-reads.Learnt,
@@ -163,7 +154,6 @@ exprs-Inv-loop depth s m n c₀ i₀ c i = (i ≤ n) × (n ≡ c₀ .val) × (ru
 abbrev exprs-μ-loop : exprs-lts.MeasureT-loop
 exprs-μ-loop depth s m n c₀ i₀ c i = n - i
 
--- src/expressions.rt:111:5
 exprs-loop-holds :
     (t : ℕ) →
     exprs-lts.Need-loop-holds
@@ -174,7 +164,6 @@ exprs-loop-holds :
     exprs-μ-loop
 exprs-loop-holds t c = (omega arith, refl, run-start _ _ _)
 
--- src/expressions.rt:112:9
 exprs-expr-requires :
     (t : ℕ) →
     exprs-lts.Need-expr-requires
@@ -185,7 +174,6 @@ exprs-expr-requires :
     exprs-μ-loop
 exprs-expr-requires t c κs = search (code-laws, needs)
 
--- src/expressions.rt:111:9
 exprs-add-i :
     (t : ℕ) →
     exprs-lts.Need-add-i
@@ -196,7 +184,6 @@ exprs-add-i :
     exprs-μ-loop
 exprs-add-i t c = search (code-laws, needs)
 
--- src/expressions.rt:111:5
 exprs-loop-less :
     (t : ℕ) →
     exprs-lts.Need-loop-less
@@ -207,7 +194,6 @@ exprs-loop-less :
     exprs-μ-loop
 exprs-loop-less t c = search (code-laws, needs)
 
--- src/expressions.rt:111:5
 exprs-loop-again :
     (t : ℕ) →
     exprs-lts.Need-loop-again
@@ -218,7 +204,6 @@ exprs-loop-again :
     exprs-μ-loop
 exprs-loop-again t c = (omega arith, c .before .before .loop .inv .1, run-again _ _ _ _ _ _ (omega arith) (c .before .before .loop .inv .2) (c .expr .ensures))
 
--- src/expressions.rt:106:1
 exprs-returns :
     (t : ℕ) →
     exprs-lts.Need-returns
@@ -229,7 +214,6 @@ exprs-returns :
     exprs-μ-loop
 exprs-returns t c = counted-law _ _ _ _ _ (c .before .loop .inv .1) (omega arith) (c .before .loop .inv .2)
 
--- src/expressions.rt:86:9
 longer-code-requires : (t : ℕ) → longer-lts.Need-code-requires (
   code-reads.Asked,
   code-reads.Learnt,
@@ -258,7 +242,6 @@ longer-code-requires : (t : ℕ) → longer-lts.Need-code-requires (
 ) (longer-at t) longer.Post
 longer-code-requires t c κs = search (code-laws, needs)
 
--- src/expressions.rt:88:9
 longer-refuse-requires : (t : ℕ) → longer-lts.Need-refuse-requires (
   code-reads.Asked,
   code-reads.Learnt,
@@ -287,7 +270,6 @@ longer-refuse-requires : (t : ℕ) → longer-lts.Need-refuse-requires (
 ) (longer-at t) longer.Post
 longer-refuse-requires t c κs = search (code-laws, needs)
 
--- src/expressions.rt:88:9
 longer-returns : (t : ℕ) → longer-lts.Need-returns (
   code-reads.Asked,
   code-reads.Learnt,
@@ -316,7 +298,6 @@ longer-returns : (t : ℕ) → longer-lts.Need-returns (
 ) (longer-at t) longer.Post
 longer-returns t c = search (code-laws, needs)
 
--- src/expressions.rt:90:13
 longer-sub-d : (t : ℕ) → longer-lts.Need-sub-d (
   code-reads.Asked,
   code-reads.Learnt,
@@ -345,7 +326,6 @@ longer-sub-d : (t : ℕ) → longer-lts.Need-sub-d (
 ) (longer-at t) longer.Post
 longer-sub-d t c = omega arith
 
--- src/expressions.rt:93:14
 longer-name-requires : (t : ℕ) → longer-lts.Need-name-requires (
   code-reads.Asked,
   code-reads.Learnt,
@@ -374,7 +354,6 @@ longer-name-requires : (t : ℕ) → longer-lts.Need-name-requires (
 ) (longer-at t) longer.Post
 longer-name-requires t c κs = search (code-laws, needs)
 
--- src/expressions.rt:94:14
 longer-skip-requires : (t : ℕ) → longer-lts.Need-skip-requires (
   code-reads.Asked,
   code-reads.Learnt,
@@ -403,7 +382,6 @@ longer-skip-requires : (t : ℕ) → longer-lts.Need-skip-requires (
 ) (longer-at t) longer.Post
 longer-skip-requires t c κs = search (code-laws, needs)
 
--- src/expressions.rt:95:14
 longer-address-of-requires : (t : ℕ) → longer-lts.Need-address-of-requires (
   code-reads.Asked,
   code-reads.Learnt,
@@ -432,7 +410,6 @@ longer-address-of-requires : (t : ℕ) → longer-lts.Need-address-of-requires (
 ) (longer-at t) longer.Post
 longer-address-of-requires t c κs = search (code-laws, needs)
 
--- src/expressions.rt:96:22
 longer-expr-requires : (t : ℕ) → longer-lts.Need-expr-requires (
   code-reads.Asked,
   code-reads.Learnt,
@@ -461,7 +438,6 @@ longer-expr-requires : (t : ℕ) → longer-lts.Need-expr-requires (
 ) (longer-at t) longer.Post
 longer-expr-requires t c κs = search (code-laws, needs)
 
--- src/expressions.rt:96:14
 longer-size-requires : (t : ℕ) → longer-lts.Need-size-requires (
   code-reads.Asked,
   code-reads.Learnt,
@@ -490,7 +466,6 @@ longer-size-requires : (t : ℕ) → longer-lts.Need-size-requires (
 ) (longer-at t) longer.Post
 longer-size-requires t c κs = search (code-laws, needs)
 
--- src/expressions.rt:97:22
 longer-expr-requires-2 : (t : ℕ) → longer-lts.Need-expr-requires-2 (
   code-reads.Asked,
   code-reads.Learnt,
@@ -519,7 +494,6 @@ longer-expr-requires-2 : (t : ℕ) → longer-lts.Need-expr-requires-2 (
 ) (longer-at t) longer.Post
 longer-expr-requires-2 t c κs = search (code-laws, needs)
 
--- src/expressions.rt:97:14
 longer-bits-requires : (t : ℕ) → longer-lts.Need-bits-requires (
   code-reads.Asked,
   code-reads.Learnt,
@@ -548,7 +522,6 @@ longer-bits-requires : (t : ℕ) → longer-lts.Need-bits-requires (
 ) (longer-at t) longer.Post
 longer-bits-requires t c κs = search (code-laws, needs)
 
--- src/expressions.rt:98:40
 longer-expr-requires-3 : (t : ℕ) → longer-lts.Need-expr-requires-3 (
   code-reads.Asked,
   code-reads.Learnt,
@@ -577,7 +550,6 @@ longer-expr-requires-3 : (t : ℕ) → longer-lts.Need-expr-requires-3 (
 ) (longer-at t) longer.Post
 longer-expr-requires-3 t c κs = search (code-laws, needs)
 
--- src/expressions.rt:98:28
 longer-code-requires-2 : (t : ℕ) → longer-lts.Need-code-requires-2 (
   code-reads.Asked,
   code-reads.Learnt,
@@ -606,7 +578,6 @@ longer-code-requires-2 : (t : ℕ) → longer-lts.Need-code-requires-2 (
 ) (longer-at t) longer.Post
 longer-code-requires-2 t c κs = search (code-laws, needs)
 
--- src/expressions.rt:98:14
 longer-expr-requires-4 : (t : ℕ) → longer-lts.Need-expr-requires-4 (
   code-reads.Asked,
   code-reads.Learnt,
@@ -635,7 +606,6 @@ longer-expr-requires-4 : (t : ℕ) → longer-lts.Need-expr-requires-4 (
 ) (longer-at t) longer.Post
 longer-expr-requires-4 t c κs = search (code-laws, needs)
 
--- src/expressions.rt:99:28
 longer-space-requires : (t : ℕ) → longer-lts.Need-space-requires (
   code-reads.Asked,
   code-reads.Learnt,
@@ -664,7 +634,6 @@ longer-space-requires : (t : ℕ) → longer-lts.Need-space-requires (
 ) (longer-at t) longer.Post
 longer-space-requires t c κs = search (code-laws, needs)
 
--- src/expressions.rt:99:14
 longer-expr-requires-5 : (t : ℕ) → longer-lts.Need-expr-requires-5 (
   code-reads.Asked,
   code-reads.Learnt,
@@ -693,7 +662,6 @@ longer-expr-requires-5 : (t : ℕ) → longer-lts.Need-expr-requires-5 (
 ) (longer-at t) longer.Post
 longer-expr-requires-5 t c κs = search (code-laws, needs)
 
--- src/expressions.rt:100:29
 longer-small-count-requires : (t : ℕ) → longer-lts.Need-small-count-requires (
   code-reads.Asked,
   code-reads.Learnt,
@@ -722,7 +690,6 @@ longer-small-count-requires : (t : ℕ) → longer-lts.Need-small-count-requires
 ) (longer-at t) longer.Post
 longer-small-count-requires t c κs = search (code-laws, needs)
 
--- src/expressions.rt:100:14
 longer-exprs-requires : (t : ℕ) → longer-lts.Need-exprs-requires (
   code-reads.Asked,
   code-reads.Learnt,
@@ -751,7 +718,6 @@ longer-exprs-requires : (t : ℕ) → longer-lts.Need-exprs-requires (
 ) (longer-at t) longer.Post
 longer-exprs-requires t c κs = search (code-laws, needs)
 
--- src/expressions.rt:101:29
 longer-call-requires : (t : ℕ) → longer-lts.Need-call-requires (
   code-reads.Asked,
   code-reads.Learnt,
@@ -780,7 +746,6 @@ longer-call-requires : (t : ℕ) → longer-lts.Need-call-requires (
 ) (longer-at t) longer.Post
 longer-call-requires t c κs = search (code-laws, needs)
 
--- src/expressions.rt:101:14
 longer-exprs-requires-2 : (t : ℕ) → longer-lts.Need-exprs-requires-2 (
   code-reads.Asked,
   code-reads.Learnt,
@@ -809,7 +774,6 @@ longer-exprs-requires-2 : (t : ℕ) → longer-lts.Need-exprs-requires-2 (
 ) (longer-at t) longer.Post
 longer-exprs-requires-2 t c κs = search (code-laws, needs)
 
--- src/expressions.rt:83:1
 longer-returns-2 : (t : ℕ) → longer-lts.Need-returns-2 (
   code-reads.Asked,
   code-reads.Learnt,
@@ -838,7 +802,6 @@ longer-returns-2 : (t : ℕ) → longer-lts.Need-returns-2 (
 ) (longer-at t) longer.Post
 longer-returns-2 t c = search (code-laws, needs)
 
--- src/expressions.rt:83:1
 longer-returns-3 : (t : ℕ) → longer-lts.Need-returns-3 (
   code-reads.Asked,
   code-reads.Learnt,
@@ -867,7 +830,6 @@ longer-returns-3 : (t : ℕ) → longer-lts.Need-returns-3 (
 ) (longer-at t) longer.Post
 longer-returns-3 t c = search (code-laws, needs)
 
--- src/expressions.rt:83:1
 longer-returns-4 : (t : ℕ) → longer-lts.Need-returns-4 (
   code-reads.Asked,
   code-reads.Learnt,
@@ -896,7 +858,6 @@ longer-returns-4 : (t : ℕ) → longer-lts.Need-returns-4 (
 ) (longer-at t) longer.Post
 longer-returns-4 t c = search (code-laws, needs)
 
--- src/expressions.rt:83:1
 longer-returns-5 : (t : ℕ) → longer-lts.Need-returns-5 (
   code-reads.Asked,
   code-reads.Learnt,
@@ -925,7 +886,6 @@ longer-returns-5 : (t : ℕ) → longer-lts.Need-returns-5 (
 ) (longer-at t) longer.Post
 longer-returns-5 t c = search (code-laws, needs)
 
--- src/expressions.rt:83:1
 longer-returns-6 : (t : ℕ) → longer-lts.Need-returns-6 (
   code-reads.Asked,
   code-reads.Learnt,
@@ -954,7 +914,6 @@ longer-returns-6 : (t : ℕ) → longer-lts.Need-returns-6 (
 ) (longer-at t) longer.Post
 longer-returns-6 t c = search (code-laws, needs)
 
--- src/expressions.rt:83:1
 longer-returns-7 : (t : ℕ) → longer-lts.Need-returns-7 (
   code-reads.Asked,
   code-reads.Learnt,
@@ -983,7 +942,6 @@ longer-returns-7 : (t : ℕ) → longer-lts.Need-returns-7 (
 ) (longer-at t) longer.Post
 longer-returns-7 t c = search (code-laws, needs)
 
--- src/expressions.rt:83:1
 longer-returns-8 : (t : ℕ) → longer-lts.Need-returns-8 (
   code-reads.Asked,
   code-reads.Learnt,
@@ -1012,7 +970,6 @@ longer-returns-8 : (t : ℕ) → longer-lts.Need-returns-8 (
 ) (longer-at t) longer.Post
 longer-returns-8 t c = search (code-laws, needs)
 
--- src/expressions.rt:83:1
 longer-returns-9 : (t : ℕ) → longer-lts.Need-returns-9 (
   code-reads.Asked,
   code-reads.Learnt,
@@ -1041,7 +998,6 @@ longer-returns-9 : (t : ℕ) → longer-lts.Need-returns-9 (
 ) (longer-at t) longer.Post
 longer-returns-9 t c = search (code-laws, needs)
 
--- src/expressions.rt:83:1
 longer-returns-10 : (t : ℕ) → longer-lts.Need-returns-10 (
   code-reads.Asked,
   code-reads.Learnt,

@@ -6,15 +6,12 @@ use Rattle.file_syntax.proofs.expressions.address_of.Lts as lts
 use Rattle.file_syntax.proofs.cursor.name.Reads as name-reads
 use Rattle.file_syntax.proofs.cursor.size_or.Reads as size-or-reads
 
--- src/expressions.rt:22:16
 size-or-requires : tie.Need-size-or-requires
 size-or-requires c κs = search needs
 
--- src/expressions.rt:22:5
 name-requires : tie.Need-name-requires
 name-requires c κs = search needs
 
--- src/expressions.rt:19:1
 returns : tie.Need-returns
 returns c = rw (c .before .size-or .ensures) at (c .name .ensures)
 

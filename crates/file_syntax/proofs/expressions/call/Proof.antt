@@ -6,15 +6,12 @@ use Rattle.file_syntax.proofs.expressions.call.Lts as lts
 use Rattle.file_syntax.proofs.cursor.name.Reads as name-reads
 use Rattle.file_syntax.proofs.cursor.small_count.Reads as small-count-reads
 
--- src/expressions.rt:36:20
 name-requires : tie.Need-name-requires
 name-requires c κs = search needs
 
--- src/expressions.rt:36:5
 small-count-requires : tie.Need-small-count-requires
 small-count-requires c κs = search needs
 
--- src/expressions.rt:33:1
 returns : tie.Need-returns
 returns c = rw (c .before .name .ensures) at (c .small-count .ensures)
 

@@ -5,19 +5,15 @@ use Rattle.file_syntax.proofs.expressions.integer_here.Reads as reads
 use Rattle.file_syntax.proofs.expressions.integer_here.Lts as lts
 use Rattle.file_syntax.proofs.CodeLaws.{code-laws}
 
--- src/expressions.rt:44:8
 sub-if1 : tie.Need-sub-if1
 sub-if1 c = search (code-laws, needs)
 
--- src/expressions.rt:45:9
 returns : tie.Need-returns
 returns c = search (code-laws, needs)
 
--- src/expressions.rt:52:13
 add-t3 : tie.Need-add-t3
 add-t3 c = search (code-laws, needs)
 
--- src/expressions.rt:40:1
 returns-2 : tie.Need-returns-2
 returns-2 c = search (code-laws, needs)
 

@@ -6,15 +6,12 @@ use Rattle.file_syntax.proofs.expressions.space.Lts as lts
 use Rattle.file_syntax.proofs.cursor.name_or.Reads as name-or-reads
 use Rattle.file_syntax.proofs.cursor.size_or.Reads as size-or-reads
 
--- src/expressions.rt:29:16
 name-or-requires : tie.Need-name-or-requires
 name-or-requires c κs = search needs
 
--- src/expressions.rt:29:5
 size-or-requires : tie.Need-size-or-requires
 size-or-requires c κs = search needs
 
--- src/expressions.rt:26:1
 returns : tie.Need-returns
 returns c = rw (c .before .name-or .ensures) at (c .size-or .ensures)
 

@@ -18,27 +18,21 @@ Inv-loop s m n c₀ i₀ c i = (i ≤ n) × (run (n - i) i (λ _. words.statemen
 abbrev μ-loop : tie.MeasureT-loop
 μ-loop s m n c₀ i₀ c i = n - i
 
--- src/statements.rt:63:5
 loop-holds : tie.Need-loop-holds Inv-loop μ-loop
 loop-holds c = (omega arith, run-start _ _ _)
 
--- src/statements.rt:64:9
 statement-requires : tie.Need-statement-requires Inv-loop μ-loop
 statement-requires c κs = search needs
 
--- src/statements.rt:63:9
 add-i : tie.Need-add-i Inv-loop μ-loop
 add-i c = search needs
 
--- src/statements.rt:63:5
 loop-less : tie.Need-loop-less Inv-loop μ-loop
 loop-less c = search needs
 
--- src/statements.rt:63:5
 loop-again : tie.Need-loop-again Inv-loop μ-loop
 loop-again c = (omega arith, run-again _ _ _ _ _ _ (omega arith) (c .before .before .loop .inv .1) (c .statement .ensures))
 
--- src/statements.rt:59:1
 returns : tie.Need-returns Inv-loop μ-loop
 returns c = body-law _ _ _ _ _ _ (omega arith) (c .before .loop .inv .1)
 

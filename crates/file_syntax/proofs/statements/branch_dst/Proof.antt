@@ -8,31 +8,24 @@ use Rattle.file_syntax.proofs.cursor.name.Reads as name-reads
 use Rattle.file_syntax.proofs.statements.jump_label.Reads as jump-label-reads
 use Rattle.file_syntax.proofs.CodeLaws.{code-laws}
 
--- src/statements.rt:29:9
 code-requires : tie.Need-code-requires
 code-requires c κs = search (code-laws, needs)
 
--- src/statements.rt:32:14
 jump-label-requires : tie.Need-jump-label-requires
 jump-label-requires c κs = search (code-laws, needs)
 
--- src/statements.rt:33:14
 jump-label-requires-2 : tie.Need-jump-label-requires-2
 jump-label-requires-2 c κs = search (code-laws, needs)
 
--- src/statements.rt:34:14
 name-requires : tie.Need-name-requires
 name-requires c κs = search (code-laws, needs)
 
--- src/statements.rt:26:1
 returns : tie.Need-returns
 returns c = search (code-laws, needs)
 
--- src/statements.rt:26:1
 returns-2 : tie.Need-returns-2
 returns-2 c = search (code-laws, needs)
 
--- src/statements.rt:26:1
 returns-3 : tie.Need-returns-3
 returns-3 c = search (code-laws, needs)
 

@@ -9,27 +9,21 @@ use Rattle.file_syntax.proofs.cursor.size.Reads as size-reads
 use Rattle.file_syntax.proofs.cursor.skip.Reads as skip-reads
 use Rattle.file_syntax.proofs.CodeLaws.{code-laws}
 
--- src/statements.rt:18:9
 code-requires : tie.Need-code-requires
 code-requires c κs = search (code-laws, needs)
 
--- src/statements.rt:21:14
 name-requires : tie.Need-name-requires
 name-requires c κs = search (code-laws, needs)
 
--- src/statements.rt:22:22
 skip-requires : tie.Need-skip-requires
 skip-requires c κs = search (code-laws, needs)
 
--- src/statements.rt:22:14
 size-requires : tie.Need-size-requires
 size-requires c κs = search (code-laws, needs)
 
--- src/statements.rt:15:1
 returns : tie.Need-returns
 returns c = search (code-laws, needs)
 
--- src/statements.rt:15:1
 returns-2 : tie.Need-returns-2
 returns-2 c = search (code-laws, needs)
 

@@ -13,131 +13,99 @@ use Rattle.file_syntax.proofs.expressions.space.Reads as space-reads
 use Rattle.file_syntax.proofs.statements.branch_dst.Reads as branch-dst-reads
 use Rattle.file_syntax.proofs.CodeLaws.{code-laws}
 
--- src/statements.rt:41:9
 code-requires : tie.Need-code-requires
 code-requires c κs = search (code-laws, needs)
 
--- src/statements.rt:45:14
 expr-requires : tie.Need-expr-requires
 expr-requires c κs = search (code-laws, needs)
 
--- src/statements.rt:46:25
 name-requires : tie.Need-name-requires
 name-requires c κs = search (code-laws, needs)
 
--- src/statements.rt:46:14
 size-or-requires : tie.Need-size-or-requires
 size-or-requires c κs = search (code-laws, needs)
 
--- src/statements.rt:47:40
 name-requires-2 : tie.Need-name-requires-2
 name-requires-2 c κs = search (code-laws, needs)
 
--- src/statements.rt:47:29
 size-or-requires-2 : tie.Need-size-or-requires-2
 size-or-requires-2 c κs = search (code-laws, needs)
 
--- src/statements.rt:47:14
 expr-requires-2 : tie.Need-expr-requires-2
 expr-requires-2 c κs = search (code-laws, needs)
 
--- src/statements.rt:48:14
 name-requires-3 : tie.Need-name-requires-3
 name-requires-3 c κs = search (code-laws, needs)
 
--- src/statements.rt:49:29
 expr-requires-3 : tie.Need-expr-requires-3
 expr-requires-3 c κs = search (code-laws, needs)
 
--- src/statements.rt:49:14
 expr-requires-4 : tie.Need-expr-requires-4
 expr-requires-4 c κs = search (code-laws, needs)
 
--- src/statements.rt:50:44
 space-requires : tie.Need-space-requires
 space-requires c κs = search (code-laws, needs)
 
--- src/statements.rt:50:29
 expr-requires-5 : tie.Need-expr-requires-5
 expr-requires-5 c κs = search (code-laws, needs)
 
--- src/statements.rt:50:14
 expr-requires-6 : tie.Need-expr-requires-6
 expr-requires-6 c κs = search (code-laws, needs)
 
--- src/statements.rt:51:30
 call-requires : tie.Need-call-requires
 call-requires c κs = search (code-laws, needs)
 
--- src/statements.rt:51:14
 exprs-requires : tie.Need-exprs-requires
 exprs-requires c κs = search (code-laws, needs)
 
--- src/statements.rt:52:25
 branch-dst-requires : tie.Need-branch-dst-requires
 branch-dst-requires c κs = search (code-laws, needs)
 
--- src/statements.rt:52:14
 code-requires-2 : tie.Need-code-requires-2
 code-requires-2 c κs = search (code-laws, needs)
 
--- src/statements.rt:53:42
 expr-requires-7 : tie.Need-expr-requires-7
 expr-requires-7 c κs = search (code-laws, needs)
 
--- src/statements.rt:53:25
 branch-dst-requires-2 : tie.Need-branch-dst-requires-2
 branch-dst-requires-2 c κs = search (code-laws, needs)
 
--- src/statements.rt:53:14
 code-requires-3 : tie.Need-code-requires-3
 code-requires-3 c κs = search (code-laws, needs)
 
--- src/statements.rt:54:14
 name-requires-4 : tie.Need-name-requires-4
 name-requires-4 c κs = search (code-laws, needs)
 
--- src/statements.rt:38:1
 returns : tie.Need-returns
 returns c = search (code-laws, needs)
 
--- src/statements.rt:38:1
 returns-2 : tie.Need-returns-2
 returns-2 c = search (code-laws, needs)
 
--- src/statements.rt:38:1
 returns-3 : tie.Need-returns-3
 returns-3 c = search (code-laws, needs)
 
--- src/statements.rt:38:1
 returns-4 : tie.Need-returns-4
 returns-4 c = search (code-laws, needs)
 
--- src/statements.rt:38:1
 returns-5 : tie.Need-returns-5
 returns-5 c = search (code-laws, needs)
 
--- src/statements.rt:38:1
 returns-6 : tie.Need-returns-6
 returns-6 c = search (code-laws, needs)
 
--- src/statements.rt:38:1
 returns-7 : tie.Need-returns-7
 returns-7 c = search (code-laws, needs)
 
--- src/statements.rt:38:1
 returns-8 : tie.Need-returns-8
 returns-8 c = search (code-laws, needs)
 
--- src/statements.rt:38:1
 returns-9 : tie.Need-returns-9
 returns-9 c = search (code-laws, needs)
 
--- src/statements.rt:38:1
 returns-10 : tie.Need-returns-10
 returns-10 c = search (code-laws, needs)
 
--- src/statements.rt:38:1
 returns-11 : tie.Need-returns-11
 returns-11 c = search (code-laws, needs)
 

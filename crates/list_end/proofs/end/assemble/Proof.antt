@@ -11,47 +11,36 @@ use Rattle.list_values.proofs.value.place.Reads as place-reads
 use Rattle.std.proofs.num.wrapping_add_usize.Reads as wrapping-add-usize-reads
 use Rattle.list_end.proofs.EndLaws.{end-laws, assemble-law}
 
--- src/end.rt:285:9
 place-requires : tie.Need-place-requires
 place-requires c κs = search (end-laws, needs)
 
--- src/end.rt:286:28
 slice-aggregate-mark-built : tie.Need-slice-aggregate-mark-built
 slice-aggregate-mark-built c = search (end-laws, needs)
 
--- src/end.rt:286:5
 mark-built-requires : tie.Need-mark-built-requires
 mark-built-requires c κs = search (end-laws, needs)
 
--- src/end.rt:287:32
 slice-aggregate-implicit-builds : tie.Need-slice-aggregate-implicit-builds
 slice-aggregate-implicit-builds c = search (end-laws, needs)
 
--- src/end.rt:287:9
 implicit-builds-requires : tie.Need-implicit-builds-requires
 implicit-builds-requires c κs = search (end-laws, needs)
 
--- src/end.rt:288:5
 move-down-requires : tie.Need-move-down-requires
 move-down-requires c κs = search (end-laws, needs)
 
--- src/end.rt:289:9
 wrapping-add-usize-requires : tie.Need-wrapping-add-usize-requires
 wrapping-add-usize-requires c κs = search (end-laws, needs)
 
--- src/end.rt:290:25
 place-requires-2 : tie.Need-place-requires-2
 place-requires-2 c κs = search (end-laws, needs)
 
--- src/end.rt:290:5
 zero-from-requires : tie.Need-zero-from-requires
 zero-from-requires c κs = search (end-laws, needs)
 
--- src/end.rt:281:1
 same-length : tie.Need-same-length
 same-length c = search (end-laws, needs)
 
--- src/end.rt:281:1
 returns : tie.Need-returns
 returns c = assemble-law _ _ _ _ _ _ _ _ _ _ _ (c .before .before .before .before .before .before .before .before .before .before .before .before .before .before .before .before .before .before .before .place .ensures) (c .before .before .before .before .before .before .before .before .before .before .before .before .before .before .before .before .mark-built .ensures) (c .before .before .before .before .before .before .before .before .before .before .before .before .implicit-builds .ensures) (c .before .before .before .before .before .before .before .before .move-down .ensures) (c .before .before .before .before .before .wrapping-add-usize .ensures) (c .before .before .before .place2 .ensures) (c .before .before .zero-from .ensures)
 

@@ -18,43 +18,33 @@ Inv-loop s t a₀ m base n ptr z₀ i₀ a z i = (i ≤ n) × (length a ≡ leng
 abbrev μ-loop : tie.MeasureT-loop
 μ-loop s t a₀ m base n ptr z₀ i₀ a z i = n - i
 
--- src/end.rt:191:5
 loop-holds : tie.Need-loop-holds Inv-loop μ-loop
 loop-holds c = (search needs, refl, finish-start _ _ _ _ _ _ _ _)
 
--- src/end.rt:192:39
 place-requires : tie.Need-place-requires Inv-loop μ-loop
 place-requires c κs = search needs
 
--- src/end.rt:192:13
 finish-op-requires : tie.Need-finish-op-requires Inv-loop μ-loop
 finish-op-requires c κs = search needs
 
--- src/end.rt:194:13
 same-length : tie.Need-same-length Inv-loop μ-loop
 same-length c = search needs
 
--- src/end.rt:194:13
 returns : tie.Need-returns Inv-loop μ-loop
 returns c = finish-stop _ _ _ _ _ _ _ _ _ _ (c .before .before .before .before .before .before .before .before .loop .inv .2) _ _ _ (omega arith) (c .before .before .before .before .before .place .ensures) (c .before .before .before .before .finish-op .ensures) (c .if1 .taken)
 
--- src/end.rt:191:9
 add-i : tie.Need-add-i Inv-loop μ-loop
 add-i c = search needs
 
--- src/end.rt:191:5
 loop-less : tie.Need-loop-less Inv-loop μ-loop
 loop-less c = search needs
 
--- src/end.rt:191:5
 loop-again : tie.Need-loop-again Inv-loop μ-loop
 loop-again c = (search needs, search needs, finish-more _ _ _ _ _ _ _ _ _ _ (c .before .before .before .before .before .before .before .before .before .loop .inv .2) _ _ _ (omega arith) (c .before .before .before .before .before .before .place .ensures) (c .before .before .before .before .before .finish-op .ensures) (c .before .if1 .left))
 
--- src/end.rt:178:1
 same-length-2 : tie.Need-same-length-2 Inv-loop μ-loop
 same-length-2 c = search needs
 
--- src/end.rt:178:1
 returns-2 : tie.Need-returns-2 Inv-loop μ-loop
 returns-2 c = finish-end _ _ _ _ _ _ _ _ _ _ (c .before .loop .inv .2) (omega arith)
 

@@ -8,43 +8,33 @@ use Rattle.list_end.proofs.end.subpiece_copy.Reads as subpiece-copy-rea
 use Rattle.list_values.proofs.value.get.Reads as get-reads
 use Rattle.list_end.proofs.EndLaws.{end-laws}
 
--- src/end.rt:165:8
 get-requires : tie.Need-get-requires
 get-requires c κs = search (end-laws, needs)
 
--- src/end.rt:166:9
 same-length : tie.Need-same-length
 same-length c = search (end-laws, needs)
 
--- src/end.rt:166:9
 returns : tie.Need-returns
 returns c = search (end-laws, needs)
 
--- src/end.rt:168:9
 fix-operands-requires : tie.Need-fix-operands-requires
 fix-operands-requires c κs = search (end-laws, needs)
 
--- src/end.rt:169:8
 get-requires-2 : tie.Need-get-requires-2
 get-requires-2 c κs = search (end-laws, needs)
 
--- src/end.rt:170:9
 same-length-2 : tie.Need-same-length-2
 same-length-2 c = search (end-laws, needs)
 
--- src/end.rt:170:9
 returns-2 : tie.Need-returns-2
 returns-2 c = search (end-laws, needs)
 
--- src/end.rt:173:18
 subpiece-copy-requires : tie.Need-subpiece-copy-requires
 subpiece-copy-requires c κs = search (end-laws, needs)
 
--- src/end.rt:154:1
 same-length-3 : tie.Need-same-length-3
 same-length-3 c = search (end-laws, needs)
 
--- src/end.rt:154:1
 returns-3 : tie.Need-returns-3
 returns-3 c = search (end-laws, needs)
 

@@ -19,39 +19,30 @@ Inv-loop s t a₀ m at n ptr z₀ i₀ a z i = (i ≤ n) × (length a ≡ length
 abbrev μ-loop : tie.MeasureT-loop
 μ-loop s t a₀ m at n ptr z₀ i₀ a z i = n - i
 
--- src/end.rt:74:5
 loop-holds : tie.Need-loop-holds Inv-loop μ-loop
 loop-holds c = (search needs, refl, run-start _ _ _)
 
--- src/end.rt:75:45
 mul-fix-operand : tie.Need-mul-fix-operand Inv-loop μ-loop
 mul-fix-operand c = search needs
 
--- src/end.rt:75:41
 add-fix-operand : tie.Need-add-fix-operand Inv-loop μ-loop
 add-fix-operand c = search needs
 
--- src/end.rt:75:9
 fix-operand-requires : tie.Need-fix-operand-requires Inv-loop μ-loop
 fix-operand-requires c κs = search needs
 
--- src/end.rt:74:9
 add-i : tie.Need-add-i Inv-loop μ-loop
 add-i c = search needs
 
--- src/end.rt:74:5
 loop-less : tie.Need-loop-less Inv-loop μ-loop
 loop-less c = search needs
 
--- src/end.rt:74:5
 loop-again : tie.Need-loop-again Inv-loop μ-loop
 loop-again c = (search needs, search needs, run-again _ _ _ _ _ _ (omega arith) (c .before .before .before .before .before .loop .inv .2) (fix-input-law _ _ _ _ _ _ _ _ _ _ (c .before .before .fix-operand .ensures)))
 
--- src/end.rt:61:1
 same-length : tie.Need-same-length Inv-loop μ-loop
 same-length c = search needs
 
--- src/end.rt:61:1
 returns : tie.Need-returns Inv-loop μ-loop
 returns c = fix-inputs-law _ _ _ _ _ _ _ _ _ _ _ (omega arith) (c .before .loop .inv .2)
 

@@ -8,23 +8,18 @@ use Rattle.list_end.proofs.end.fix_output.Reads as fix-output-reads
 use Rattle.list_values.proofs.value.get.Reads as get-reads
 use Rattle.list_end.proofs.EndLaws.{end-laws}
 
--- src/end.rt:108:13
 get-requires : tie.Need-get-requires
 get-requires c κs = search (end-laws, needs)
 
--- src/end.rt:109:9
 fix-inputs-requires : tie.Need-fix-inputs-requires
 fix-inputs-requires c κs = search (end-laws, needs)
 
--- src/end.rt:110:5
 fix-output-requires : tie.Need-fix-output-requires
 fix-output-requires c κs = search (end-laws, needs)
 
--- src/end.rt:97:1
 same-length : tie.Need-same-length
 same-length c = search (end-laws, needs)
 
--- src/end.rt:97:1
 returns : tie.Need-returns
 returns c = search (end-laws, needs)
 

@@ -7,27 +7,21 @@ use Rattle.list_end.proofs.end.fix_operand.Reads as fix-operand-reads
 use Rattle.list_values.proofs.value.get.Reads as get-reads
 use Rattle.list_end.proofs.EndLaws.{end-laws}
 
--- src/end.rt:91:8
 get-requires : tie.Need-get-requires
 get-requires c κs = search (end-laws, needs)
 
--- src/end.rt:92:9
 same-length : tie.Need-same-length
 same-length c = search (end-laws, needs)
 
--- src/end.rt:92:9
 returns : tie.Need-returns
 returns c = search (end-laws, needs)
 
--- src/end.rt:94:5
 fix-operand-requires : tie.Need-fix-operand-requires
 fix-operand-requires c κs = search (end-laws, needs)
 
--- src/end.rt:80:1
 same-length-2 : tie.Need-same-length-2
 same-length-2 c = search (end-laws, needs)
 
--- src/end.rt:80:1
 returns-2 : tie.Need-returns-2
 returns-2 c = search (end-laws, needs)
 

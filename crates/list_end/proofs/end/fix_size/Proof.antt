@@ -9,35 +9,27 @@ use Rattle.list_values.proofs.sizes.size_of.Reads as size-of-reads
 use Rattle.list_values.proofs.value.with_size.Reads as with-size-reads
 use Rattle.list_end.proofs.EndLaws.{end-laws}
 
--- src/end.rt:27:9
 size-of-requires : tie.Need-size-of-requires
 size-of-requires c κs = search (end-laws, needs)
 
--- src/end.rt:30:16
 with-size-requires : tie.Need-with-size-requires
 with-size-requires c κs = search (end-laws, needs)
 
--- src/end.rt:29:9
 returns : tie.Need-returns
 returns c = search (end-laws, needs)
 
--- src/end.rt:34:8
 falls-back-requires : tie.Need-falls-back-requires
 falls-back-requires c κs = search (end-laws, needs)
 
--- src/end.rt:36:16
 with-size-requires-2 : tie.Need-with-size-requires-2
 with-size-requires-2 c κs = search (end-laws, needs)
 
--- src/end.rt:35:9
 returns-2 : tie.Need-returns-2
 returns-2 c = search (end-laws, needs)
 
--- src/end.rt:42:12
 record-errors-requires : tie.Need-record-errors-requires
 record-errors-requires c κs = search (end-laws, needs)
 
--- src/end.rt:24:1
 returns-3 : tie.Need-returns-3
 returns-3 c = search (end-laws, needs)
 

@@ -9,31 +9,24 @@ use Rattle.list_values.proofs.value.place.Reads as place-reads
 use Rattle.std.proofs.num.wrapping_add_usize.Reads as wrapping-add-usize-reads
 use Rattle.list_end.proofs.EndLaws.{end-laws}
 
--- src/end.rt:250:8
 get-requires : tie.Need-get-requires
 get-requires c κs = search (end-laws, needs)
 
--- src/end.rt:251:9
 returns : tie.Need-returns
 returns c = search (end-laws, needs)
 
--- src/end.rt:253:20
 place-requires : tie.Need-place-requires
 place-requires c κs = search (end-laws, needs)
 
--- src/end.rt:253:5
 write-build-requires : tie.Need-write-build-requires
 write-build-requires c κs = search (end-laws, needs)
 
--- src/end.rt:254:5
 wrapping-add-usize-requires : tie.Need-wrapping-add-usize-requires
 wrapping-add-usize-requires c κs = search (end-laws, needs)
 
--- src/end.rt:247:1
 same-length : tie.Need-same-length
 same-length c = search (end-laws, needs)
 
--- src/end.rt:247:1
 returns-2 : tie.Need-returns-2
 returns-2 c = search (end-laws, needs)
 

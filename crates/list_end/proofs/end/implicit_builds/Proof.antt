@@ -19,31 +19,24 @@ Inv-loop a₀ built n k₀ i₀ a k i = (i ≤ n) × (length a ≡ length a₀) 
 abbrev μ-loop : tie.MeasureT-loop
 μ-loop a₀ built n k₀ i₀ a k i = n - i
 
--- src/end.rt:241:5
 loop-holds : tie.Need-loop-holds Inv-loop μ-loop
 loop-holds c = (search needs, refl, run-start _ _ _)
 
--- src/end.rt:242:9
 implicit-build-requires : tie.Need-implicit-build-requires Inv-loop μ-loop
 implicit-build-requires c κs = search needs
 
--- src/end.rt:241:9
 add-i : tie.Need-add-i Inv-loop μ-loop
 add-i c = search needs
 
--- src/end.rt:241:5
 loop-less : tie.Need-loop-less Inv-loop μ-loop
 loop-less c = search needs
 
--- src/end.rt:241:5
 loop-again : tie.Need-loop-again Inv-loop μ-loop
 loop-again c = (search needs, search needs, run-again _ _ _ _ _ _ (omega arith) (c .before .before .before .before .before .loop .inv .2) (c .before .before .implicit-build .ensures))
 
--- src/end.rt:237:1
 same-length : tie.Need-same-length Inv-loop μ-loop
 same-length c = search needs
 
--- src/end.rt:237:1
 returns : tie.Need-returns Inv-loop μ-loop
 returns c = implicit-builds-law _ _ _ _ _ _ (omega arith) (c .before .loop .inv .2)
 

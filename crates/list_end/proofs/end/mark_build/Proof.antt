@@ -6,19 +6,15 @@ use Rattle.list_end.proofs.end.mark_build.Lts as lts
 use Rattle.access.proofs.put.Reads as put-reads
 use Rattle.list_end.proofs.EndLaws.{end-laws}
 
--- src/end.rt:215:9
 returns : tie.Need-returns
 returns c = search (end-laws, needs)
 
--- src/end.rt:217:5
 put-requires : tie.Need-put-requires
 put-requires c κs = search (end-laws, needs)
 
--- src/end.rt:211:1
 same-length : tie.Need-same-length
 same-length c = search (end-laws, needs)
 
--- src/end.rt:211:1
 returns-2 : tie.Need-returns-2
 returns-2 c = search (end-laws, needs)
 

@@ -21,43 +21,33 @@ Inv-loop a base n built₀ i₀ built i = (i ≤ n) × (length built ≡ length 
 abbrev μ-loop : tie.MeasureT-loop
 μ-loop a base n built₀ i₀ built i = n - i
 
--- src/end.rt:205:5
 loop-holds : tie.Need-loop-holds Inv-loop μ-loop
 loop-holds c = (search needs, refl, run-start _ _ _)
 
--- src/end.rt:206:13
 place-requires : tie.Need-place-requires Inv-loop μ-loop
 place-requires c κs = search needs
 
--- src/end.rt:207:20
 get-requires : tie.Need-get-requires Inv-loop μ-loop
 get-requires c κs = search needs
 
--- src/end.rt:207:35
 get-requires-2 : tie.Need-get-requires-2 Inv-loop μ-loop
 get-requires-2 c κs = search needs
 
--- src/end.rt:207:9
 mark-build-requires : tie.Need-mark-build-requires Inv-loop μ-loop
 mark-build-requires c κs = search needs
 
--- src/end.rt:205:9
 add-i : tie.Need-add-i Inv-loop μ-loop
 add-i c = search needs
 
--- src/end.rt:205:5
 loop-less : tie.Need-loop-less Inv-loop μ-loop
 loop-less c = search needs
 
--- src/end.rt:205:5
 loop-again : tie.Need-loop-again Inv-loop μ-loop
 loop-again c = (search needs, search needs, run-again _ _ _ _ _ _ (omega arith) (c .before .before .before .before .before .before .before .before .loop .inv .2) (mark-action-law _ _ _ _ _ _ _ _ (c .before .before .before .before .before .before .place .ensures) (c .before .before .before .before .before .get .ensures) (c .before .before .before .before .get2 .ensures) (c .before .before .mark-build .ensures)))
 
--- src/end.rt:202:1
 same-length : tie.Need-same-length Inv-loop μ-loop
 same-length c = search needs
 
--- src/end.rt:202:1
 returns : tie.Need-returns Inv-loop μ-loop
 returns c = mark-built-law _ _ _ _ _ _ (omega arith) (c .before .loop .inv .2)
 

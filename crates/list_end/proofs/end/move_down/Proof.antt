@@ -21,51 +21,39 @@ Inv-loop a₀ base k n i₀ a i = (i ≤ n) × (length a ≡ length a₀) × (ru
 abbrev μ-loop : tie.MeasureT-loop
 μ-loop a₀ base k n i₀ a i = n - i
 
--- src/end.rt:271:16
 place-requires : tie.Need-place-requires Inv-loop μ-loop
 place-requires c κs = search needs
 
--- src/end.rt:272:9
 returns : tie.Need-returns Inv-loop μ-loop
 returns c = move-not _ _ _ _ _ (c .before .place .ensures) (c .if1 .taken)
 
--- src/end.rt:274:5
 loop-holds : tie.Need-loop-holds Inv-loop μ-loop
 loop-holds c = (search needs, refl, run-start _ _ _)
 
--- src/end.rt:275:24
 place-requires-2 : tie.Need-place-requires-2 Inv-loop μ-loop
 place-requires-2 c κs = search needs
 
--- src/end.rt:275:46
 place-requires-3 : tie.Need-place-requires-3 Inv-loop μ-loop
 place-requires-3 c κs = search needs
 
--- src/end.rt:275:40
 place-requires-4 : tie.Need-place-requires-4 Inv-loop μ-loop
 place-requires-4 c κs = search needs
 
--- src/end.rt:275:9
 move-action-requires : tie.Need-move-action-requires Inv-loop μ-loop
 move-action-requires c κs = search needs
 
--- src/end.rt:274:9
 add-i : tie.Need-add-i Inv-loop μ-loop
 add-i c = search needs
 
--- src/end.rt:274:5
 loop-less : tie.Need-loop-less Inv-loop μ-loop
 loop-less c = search needs
 
--- src/end.rt:274:5
 loop-again : tie.Need-loop-again Inv-loop μ-loop
 loop-again c = (search needs, search needs, run-again _ _ _ _ _ _ (omega arith) (c .before .before .before .before .before .before .before .before .loop .inv .2) (move-to-law _ _ _ _ _ _ _ _ (c .before .before .before .before .before .place2 .ensures) (c .before .before .before .before .place3 .ensures) (c .before .before .before .place4 .ensures) (c .before .before .move-action .ensures)))
 
--- src/end.rt:268:1
 same-length : tie.Need-same-length Inv-loop μ-loop
 same-length c = search needs
 
--- src/end.rt:268:1
 returns-2 : tie.Need-returns-2 Inv-loop μ-loop
 returns-2 c = move-down-law _ _ _ _ _ _ _ (c .before .before .before .place .ensures) (c .before .before .if1 .left) (omega arith) (c .before .loop .inv .2)
 

@@ -11,47 +11,36 @@ use Rattle.list_values.proofs.ValueLaws.{offset-small}
 use Prim.Native.Nat.{_<_}
 use native.Mathlib.Omega.{arith}
 
--- src/end.rt:136:16
 value-at-requires : tie.Need-value-at-requires
 value-at-requires c κs = search (end-laws, needs)
 
--- src/end.rt:138:9
 same-length : tie.Need-same-length
 same-length c = search (end-laws, needs)
 
--- src/end.rt:138:9
 returns : tie.Need-returns
 returns c = search (end-laws, needs)
 
--- src/end.rt:140:9
 value-at-requires-2 : tie.Need-value-at-requires-2
 value-at-requires-2 c κs = search (end-laws, needs)
 
--- src/end.rt:141:29
 get-requires : tie.Need-get-requires
 get-requires c κs = search (end-laws, needs)
 
--- src/end.rt:141:18
 add-offset : tie.Need-add-offset
 add-offset c = let h : c .before .before .before .value-at2 .result .offset < 65536 = offset-small _ _ _ _ (c .before .before .before .value-at2 .ensures) in omega arith
 
--- src/end.rt:143:9
 same-length-2 : tie.Need-same-length-2
 same-length-2 c = search (end-laws, needs)
 
--- src/end.rt:143:9
 returns-2 : tie.Need-returns-2
 returns-2 c = copy-far _ _ _ (c .before .before .before .before .before .before .before .value-at .ensures) _ _ (c .before .before .before .before .before .before .if1 .left) (c .before .before .before .before .value-at2 .ensures) (c .before .before .get .ensures) (c .if2 .taken)
 
--- src/end.rt:145:5
 write-copy-requires : tie.Need-write-copy-requires
 write-copy-requires c κs = search (end-laws, needs)
 
--- src/end.rt:133:1
 same-length-3 : tie.Need-same-length-3
 same-length-3 c = search (end-laws, needs)
 
--- src/end.rt:133:1
 returns-3 : tie.Need-returns-3
 returns-3 c = search (end-laws, needs)
 

@@ -7,23 +7,18 @@ use Rattle.list_end.proofs.end.zero_action.Reads as zero-action-reads
 use Rattle.list_values.proofs.value.put.Reads as put-reads
 use Rattle.list_end.proofs.EndLaws.{end-laws}
 
--- src/end.rt:231:5
 zero-action-requires : tie.Need-zero-action-requires
 zero-action-requires c κs = search (end-laws, needs)
 
--- src/end.rt:232:5
 put-requires : tie.Need-put-requires
 put-requires c κs = search (end-laws, needs)
 
--- src/end.rt:233:5
 put-requires-2 : tie.Need-put-requires-2
 put-requires-2 c κs = search (end-laws, needs)
 
--- src/end.rt:228:1
 same-length : tie.Need-same-length
 same-length c = search (end-laws, needs)
 
--- src/end.rt:228:1
 returns : tie.Need-returns
 returns c = search (end-laws, needs)
 

@@ -7,23 +7,18 @@ use Rattle.list_values.proofs.value.put.Reads as put-reads
 use Rattle.list_values.proofs.value.put_value.Reads as put-value-reads
 use Rattle.list_end.proofs.EndLaws.{end-laws}
 
--- src/end.rt:117:5
 put-requires : tie.Need-put-requires
 put-requires c κs = search (end-laws, needs)
 
--- src/end.rt:118:5
 put-requires-2 : tie.Need-put-requires-2
 put-requires-2 c κs = search (end-laws, needs)
 
--- src/end.rt:119:5
 put-value-requires : tie.Need-put-value-requires
 put-value-requires c κs = search (end-laws, needs)
 
--- src/end.rt:114:1
 same-length : tie.Need-same-length
 same-length c = search (end-laws, needs)
 
--- src/end.rt:114:1
 returns : tie.Need-returns
 returns c = search (end-laws, needs)
 

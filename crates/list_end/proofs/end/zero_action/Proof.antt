@@ -19,31 +19,24 @@ Inv-loop a₀ at i₀ a i = (i ≤ 24) × (length a ≡ length a₀) × (run (24
 abbrev μ-loop : tie.MeasureT-loop
 μ-loop a₀ at i₀ a i = 24 - i
 
--- src/end.rt:223:5
 loop-holds : tie.Need-loop-holds Inv-loop μ-loop
 loop-holds c = (search needs, refl, refl)
 
--- src/end.rt:224:9
 put-requires : tie.Need-put-requires Inv-loop μ-loop
 put-requires c κs = search needs
 
--- src/end.rt:223:9
 add-i : tie.Need-add-i Inv-loop μ-loop
 add-i c = search needs
 
--- src/end.rt:223:5
 loop-less : tie.Need-loop-less Inv-loop μ-loop
 loop-less c = search needs
 
--- src/end.rt:223:5
 loop-again : tie.Need-loop-again Inv-loop μ-loop
 loop-again c = (search needs, search needs, run-again _ _ _ _ _ _ (omega arith) (c .before .before .before .before .before .loop .inv .2) (c .before .before .put .ensures))
 
--- src/end.rt:220:1
 same-length : tie.Need-same-length Inv-loop μ-loop
 same-length c = search needs
 
--- src/end.rt:220:1
 returns : tie.Need-returns Inv-loop μ-loop
 returns c = zero-action-law _ _ _ _ (omega arith) (c .before .loop .inv .2)
 

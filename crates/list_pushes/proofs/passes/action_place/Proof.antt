@@ -6,15 +6,12 @@ use Rattle.list_pushes.proofs.passes.action_place.Lts as lts
 use Rattle.list_values.proofs.value.place.Reads as place-reads
 use Rattle.list_pushes.proofs.PassLaws.{place-laws}
 
--- src/passes.rt:15:31
 place-requires : tie.Need-place-requires
 place-requires c κs = search (place-laws, needs)
 
--- src/passes.rt:12:1
 returns : tie.Need-returns
 returns c = search (place-laws, needs)
 
--- src/passes.rt:12:1
 returns-2 : tie.Need-returns-2
 returns-2 c = search (place-laws, needs)
 

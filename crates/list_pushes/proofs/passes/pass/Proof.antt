@@ -23,47 +23,36 @@ Inv-loop s t fallback a₀ m₀ base n ptr k₀ i₀ a m k i =
 abbrev μ-loop : tie.MeasureT-loop
 μ-loop s t fallback a₀ m₀ base n ptr k₀ i₀ a m k i = n - i
 
--- src/passes.rt:40:5
 loop-holds : tie.Need-loop-holds Inv-loop μ-loop
 loop-holds c = (search needs, refl, refl, λ z. pass-start _ _ _ _ _ _ _ _ z)
 
--- src/passes.rt:41:37
 turn-requires : tie.Need-turn-requires Inv-loop μ-loop
 turn-requires c κs = search needs
 
--- src/passes.rt:41:13
 action-place-requires : tie.Need-action-place-requires Inv-loop μ-loop
 action-place-requires c κs = search needs
 
--- src/passes.rt:42:30
 update-operand-sizes-requires : tie.Need-update-operand-sizes-requires Inv-loop μ-loop
 update-operand-sizes-requires c κs = search needs
 
--- src/passes.rt:42:9
 sum-of-errors-requires : tie.Need-sum-of-errors-requires Inv-loop μ-loop
 sum-of-errors-requires c κs = search needs
 
--- src/passes.rt:40:9
 add-i : tie.Need-add-i Inv-loop μ-loop
 add-i c = search needs
 
--- src/passes.rt:40:5
 loop-less : tie.Need-loop-less Inv-loop μ-loop
 loop-less c = search needs
 
--- src/passes.rt:40:5
 loop-again : tie.Need-loop-again Inv-loop μ-loop
 loop-again c = (search needs, search needs, search needs, λ z. turns-again _ _ _ _ _ _ _ _ (omega arith) (c .before .before .before .before .before .before .before .before .before .turn .ensures) (c .before .before .before .before .before .before .before .before .before .before .before .loop .inv .3 z) (update-action-law _ _ _ _ _ _ _ _ _ _ _ _ _ _ z (c .before .before .before .before .before .before .before .before .action-place .ensures) (c .before .before .before .before .before .update-operand-sizes .ensures) (c .sum-of-errors .ensures)))
 
--- src/passes.rt:27:1
 same-length : tie.Need-same-length Inv-loop μ-loop
 same-length c = search needs
 
--- src/passes.rt:27:1
 same-length-2 : tie.Need-same-length-2 Inv-loop μ-loop
 same-length-2 c = search needs
 
--- src/passes.rt:27:1
 returns : tie.Need-returns Inv-loop μ-loop
 returns c = record { counted = λ z. turns-end _ _ _ _ _ _ (omega arith) (c .before .loop .inv .3 z) }
 

@@ -5,19 +5,15 @@ use Rattle.list_pushes.proofs.passes.turn.Reads as reads
 use Rattle.list_pushes.proofs.passes.turn.Lts as lts
 use Rattle.list_pushes.proofs.PassLaws.{place-laws}
 
--- src/passes.rt:23:29
 sub-result : tie.Need-sub-result
 sub-result c = search (place-laws, needs)
 
--- src/passes.rt:23:29
 sub-result-2 : tie.Need-sub-result-2
 sub-result-2 c = search (place-laws, needs)
 
--- src/passes.rt:19:1
 returns : tie.Need-returns
 returns c = search (place-laws, needs)
 
--- src/passes.rt:19:1
 returns-2 : tie.Need-returns-2
 returns-2 c = search (place-laws, needs)
 

@@ -5,11 +5,9 @@ use Rattle.list_pushes.proofs.push.has_room.Lts as lts
 use Rattle.list_pushes.proofs.PushLaws.{push-laws}
 use borrow.Author.Needs.{needs}
 
--- src/push.rt:116:1
 returns : tie.Need-returns
 returns c = search (push-laws, needs)
 
--- src/push.rt:116:1
 returns-2 : tie.Need-returns-2
 returns-2 c = search (push-laws, needs)
 

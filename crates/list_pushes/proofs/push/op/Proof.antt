@@ -7,39 +7,30 @@ use Rattle.list_pushes.proofs.push.op_to.Reads as op-to-reads
 use Rattle.list_pushes.proofs.push.output_or.Reads as output-or-reads
 use Rattle.list_pushes.proofs.PushLaws.{push-laws}
 
--- src/push.rt:238:11
 output-or-requires : tie.Need-output-or-requires
 output-or-requires c κs = search (push-laws, needs)
 
--- src/push.rt:239:18
 enum-known-n : tie.Need-enum-known-n
 enum-known-n c = search (push-laws, needs)
 
--- src/push.rt:240:23
 enum-known-v : tie.Need-enum-known-v
 enum-known-v c = search (push-laws, needs)
 
--- src/push.rt:240:40
 op-to-requires : tie.Need-op-to-requires
 op-to-requires c κs = search (push-laws, needs)
 
--- src/push.rt:221:1
 same-length : tie.Need-same-length
 same-length c = search (push-laws, needs)
 
--- src/push.rt:221:1
 returns : tie.Need-returns
 returns c = search (push-laws, needs)
 
--- src/push.rt:221:1
 same-length-2 : tie.Need-same-length-2
 same-length-2 c = search (push-laws, needs)
 
--- src/push.rt:221:1
 same-length-3 : tie.Need-same-length-3
 same-length-3 c = search (push-laws, needs)
 
--- src/push.rt:221:1
 returns-2 : tie.Need-returns-2
 returns-2 c = search (push-laws, needs)
 

@@ -7,43 +7,33 @@ use Rattle.list_pushes.proofs.push.push_op.Reads as push-op-reads
 use Rattle.list_values.proofs.value.value_at.Reads as value-at-reads
 use Rattle.list_pushes.proofs.PushLaws.{push-laws}
 
--- src/push.rt:211:11
 push-op-requires : tie.Need-push-op-requires
 push-op-requires c κs = search (push-laws, needs)
 
--- src/push.rt:212:20
 enum-known-n : tie.Need-enum-known-n
 enum-known-n c = search (push-laws, needs)
 
--- src/push.rt:213:22
 enum-known-next : tie.Need-enum-known-next
 enum-known-next c = search (push-laws, needs)
 
--- src/push.rt:214:16
 value-at-requires : tie.Need-value-at-requires
 value-at-requires c κs = search (push-laws, needs)
 
--- src/push.rt:194:1
 same-length : tie.Need-same-length
 same-length c = search (push-laws, needs)
 
--- src/push.rt:194:1
 same-length-2 : tie.Need-same-length-2
 same-length-2 c = search (push-laws, needs)
 
--- src/push.rt:194:1
 returns : tie.Need-returns
 returns c = search (push-laws, needs)
 
--- src/push.rt:194:1
 same-length-3 : tie.Need-same-length-3
 same-length-3 c = search (push-laws, needs)
 
--- src/push.rt:194:1
 same-length-4 : tie.Need-same-length-4
 same-length-4 c = search (push-laws, needs)
 
--- src/push.rt:194:1
 returns-2 : tie.Need-returns-2
 returns-2 c = search (push-laws, needs)
 

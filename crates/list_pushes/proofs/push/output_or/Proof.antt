@@ -6,19 +6,15 @@ use Rattle.list_pushes.proofs.push.output_or.Lts as lts
 use Rattle.list_pushes.proofs.push.add_tmp.Reads as add-tmp-reads
 use Rattle.list_pushes.proofs.PushLaws.{push-laws}
 
--- src/push.rt:67:9
 returns : tie.Need-returns
 returns c = search (push-laws, needs)
 
--- src/push.rt:69:5
 add-tmp-requires : tie.Need-add-tmp-requires
 add-tmp-requires c κs = search (push-laws, needs)
 
--- src/push.rt:63:1
 same-length : tie.Need-same-length
 same-length c = search (push-laws, needs)
 
--- src/push.rt:63:1
 returns-2 : tie.Need-returns-2
 returns-2 c = search (push-laws, needs)
 

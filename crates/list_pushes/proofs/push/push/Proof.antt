@@ -10,27 +10,21 @@ use native.Mathlib.Omega.{arith}
 use lib.ListN.{length}
 use Prim.Native.Nat.{_+_, _≤_}
 
--- src/push.rt:137:8
 has-room-requires : tie.Need-has-room-requires
 has-room-requires c κs = search (push-laws, needs)
 
--- src/push.rt:138:19
 add-end : tie.Need-add-end
 add-end c = let h : c .before .before .before .args .state .end + 24 ≤ length (c .before .before .before .args .actions .now) = room-true _ _ _ (c .before .has-room .ensures) (c .if1 .taken) in omega arith
 
--- src/push.rt:140:9
 write-requires : tie.Need-write-requires
 write-requires c κs = search (push-laws, needs)
 
--- src/push.rt:141:9
 same-length : tie.Need-same-length
 same-length c = search (push-laws, needs)
 
--- src/push.rt:141:9
 returns : tie.Need-returns
 returns c = search (push-laws, needs)
 
--- src/push.rt:123:1
 returns-2 : tie.Need-returns-2
 returns-2 c = search (push-laws, needs)
 

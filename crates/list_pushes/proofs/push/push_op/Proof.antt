@@ -7,39 +7,30 @@ use Rattle.list_pushes.proofs.push.push.Reads as push-reads
 use Rattle.list_pushes.proofs.push.update_last.Reads as update-last-reads
 use Rattle.list_pushes.proofs.PushLaws.{push-laws}
 
--- src/push.rt:187:11
 push-requires : tie.Need-push-requires
 push-requires c κs = search (push-laws, needs)
 
--- src/push.rt:188:20
 enum-known-n : tie.Need-enum-known-n
 enum-known-n c = search (push-laws, needs)
 
--- src/push.rt:189:22
 enum-known-next : tie.Need-enum-known-next
 enum-known-next c = search (push-laws, needs)
 
--- src/push.rt:189:44
 update-last-requires : tie.Need-update-last-requires
 update-last-requires c κs = search (push-laws, needs)
 
--- src/push.rt:170:1
 same-length : tie.Need-same-length
 same-length c = search (push-laws, needs)
 
--- src/push.rt:170:1
 returns : tie.Need-returns
 returns c = search (push-laws, needs)
 
--- src/push.rt:170:1
 same-length-2 : tie.Need-same-length-2
 same-length-2 c = search (push-laws, needs)
 
--- src/push.rt:170:1
 same-length-3 : tie.Need-same-length-3
 same-length-3 c = search (push-laws, needs)
 
--- src/push.rt:170:1
 returns-2 : tie.Need-returns-2
 returns-2 c = search (push-laws, needs)
 

@@ -7,23 +7,18 @@ use Rattle.list_values.proofs.sizes.record_errors.Reads as record-errors-reads
 use Rattle.list_pushes.proofs.passes.pass.Reads as pass-reads
 use Rattle.list_pushes.proofs.PushLaws.{push-laws}
 
--- src/push.rt:163:9
 pass-requires : tie.Need-pass-requires
 pass-requires c κs = search (push-laws, needs)
 
--- src/push.rt:164:9
 record-errors-requires : tie.Need-record-errors-requires
 record-errors-requires c κs = search (push-laws, needs)
 
--- src/push.rt:152:1
 same-length : tie.Need-same-length
 same-length c = search (push-laws, needs)
 
--- src/push.rt:152:1
 same-length-2 : tie.Need-same-length-2
 same-length-2 c = search (push-laws, needs)
 
--- src/push.rt:152:1
 returns : tie.Need-returns
 returns c = search (push-laws, needs)
 

@@ -8,23 +8,18 @@ use Rattle.list_pushes.proofs.push.write_operands.Reads as write-operan
 use Rattle.list_pushes.proofs.push.write_zeros.Reads as write-zeros-reads
 use Rattle.list_pushes.proofs.PushLaws.{push-laws}
 
--- src/push.rt:111:5
 write-head-requires : tie.Need-write-head-requires
 write-head-requires c κs = search (push-laws, needs)
 
--- src/push.rt:112:5
 write-operands-requires : tie.Need-write-operands-requires
 write-operands-requires c κs = search (push-laws, needs)
 
--- src/push.rt:113:5
 write-zeros-requires : tie.Need-write-zeros-requires
 write-zeros-requires c κs = search (push-laws, needs)
 
--- src/push.rt:98:1
 same-length : tie.Need-same-length
 same-length c = search (push-laws, needs)
 
--- src/push.rt:98:1
 returns : tie.Need-returns
 returns c = search (push-laws, needs)
 

@@ -6,27 +6,21 @@ use Rattle.list_pushes.proofs.push.write_head.Lts as lts
 use Rattle.list_values.proofs.value.put.Reads as put-reads
 use Rattle.list_pushes.proofs.PushLaws.{push-laws}
 
--- src/push.rt:91:5
 put-requires : tie.Need-put-requires
 put-requires c κs = search (push-laws, needs)
 
--- src/push.rt:92:5
 put-requires-2 : tie.Need-put-requires-2
 put-requires-2 c κs = search (push-laws, needs)
 
--- src/push.rt:93:5
 put-requires-3 : tie.Need-put-requires-3
 put-requires-3 c κs = search (push-laws, needs)
 
--- src/push.rt:94:5
 put-requires-4 : tie.Need-put-requires-4
 put-requires-4 c κs = search (push-laws, needs)
 
--- src/push.rt:88:1
 same-length : tie.Need-same-length
 same-length c = search (push-laws, needs)
 
--- src/push.rt:88:1
 returns : tie.Need-returns
 returns c = search (push-laws, needs)
 

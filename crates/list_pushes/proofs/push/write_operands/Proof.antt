@@ -6,23 +6,18 @@ use Rattle.list_pushes.proofs.push.write_operands.Lts as lts
 use Rattle.list_values.proofs.value.put_value.Reads as put-value-reads
 use Rattle.list_pushes.proofs.PushLaws.{push-laws}
 
--- src/push.rt:75:5
 put-value-requires : tie.Need-put-value-requires
 put-value-requires c κs = search (push-laws, needs)
 
--- src/push.rt:76:5
 put-value-requires-2 : tie.Need-put-value-requires-2
 put-value-requires-2 c κs = search (push-laws, needs)
 
--- src/push.rt:77:5
 put-value-requires-3 : tie.Need-put-value-requires-3
 put-value-requires-3 c κs = search (push-laws, needs)
 
--- src/push.rt:72:1
 same-length : tie.Need-same-length
 same-length c = search (push-laws, needs)
 
--- src/push.rt:72:1
 returns : tie.Need-returns
 returns c = search (push-laws, needs)
 

@@ -19,31 +19,24 @@ Inv-loop a₀ at i₀ a i = (i ≤ 24) × (length a ≡ length a₀) × (run (24
 abbrev μ-loop : tie.MeasureT-loop
 μ-loop a₀ at i₀ a i = 24 - i
 
--- src/push.rt:83:5
 loop-holds : tie.Need-loop-holds Inv-loop μ-loop
 loop-holds c = (search needs, refl, refl)
 
--- src/push.rt:84:9
 put-requires : tie.Need-put-requires Inv-loop μ-loop
 put-requires c κs = search needs
 
--- src/push.rt:83:9
 add-i : tie.Need-add-i Inv-loop μ-loop
 add-i c = search needs
 
--- src/push.rt:83:5
 loop-less : tie.Need-loop-less Inv-loop μ-loop
 loop-less c = search needs
 
--- src/push.rt:83:5
 loop-again : tie.Need-loop-again Inv-loop μ-loop
 loop-again c = (search needs, search needs, run-again _ _ _ _ _ _ (omega arith) (c .before .before .before .before .before .loop .inv .2) (c .before .before .put .ensures))
 
--- src/push.rt:80:1
 same-length : tie.Need-same-length Inv-loop μ-loop
 same-length c = search needs
 
--- src/push.rt:80:1
 returns : tie.Need-returns Inv-loop μ-loop
 returns c = write-zeros-law _ _ _ _ (omega arith) (c .before .loop .inv .2)
 

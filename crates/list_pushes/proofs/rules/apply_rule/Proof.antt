@@ -10,71 +10,54 @@ use Rattle.list_pushes.proofs.rules.pair_rule.Reads as pair-rule-reads
 use Rattle.list_pushes.proofs.rules.pairs.Reads as pairs-reads
 use Rattle.list_pushes.proofs.RuleLaws.{rule-laws}
 
--- src/rules.rt:157:8
 pairs-requires : tie.Need-pairs-requires
 pairs-requires c κs = search (rule-laws, needs)
 
--- src/rules.rt:158:9
 pair-rule-requires : tie.Need-pair-rule-requires
 pair-rule-requires c κs = search (rule-laws, needs)
 
--- src/rules.rt:158:9
 same-length : tie.Need-same-length
 same-length c = search (rule-laws, needs)
 
--- src/rules.rt:158:9
 same-length-2 : tie.Need-same-length-2
 same-length-2 c = search (rule-laws, needs)
 
--- src/rules.rt:158:9
 returns : tie.Need-returns
 returns c = search (rule-laws, needs)
 
--- src/rules.rt:161:14
 set-size-of-triple-requires : tie.Need-set-size-of-triple-requires
 set-size-of-triple-requires c κs = search (rule-laws, needs)
 
--- src/rules.rt:162:14
 set-three-requires : tie.Need-set-three-requires
 set-three-requires c κs = search (rule-laws, needs)
 
--- src/rules.rt:163:14
 few-operands-requires : tie.Need-few-operands-requires
 few-operands-requires c κs = search (rule-laws, needs)
 
--- src/rules.rt:145:1
 same-length-3 : tie.Need-same-length-3
 same-length-3 c = search (rule-laws, needs)
 
--- src/rules.rt:145:1
 same-length-4 : tie.Need-same-length-4
 same-length-4 c = search (rule-laws, needs)
 
--- src/rules.rt:145:1
 returns-2 : tie.Need-returns-2
 returns-2 c = search (rule-laws, needs)
 
--- src/rules.rt:145:1
 same-length-5 : tie.Need-same-length-5
 same-length-5 c = search (rule-laws, needs)
 
--- src/rules.rt:145:1
 same-length-6 : tie.Need-same-length-6
 same-length-6 c = search (rule-laws, needs)
 
--- src/rules.rt:145:1
 returns-3 : tie.Need-returns-3
 returns-3 c = search (rule-laws, needs)
 
--- src/rules.rt:145:1
 same-length-7 : tie.Need-same-length-7
 same-length-7 c = search (rule-laws, needs)
 
--- src/rules.rt:145:1
 same-length-8 : tie.Need-same-length-8
 same-length-8 c = search (rule-laws, needs)
 
--- src/rules.rt:145:1
 returns-4 : tie.Need-returns-4
 returns-4 c = search (rule-laws, needs)
 

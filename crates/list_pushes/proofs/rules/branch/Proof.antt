@@ -8,27 +8,21 @@ use Rattle.list_values.proofs.sizes.set_unsized.Reads as set-unsized-reads
 use Rattle.list_values.proofs.sizes.sum_of_errors.Reads as sum-of-errors-reads
 use Rattle.list_pushes.proofs.RuleLaws.{rule-laws}
 
--- src/rules.rt:119:9
 set-operand-requires : tie.Need-set-operand-requires
 set-operand-requires c κs = search (rule-laws, needs)
 
--- src/rules.rt:120:9
 set-unsized-requires : tie.Need-set-unsized-requires
 set-unsized-requires c κs = search (rule-laws, needs)
 
--- src/rules.rt:121:5
 sum-of-errors-requires : tie.Need-sum-of-errors-requires
 sum-of-errors-requires c κs = search (rule-laws, needs)
 
--- src/rules.rt:116:1
 same-length : tie.Need-same-length
 same-length c = search (rule-laws, needs)
 
--- src/rules.rt:116:1
 same-length-2 : tie.Need-same-length-2
 same-length-2 c = search (rule-laws, needs)
 
--- src/rules.rt:116:1
 returns : tie.Need-returns
 returns c = search (rule-laws, needs)
 

@@ -10,63 +10,48 @@ use Rattle.list_values.proofs.sizes.sum_of_errors.Reads as sum-of-errors-reads
 use Rattle.list_pushes.proofs.rules.partner.Reads as partner-reads
 use Rattle.list_pushes.proofs.RuleLaws.{rule-laws}
 
--- src/rules.rt:100:59
 partner-requires : tie.Need-partner-requires
 partner-requires c κs = search (rule-laws, needs)
 
--- src/rules.rt:100:9
 set-size-of-pair-requires : tie.Need-set-size-of-pair-requires
 set-size-of-pair-requires c κs = search (rule-laws, needs)
 
--- src/rules.rt:102:31
 set-unsized-requires : tie.Need-set-unsized-requires
 set-unsized-requires c κs = search (rule-laws, needs)
 
--- src/rules.rt:102:14
 sum-of-errors-requires : tie.Need-sum-of-errors-requires
 sum-of-errors-requires c κs = search (rule-laws, needs)
 
--- src/rules.rt:103:31
 set-operand-requires : tie.Need-set-operand-requires
 set-operand-requires c κs = search (rule-laws, needs)
 
--- src/rules.rt:103:14
 sum-of-errors-requires-2 : tie.Need-sum-of-errors-requires-2
 sum-of-errors-requires-2 c κs = search (rule-laws, needs)
 
--- src/rules.rt:88:1
 same-length : tie.Need-same-length
 same-length c = search (rule-laws, needs)
 
--- src/rules.rt:88:1
 same-length-2 : tie.Need-same-length-2
 same-length-2 c = search (rule-laws, needs)
 
--- src/rules.rt:88:1
 returns : tie.Need-returns
 returns c = search (rule-laws, needs)
 
--- src/rules.rt:88:1
 same-length-3 : tie.Need-same-length-3
 same-length-3 c = search (rule-laws, needs)
 
--- src/rules.rt:88:1
 same-length-4 : tie.Need-same-length-4
 same-length-4 c = search (rule-laws, needs)
 
--- src/rules.rt:88:1
 returns-2 : tie.Need-returns-2
 returns-2 c = search (rule-laws, needs)
 
--- src/rules.rt:88:1
 same-length-5 : tie.Need-same-length-5
 same-length-5 c = search (rule-laws, needs)
 
--- src/rules.rt:88:1
 same-length-6 : tie.Need-same-length-6
 same-length-6 c = search (rule-laws, needs)
 
--- src/rules.rt:88:1
 returns-3 : tie.Need-returns-3
 returns-3 c = search (rule-laws, needs)
 

@@ -5,19 +5,15 @@ use Rattle.list_pushes.proofs.rules.pairs.Lts as lts
 use Rattle.list_pushes.proofs.RuleLaws.{rule-laws}
 use borrow.Author.Needs.{needs}
 
--- src/rules.rt:69:1
 returns : tie.Need-returns
 returns c = search (rule-laws, needs)
 
--- src/rules.rt:69:1
 returns-2 : tie.Need-returns-2
 returns-2 c = search (rule-laws, needs)
 
--- src/rules.rt:69:1
 returns-3 : tie.Need-returns-3
 returns-3 c = search (rule-laws, needs)
 
--- src/rules.rt:69:1
 returns-4 : tie.Need-returns-4
 returns-4 c = search (rule-laws, needs)
 

@@ -9,29 +9,23 @@ use Rattle.list_pushes.proofs.rules.rule_of_other.Reads as rule-of-othe
 use Rattle.list_pushes.proofs.RuleLaws.{chain-laws}
 use Rattle.list_pushes.specs.Rules.{ruleOf}
 
--- src/rules.rt:83:9
 rule-of-operator-requires : tie.Need-rule-of-operator-requires
 rule-of-operator-requires c κs = search (chain-laws, needs)
 
--- src/rules.rt:83:9
 returns : tie.Need-returns
 unfolding ruleOf
 returns c = search (chain-laws, needs)
 
--- src/rules.rt:86:9
 rule-of-one-input-requires : tie.Need-rule-of-one-input-requires
 rule-of-one-input-requires c κs = search (chain-laws, needs)
 
--- src/rules.rt:86:9
 returns-2 : tie.Need-returns-2
 unfolding ruleOf
 returns-2 c = search (chain-laws, needs)
 
--- src/rules.rt:88:5
 rule-of-other-requires : tie.Need-rule-of-other-requires
 rule-of-other-requires c κs = search (chain-laws, needs)
 
--- src/rules.rt:79:1
 returns-3 : tie.Need-returns-3
 unfolding ruleOf
 returns-3 c = search (chain-laws, needs)

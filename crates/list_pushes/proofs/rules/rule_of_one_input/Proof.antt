@@ -5,31 +5,24 @@ use Rattle.list_pushes.proofs.rules.rule_of_one_input.Lts as lts
 use native.Mathlib.Omega.{arith}
 use Rattle.list_pushes.proofs.RuleLaws.{one-below, one-not, one-integer, one-nan, one-extension, one-float, one-conversion}
 
--- src/rules.rt:30:1
 returns : tie.Need-returns
 returns c = one-not _ (omega arith) (omega arith)
 
--- src/rules.rt:30:1
 returns-2 : tie.Need-returns-2
 returns-2 c = one-nan _ (omega arith) (omega arith)
 
--- src/rules.rt:30:1
 returns-3 : tie.Need-returns-3
 returns-3 c = one-integer _ (omega arith) (omega arith)
 
--- src/rules.rt:30:1
 returns-4 : tie.Need-returns-4
 returns-4 c = one-float _ (omega arith) (omega arith)
 
--- src/rules.rt:30:1
 returns-5 : tie.Need-returns-5
 returns-5 c = one-below _ (omega arith)
 
--- src/rules.rt:30:1
 returns-6 : tie.Need-returns-6
 returns-6 c = one-extension _ (omega arith) (omega arith)
 
--- src/rules.rt:30:1
 returns-7 : tie.Need-returns-7
 returns-7 c = one-conversion _ (omega arith)
 

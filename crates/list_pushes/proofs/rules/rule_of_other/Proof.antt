@@ -5,27 +5,21 @@ use Rattle.list_pushes.proofs.rules.rule_of_other.Lts as lts
 use Rattle.list_pushes.proofs.RuleLaws.{other-laws}
 use borrow.Author.Needs.{needs}
 
--- src/rules.rt:66:1
 returns : tie.Need-returns
 returns c = search (other-laws, needs)
 
--- src/rules.rt:66:1
 returns-2 : tie.Need-returns-2
 returns-2 c = search (other-laws, needs)
 
--- src/rules.rt:66:1
 returns-3 : tie.Need-returns-3
 returns-3 c = search (other-laws, needs)
 
--- src/rules.rt:66:1
 returns-4 : tie.Need-returns-4
 returns-4 c = search (other-laws, needs)
 
--- src/rules.rt:66:1
 returns-5 : tie.Need-returns-5
 returns-5 c = search (other-laws, needs)
 
--- src/rules.rt:66:1
 returns-6 : tie.Need-returns-6
 returns-6 c = search (other-laws, needs)
 

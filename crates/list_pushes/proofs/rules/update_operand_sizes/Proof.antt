@@ -8,39 +8,30 @@ use Rattle.list_pushes.proofs.rules.apply_rule.Reads as apply-rule-read
 use Rattle.list_pushes.proofs.rules.rule_of.Reads as rule-of-reads
 use Rattle.list_pushes.proofs.RuleLaws.{rule-laws}
 
--- src/rules.rt:179:8
 get-requires : tie.Need-get-requires
 get-requires c κs = search (rule-laws, needs)
 
--- src/rules.rt:180:9
 same-length : tie.Need-same-length
 same-length c = search (rule-laws, needs)
 
--- src/rules.rt:180:9
 returns : tie.Need-returns
 returns c = search (rule-laws, needs)
 
--- src/rules.rt:182:30
 get-requires-2 : tie.Need-get-requires-2
 get-requires-2 c κs = search (rule-laws, needs)
 
--- src/rules.rt:182:22
 rule-of-requires : tie.Need-rule-of-requires
 rule-of-requires c κs = search (rule-laws, needs)
 
--- src/rules.rt:182:5
 apply-rule-requires : tie.Need-apply-rule-requires
 apply-rule-requires c κs = search (rule-laws, needs)
 
--- src/rules.rt:168:1
 same-length-2 : tie.Need-same-length-2
 same-length-2 c = search (rule-laws, needs)
 
--- src/rules.rt:168:1
 same-length-3 : tie.Need-same-length-3
 same-length-3 c = search (rule-laws, needs)
 
--- src/rules.rt:168:1
 returns-2 : tie.Need-returns-2
 returns-2 c = search (rule-laws, needs)
 

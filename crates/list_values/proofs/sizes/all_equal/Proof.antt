@@ -5,11 +5,9 @@ use Rattle.list_values.proofs.sizes.all_equal.Lts as lts
 use Rattle.list_values.proofs.SizeLaws.{size-laws}
 use borrow.Author.Needs.{needs}
 
--- src/sizes.rt:303:1
 returns : tie.Need-returns
 returns c = search (size-laws, needs)
 
--- src/sizes.rt:303:1
 returns-2 : tie.Need-returns-2
 returns-2 c = search (size-laws, needs)
 

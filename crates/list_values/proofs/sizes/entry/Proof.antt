@@ -6,23 +6,18 @@ use Rattle.list_values.proofs.sizes.entry.Lts as lts
 use Rattle.access.proofs.get_u16.Reads as get-u16-reads
 use Rattle.list_values.specs.Sizes.{entry}
 
--- src/sizes.rt:22:23
 add-get-u16 : tie.Need-add-get-u16
 add-get-u16 c = search needs
 
--- src/sizes.rt:22:5
 get-u16-requires : tie.Need-get-u16-requires
 get-u16-requires c κs = search needs
 
--- src/sizes.rt:22:5
 cast-result : tie.Need-cast-result
 cast-result c = search needs
 
--- src/sizes.rt:22:5
 add-result : tie.Need-add-result
 add-result c = search needs
 
--- src/sizes.rt:19:1
 returns : tie.Need-returns
 unfolding entry
 returns c = search needs

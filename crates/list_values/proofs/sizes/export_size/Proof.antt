@@ -6,15 +6,12 @@ use Rattle.list_values.proofs.sizes.export_size.Lts as lts
 use Rattle.list_values.proofs.sizes.list_size.Reads as list-size-reads
 use Rattle.list_values.proofs.SizeLaws.{size-laws}
 
--- src/sizes.rt:36:24
 list-size-requires : tie.Need-list-size-requires
 list-size-requires c κs = search (size-laws, needs)
 
--- src/sizes.rt:36:5
 list-size-requires-2 : tie.Need-list-size-requires-2
 list-size-requires-2 c κs = search (size-laws, needs)
 
--- src/sizes.rt:33:1
 returns : tie.Need-returns
 returns c = search (size-laws, needs)
 

@@ -5,23 +5,18 @@ use Rattle.list_values.proofs.sizes.falls_back.Lts as lts
 use Rattle.list_values.proofs.SizeLaws.{size-laws}
 use borrow.Author.Needs.{needs}
 
--- src/sizes.rt:179:1
 returns : tie.Need-returns
 returns c = search (size-laws, needs)
 
--- src/sizes.rt:179:1
 returns-2 : tie.Need-returns-2
 returns-2 c = search (size-laws, needs)
 
--- src/sizes.rt:179:1
 returns-3 : tie.Need-returns-3
 returns-3 c = search (size-laws, needs)
 
--- src/sizes.rt:179:1
 returns-4 : tie.Need-returns-4
 returns-4 c = search (size-laws, needs)
 
--- src/sizes.rt:179:1
 returns-5 : tie.Need-returns-5
 returns-5 c = search (size-laws, needs)
 

@@ -7,23 +7,18 @@ use Rattle.access.proofs.u16_at.Reads as u16-at-reads
 use Rattle.list_values.proofs.sizes.entry.Reads as entry-reads
 use Rattle.list_values.proofs.SizeLaws.{size-laws}
 
--- src/sizes.rt:29:34
 mul-entry : tie.Need-mul-entry
 mul-entry c = search (size-laws, needs)
 
--- src/sizes.rt:29:34
 add-entry : tie.Need-add-entry
 add-entry c = search (size-laws, needs)
 
--- src/sizes.rt:29:22
 entry-requires : tie.Need-entry-requires
 entry-requires c κs = search (size-laws, needs)
 
--- src/sizes.rt:29:5
 u16-at-requires : tie.Need-u16-at-requires
 u16-at-requires c κs = search (size-laws, needs)
 
--- src/sizes.rt:26:1
 returns : tie.Need-returns
 returns c = search (size-laws, needs)
 

@@ -7,39 +7,30 @@ use Rattle.list_values.proofs.sizes.export_size.Reads as export-size-re
 use Rattle.list_values.proofs.sizes.list_size.Reads as list-size-reads
 use Rattle.list_values.proofs.SizeLaws.{size-laws}
 
--- src/sizes.rt:52:14
 list-size-requires : tie.Need-list-size-requires
 list-size-requires c κs = search (size-laws, needs)
 
--- src/sizes.rt:53:14
 list-size-requires-2 : tie.Need-list-size-requires-2
 list-size-requires-2 c κs = search (size-laws, needs)
 
--- src/sizes.rt:54:14
 export-size-requires : tie.Need-export-size-requires
 export-size-requires c κs = search (size-laws, needs)
 
--- src/sizes.rt:55:14
 export-size-requires-2 : tie.Need-export-size-requires-2
 export-size-requires-2 c κs = search (size-laws, needs)
 
--- src/sizes.rt:48:1
 returns : tie.Need-returns
 returns c = search (size-laws, needs)
 
--- src/sizes.rt:48:1
 returns-2 : tie.Need-returns-2
 returns-2 c = search (size-laws, needs)
 
--- src/sizes.rt:48:1
 returns-3 : tie.Need-returns-3
 returns-3 c = search (size-laws, needs)
 
--- src/sizes.rt:48:1
 returns-4 : tie.Need-returns-4
 returns-4 c = search (size-laws, needs)
 
--- src/sizes.rt:48:1
 returns-5 : tie.Need-returns-5
 returns-5 c = search (size-laws, needs)
 

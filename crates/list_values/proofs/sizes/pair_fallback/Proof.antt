@@ -8,63 +8,48 @@ use Rattle.list_values.proofs.sizes.set_two.Reads as set-two-reads
 use Rattle.list_values.proofs.value.value_at.Reads as value-at-reads
 use Rattle.list_values.proofs.SizeLaws.{share-laws, pair-falls-not}
 
--- src/sizes.rt:233:23
 value-at-requires : tie.Need-value-at-requires
 value-at-requires c κs = search (share-laws, needs)
 
--- src/sizes.rt:233:12
 falls-back-requires : tie.Need-falls-back-requires
 falls-back-requires c κs = search (share-laws, needs)
 
--- src/sizes.rt:234:13
 set-two-requires : tie.Need-set-two-requires
 set-two-requires c κs = search (share-laws, needs)
 
--- src/sizes.rt:234:13
 same-length : tie.Need-same-length
 same-length c = search (share-laws, needs)
 
--- src/sizes.rt:234:13
 same-length-2 : tie.Need-same-length-2
 same-length-2 c = search (share-laws, needs)
 
--- src/sizes.rt:234:13
 returns : tie.Need-returns
 returns c = search (share-laws, needs)
 
--- src/sizes.rt:236:23
 value-at-requires-2 : tie.Need-value-at-requires-2
 value-at-requires-2 c κs = search (share-laws, needs)
 
--- src/sizes.rt:236:12
 falls-back-requires-2 : tie.Need-falls-back-requires-2
 falls-back-requires-2 c κs = search (share-laws, needs)
 
--- src/sizes.rt:237:13
 set-two-requires-2 : tie.Need-set-two-requires-2
 set-two-requires-2 c κs = search (share-laws, needs)
 
--- src/sizes.rt:237:13
 same-length-3 : tie.Need-same-length-3
 same-length-3 c = search (share-laws, needs)
 
--- src/sizes.rt:237:13
 same-length-4 : tie.Need-same-length-4
 same-length-4 c = search (share-laws, needs)
 
--- src/sizes.rt:237:13
 returns-2 : tie.Need-returns-2
 returns-2 c = search (share-laws, needs)
 
--- src/sizes.rt:218:1
 same-length-5 : tie.Need-same-length-5
 same-length-5 c = search (share-laws, needs)
 
--- src/sizes.rt:218:1
 returns-3 : tie.Need-returns-3
 returns-3 c = pair-falls-not _ _ _ _ _ _ _ _ _ _ _ _ _ (c .before .before .before .before .before .before .before .before .if1 .taken) (c .before .before .before .before .before .before .value-at .ensures) (c .before .before .before .before .before .falls-back .ensures) (c .before .before .before .before .if2 .left) (c .before .before .value-at2 .ensures) (c .before .falls-back2 .ensures) (c .if3 .left)
 
--- src/sizes.rt:218:1
 returns-4 : tie.Need-returns-4
 returns-4 c = search (share-laws, needs)
 

@@ -6,19 +6,15 @@ use Rattle.list_values.proofs.sizes.record_errors.Lts as lts
 use Rattle.list_values.proofs.sizes.sum_of_errors.Reads as sum-of-errors-reads
 use Rattle.list_values.proofs.SizeLaws.{size-laws}
 
--- src/sizes.rt:103:9
 returns : tie.Need-returns
 returns c = search (size-laws, needs)
 
--- src/sizes.rt:105:9
 sum-of-errors-requires : tie.Need-sum-of-errors-requires
 sum-of-errors-requires c κs = search (size-laws, needs)
 
--- src/sizes.rt:107:9
 returns-2 : tie.Need-returns-2
 returns-2 c = search (size-laws, needs)
 
--- src/sizes.rt:99:1
 returns-3 : tie.Need-returns-3
 returns-3 c = search (size-laws, needs)
 

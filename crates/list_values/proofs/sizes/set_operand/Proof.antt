@@ -9,31 +9,24 @@ use Rattle.list_values.proofs.value.put_size.Reads as put-size-reads
 use Rattle.list_values.proofs.value.value_at.Reads as value-at-reads
 use Rattle.list_values.proofs.SizeLaws.{size-laws}
 
--- src/sizes.rt:165:9
 value-at-requires : tie.Need-value-at-requires
 value-at-requires c κs = search (size-laws, needs)
 
--- src/sizes.rt:166:9
 size-of-requires : tie.Need-size-of-requires
 size-of-requires c κs = search (size-laws, needs)
 
--- src/sizes.rt:167:5
 put-size-requires : tie.Need-put-size-requires
 put-size-requires c κs = search (size-laws, needs)
 
--- src/sizes.rt:168:5
 settle-requires : tie.Need-settle-requires
 settle-requires c κs = search (size-laws, needs)
 
--- src/sizes.rt:153:1
 same-length : tie.Need-same-length
 same-length c = search (size-laws, needs)
 
--- src/sizes.rt:153:1
 same-length-2 : tie.Need-same-length-2
 same-length-2 c = search (size-laws, needs)
 
--- src/sizes.rt:153:1
 returns : tie.Need-returns
 returns c = search (size-laws, needs)
 

@@ -8,71 +8,54 @@ use Rattle.list_values.proofs.sizes.set_operand.Reads as set-operand-re
 use Rattle.list_values.proofs.sizes.size_at.Reads as size-at-reads
 use Rattle.list_values.proofs.SizeLaws.{share-laws, pair-same}
 
--- src/sizes.rt:258:9
 size-at-requires : tie.Need-size-at-requires
 size-at-requires c κs = search (share-laws, needs)
 
--- src/sizes.rt:259:9
 size-at-requires-2 : tie.Need-size-at-requires-2
 size-at-requires-2 c κs = search (share-laws, needs)
 
--- src/sizes.rt:262:13
 pair-fallback-requires : tie.Need-pair-fallback-requires
 pair-fallback-requires c κs = search (share-laws, needs)
 
--- src/sizes.rt:262:13
 same-length : tie.Need-same-length
 same-length c = search (share-laws, needs)
 
--- src/sizes.rt:262:13
 same-length-2 : tie.Need-same-length-2
 same-length-2 c = search (share-laws, needs)
 
--- src/sizes.rt:262:13
 returns : tie.Need-returns
 returns c = search (share-laws, needs)
 
--- src/sizes.rt:264:9
 set-operand-requires : tie.Need-set-operand-requires
 set-operand-requires c κs = search (share-laws, needs)
 
--- src/sizes.rt:264:9
 same-length-3 : tie.Need-same-length-3
 same-length-3 c = search (share-laws, needs)
 
--- src/sizes.rt:264:9
 same-length-4 : tie.Need-same-length-4
 same-length-4 c = search (share-laws, needs)
 
--- src/sizes.rt:264:9
 returns-2 : tie.Need-returns-2
 returns-2 c = search (share-laws, needs)
 
--- src/sizes.rt:267:9
 same-length-5 : tie.Need-same-length-5
 same-length-5 c = search (share-laws, needs)
 
--- src/sizes.rt:267:9
 same-length-6 : tie.Need-same-length-6
 same-length-6 c = search (share-laws, needs)
 
--- src/sizes.rt:267:9
 returns-3 : tie.Need-returns-3
 returns-3 c = pair-same _ _ _ _ _ _ _ _ _ _ _ (c .before .before .before .before .before .size-at .ensures) (c .before .before .size-at2 .ensures) (c .before .if1 .left) (c .if3 .taken)
 
--- src/sizes.rt:269:5
 set-operand-requires-2 : tie.Need-set-operand-requires-2
 set-operand-requires-2 c κs = search (share-laws, needs)
 
--- src/sizes.rt:244:1
 same-length-7 : tie.Need-same-length-7
 same-length-7 c = search (share-laws, needs)
 
--- src/sizes.rt:244:1
 same-length-8 : tie.Need-same-length-8
 same-length-8 c = search (share-laws, needs)
 
--- src/sizes.rt:244:1
 returns-4 : tie.Need-returns-4
 returns-4 c = search (share-laws, needs)
 

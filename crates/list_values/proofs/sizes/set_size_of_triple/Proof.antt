@@ -9,63 +9,48 @@ use Rattle.list_values.proofs.sizes.size_at.Reads as size-at-reads
 use Rattle.list_values.proofs.sizes.triple_fallback.Reads as triple-fallback-reads
 use Rattle.list_values.proofs.SizeLaws.{share-laws, triple-same}
 
--- src/sizes.rt:343:9
 size-at-requires : tie.Need-size-at-requires
 size-at-requires c κs = search (share-laws, needs)
 
--- src/sizes.rt:344:9
 size-at-requires-2 : tie.Need-size-at-requires-2
 size-at-requires-2 c κs = search (share-laws, needs)
 
--- src/sizes.rt:345:9
 size-at-requires-3 : tie.Need-size-at-requires-3
 size-at-requires-3 c κs = search (share-laws, needs)
 
--- src/sizes.rt:346:8
 all-equal-requires : tie.Need-all-equal-requires
 all-equal-requires c κs = search (share-laws, needs)
 
--- src/sizes.rt:348:13
 triple-fallback-requires : tie.Need-triple-fallback-requires
 triple-fallback-requires c κs = search (share-laws, needs)
 
--- src/sizes.rt:348:13
 same-length : tie.Need-same-length
 same-length c = search (share-laws, needs)
 
--- src/sizes.rt:348:13
 same-length-2 : tie.Need-same-length-2
 same-length-2 c = search (share-laws, needs)
 
--- src/sizes.rt:348:13
 returns : tie.Need-returns
 returns c = search (share-laws, needs)
 
--- src/sizes.rt:350:9
 same-length-3 : tie.Need-same-length-3
 same-length-3 c = search (share-laws, needs)
 
--- src/sizes.rt:350:9
 same-length-4 : tie.Need-same-length-4
 same-length-4 c = search (share-laws, needs)
 
--- src/sizes.rt:350:9
 returns-2 : tie.Need-returns-2
 returns-2 c = triple-same _ _ _ _ _ _ _ _ _ _ _ (c .before .before .before .before .before .before .before .before .before .size-at .ensures) (c .before .before .before .before .before .before .size-at2 .ensures) (c .before .before .before .size-at3 .ensures) (c .before .before .all-equal .ensures) (c .before .if1 .taken) (c .if2 .left)
 
--- src/sizes.rt:352:5
 share-size-requires : tie.Need-share-size-requires
 share-size-requires c κs = search (share-laws, needs)
 
--- src/sizes.rt:332:1
 same-length-5 : tie.Need-same-length-5
 same-length-5 c = search (share-laws, needs)
 
--- src/sizes.rt:332:1
 same-length-6 : tie.Need-same-length-6
 same-length-6 c = search (share-laws, needs)
 
--- src/sizes.rt:332:1
 returns-3 : tie.Need-returns-3
 returns-3 c = search (share-laws, needs)
 

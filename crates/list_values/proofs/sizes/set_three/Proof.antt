@@ -8,27 +8,21 @@ use Rattle.list_values.proofs.sizes.set_two.Reads as set-two-reads
 use Rattle.list_values.proofs.sizes.sum_of_errors.Reads as sum-of-errors-reads
 use Rattle.list_values.proofs.SizeLaws.{size-laws}
 
--- src/sizes.rt:199:9
 set-two-requires : tie.Need-set-two-requires
 set-two-requires c κs = search (size-laws, needs)
 
--- src/sizes.rt:200:9
 set-operand-requires : tie.Need-set-operand-requires
 set-operand-requires c κs = search (size-laws, needs)
 
--- src/sizes.rt:201:5
 sum-of-errors-requires : tie.Need-sum-of-errors-requires
 sum-of-errors-requires c κs = search (size-laws, needs)
 
--- src/sizes.rt:189:1
 same-length : tie.Need-same-length
 same-length c = search (size-laws, needs)
 
--- src/sizes.rt:189:1
 same-length-2 : tie.Need-same-length-2
 same-length-2 c = search (size-laws, needs)
 
--- src/sizes.rt:189:1
 returns : tie.Need-returns
 returns c = search (size-laws, needs)
 

@@ -7,27 +7,21 @@ use Rattle.list_values.proofs.sizes.set_operand.Reads as set-operand-re
 use Rattle.list_values.proofs.sizes.sum_of_errors.Reads as sum-of-errors-reads
 use Rattle.list_values.proofs.SizeLaws.{size-laws}
 
--- src/sizes.rt:184:9
 set-operand-requires : tie.Need-set-operand-requires
 set-operand-requires c κs = search (size-laws, needs)
 
--- src/sizes.rt:185:9
 set-operand-requires-2 : tie.Need-set-operand-requires-2
 set-operand-requires-2 c κs = search (size-laws, needs)
 
--- src/sizes.rt:186:5
 sum-of-errors-requires : tie.Need-sum-of-errors-requires
 sum-of-errors-requires c κs = search (size-laws, needs)
 
--- src/sizes.rt:171:1
 same-length : tie.Need-same-length
 same-length c = search (size-laws, needs)
 
--- src/sizes.rt:171:1
 same-length-2 : tie.Need-same-length-2
 same-length-2 c = search (size-laws, needs)
 
--- src/sizes.rt:171:1
 returns : tie.Need-returns
 returns c = search (size-laws, needs)
 

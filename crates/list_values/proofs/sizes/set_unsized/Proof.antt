@@ -7,35 +7,27 @@ use Rattle.list_values.proofs.sizes.set_operand.Reads as set-operand-re
 use Rattle.list_values.proofs.sizes.size_at.Reads as size-at-reads
 use Rattle.list_values.proofs.SizeLaws.{share-laws}
 
--- src/sizes.rt:368:8
 size-at-requires : tie.Need-size-at-requires
 size-at-requires c κs = search (share-laws, needs)
 
--- src/sizes.rt:369:9
 set-operand-requires : tie.Need-set-operand-requires
 set-operand-requires c κs = search (share-laws, needs)
 
--- src/sizes.rt:369:9
 same-length : tie.Need-same-length
 same-length c = search (share-laws, needs)
 
--- src/sizes.rt:369:9
 same-length-2 : tie.Need-same-length-2
 same-length-2 c = search (share-laws, needs)
 
--- src/sizes.rt:369:9
 returns : tie.Need-returns
 returns c = search (share-laws, needs)
 
--- src/sizes.rt:356:1
 same-length-3 : tie.Need-same-length-3
 same-length-3 c = search (share-laws, needs)
 
--- src/sizes.rt:356:1
 same-length-4 : tie.Need-same-length-4
 same-length-4 c = search (share-laws, needs)
 
--- src/sizes.rt:356:1
 returns-2 : tie.Need-returns-2
 returns-2 c = search (share-laws, needs)
 

@@ -6,27 +6,21 @@ use Rattle.list_values.proofs.sizes.settle.Lts as lts
 use Rattle.list_values.proofs.sizes.size_temporary.Reads as size-temporary-reads
 use Rattle.list_values.proofs.SizeLaws.{size-laws}
 
--- src/sizes.rt:140:9
 size-temporary-requires : tie.Need-size-temporary-requires
 size-temporary-requires c κs = search (size-laws, needs)
 
--- src/sizes.rt:141:9
 same-length : tie.Need-same-length
 same-length c = search (size-laws, needs)
 
--- src/sizes.rt:141:9
 returns : tie.Need-returns
 returns c = search (size-laws, needs)
 
--- src/sizes.rt:144:9
 returns-2 : tie.Need-returns-2
 returns-2 c = search (size-laws, needs)
 
--- src/sizes.rt:147:9
 returns-3 : tie.Need-returns-3
 returns-3 c = search (size-laws, needs)
 
--- src/sizes.rt:136:1
 returns-4 : tie.Need-returns-4
 returns-4 c = search (size-laws, needs)
 

@@ -8,35 +8,27 @@ use Rattle.list_values.proofs.sizes.tmp_size.Reads as tmp-size-reads
 use Rattle.list_values.proofs.value.get.Reads as get-reads
 use Rattle.list_values.proofs.SizeLaws.{size-laws}
 
--- src/sizes.rt:77:24
 add-get : tie.Need-add-get
 add-get c = search (size-laws, needs)
 
--- src/sizes.rt:77:9
 get-requires : tie.Need-get-requires
 get-requires c κs = search (size-laws, needs)
 
--- src/sizes.rt:80:9
 returns : tie.Need-returns
 returns c = search (size-laws, needs)
 
--- src/sizes.rt:82:9
 get-requires-2 : tie.Need-get-requires-2
 get-requires-2 c κs = search (size-laws, needs)
 
--- src/sizes.rt:84:9
 tmp-size-requires : tie.Need-tmp-size-requires
 tmp-size-requires c κs = search (size-laws, needs)
 
--- src/sizes.rt:84:9
 returns-2 : tie.Need-returns-2
 returns-2 c = search (size-laws, needs)
 
--- src/sizes.rt:86:5
 listed-size-requires : tie.Need-listed-size-requires
 listed-size-requires c κs = search (size-laws, needs)
 
--- src/sizes.rt:73:1
 returns-3 : tie.Need-returns-3
 returns-3 c = search (size-laws, needs)
 

@@ -7,23 +7,18 @@ use Rattle.list_values.proofs.sizes.listed_size.Reads as listed-size-re
 use Rattle.list_values.proofs.sizes.tmp_size.Reads as tmp-size-reads
 use Rattle.list_values.proofs.SizeLaws.{size-laws}
 
--- src/sizes.rt:65:9
 returns : tie.Need-returns
 returns c = search (size-laws, needs)
 
--- src/sizes.rt:68:9
 tmp-size-requires : tie.Need-tmp-size-requires
 tmp-size-requires c κs = search (size-laws, needs)
 
--- src/sizes.rt:68:9
 returns-2 : tie.Need-returns-2
 returns-2 c = search (size-laws, needs)
 
--- src/sizes.rt:70:5
 listed-size-requires : tie.Need-listed-size-requires
 listed-size-requires c κs = search (size-laws, needs)
 
--- src/sizes.rt:61:1
 returns-3 : tie.Need-returns-3
 returns-3 c = search (size-laws, needs)
 

@@ -7,39 +7,30 @@ use Rattle.access.proofs.get.Reads as get-reads
 use Rattle.access.proofs.put.Reads as put-reads
 use Rattle.list_values.proofs.SizeLaws.{size-laws}
 
--- src/sizes.rt:97:9
 returns : tie.Need-returns
 returns c = search (size-laws, needs)
 
--- src/sizes.rt:100:9
 get-requires : tie.Need-get-requires
 get-requires c κs = search (size-laws, needs)
 
--- src/sizes.rt:104:21
 mul-put : tie.Need-mul-put
 mul-put c = search (size-laws, needs)
 
--- src/sizes.rt:104:9
 add-put : tie.Need-add-put
 add-put c = search (size-laws, needs)
 
--- src/sizes.rt:104:44
 mul-put-2 : tie.Need-mul-put-2
 mul-put-2 c = search (size-laws, needs)
 
--- src/sizes.rt:104:9
 add-put-2 : tie.Need-add-put-2
 add-put-2 c = search (size-laws, needs)
 
--- src/sizes.rt:101:5
 put-requires : tie.Need-put-requires
 put-requires c κs = search (size-laws, needs)
 
--- src/sizes.rt:93:1
 same-length : tie.Need-same-length
 same-length c = search (size-laws, needs)
 
--- src/sizes.rt:93:1
 returns-2 : tie.Need-returns-2
 returns-2 c = search (size-laws, needs)
 

@@ -6,11 +6,9 @@ use Rattle.list_values.proofs.sizes.tmp_size.Lts as lts
 use Rattle.access.proofs.get.Reads as get-reads
 use Rattle.list_values.specs.Sizes.{tmpSize}
 
--- src/sizes.rt:42:5
 get-requires : tie.Need-get-requires
 get-requires c κs = search needs
 
--- src/sizes.rt:39:1
 returns : tie.Need-returns
 unfolding tmpSize
 returns c = search needs

@@ -7,35 +7,27 @@ use Rattle.list_values.proofs.sizes.set_three.Reads as set-three-reads
 use Rattle.list_values.proofs.sizes.triple_falls_back.Reads as triple-falls-back-reads
 use Rattle.list_values.proofs.SizeLaws.{share-laws}
 
--- src/sizes.rt:296:12
 triple-falls-back-requires : tie.Need-triple-falls-back-requires
 triple-falls-back-requires c κs = search (share-laws, needs)
 
--- src/sizes.rt:297:13
 set-three-requires : tie.Need-set-three-requires
 set-three-requires c κs = search (share-laws, needs)
 
--- src/sizes.rt:297:13
 same-length : tie.Need-same-length
 same-length c = search (share-laws, needs)
 
--- src/sizes.rt:297:13
 same-length-2 : tie.Need-same-length-2
 same-length-2 c = search (share-laws, needs)
 
--- src/sizes.rt:297:13
 returns : tie.Need-returns
 returns c = search (share-laws, needs)
 
--- src/sizes.rt:284:1
 same-length-3 : tie.Need-same-length-3
 same-length-3 c = search (share-laws, needs)
 
--- src/sizes.rt:284:1
 returns-2 : tie.Need-returns-2
 returns-2 c = search (share-laws, needs)
 
--- src/sizes.rt:284:1
 returns-3 : tie.Need-returns-3
 returns-3 c = search (share-laws, needs)
 

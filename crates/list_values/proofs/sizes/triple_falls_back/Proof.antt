@@ -7,39 +7,30 @@ use Rattle.list_values.proofs.sizes.falls_back.Reads as falls-back-read
 use Rattle.list_values.proofs.value.value_at.Reads as value-at-reads
 use Rattle.list_values.proofs.SizeLaws.{share-laws}
 
--- src/sizes.rt:251:19
 value-at-requires : tie.Need-value-at-requires
 value-at-requires c κs = search (share-laws, needs)
 
--- src/sizes.rt:251:8
 falls-back-requires : tie.Need-falls-back-requires
 falls-back-requires c κs = search (share-laws, needs)
 
--- src/sizes.rt:252:9
 returns : tie.Need-returns
 returns c = search (share-laws, needs)
 
--- src/sizes.rt:254:19
 value-at-requires-2 : tie.Need-value-at-requires-2
 value-at-requires-2 c κs = search (share-laws, needs)
 
--- src/sizes.rt:254:8
 falls-back-requires-2 : tie.Need-falls-back-requires-2
 falls-back-requires-2 c κs = search (share-laws, needs)
 
--- src/sizes.rt:255:9
 returns-2 : tie.Need-returns-2
 returns-2 c = search (share-laws, needs)
 
--- src/sizes.rt:257:16
 value-at-requires-3 : tie.Need-value-at-requires-3
 value-at-requires-3 c κs = search (share-laws, needs)
 
--- src/sizes.rt:257:5
 falls-back-requires-3 : tie.Need-falls-back-requires-3
 falls-back-requires-3 c κs = search (share-laws, needs)
 
--- src/sizes.rt:248:1
 returns-3 : tie.Need-returns-3
 returns-3 c = search (share-laws, needs)
 

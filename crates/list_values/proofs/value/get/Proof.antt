@@ -8,31 +8,24 @@ use Prim.Native.Nat.{_+_}
 use native.Mathlib.Omega.{arith}
 use lib.ListN.{List·getD-eq-default}
 
--- src/value.rt:75:16
 sub-if2 : tie.Need-sub-if2
 sub-if2 c = search needs
 
--- src/value.rt:76:25
 add-result : tie.Need-add-result
 add-result c = search needs
 
--- src/value.rt:76:20
 mul-result : tie.Need-mul-result
 mul-result c = search needs
 
--- src/value.rt:76:20
 shared-slice-read-result : tie.Need-shared-slice-read-result
 shared-slice-read-result c = search needs
 
--- src/value.rt:76:13
 returns : tie.Need-returns
 returns c = search needs
 
--- src/value.rt:71:1
 returns-2 : tie.Need-returns-2
 returns-2 c = let a = c .before .before .args in sym (List·getD-eq-default (a .list .now) 0 {n = a .at + a .index} (omega arith))
 
--- src/value.rt:71:1
 returns-3 : tie.Need-returns-3
 returns-3 c = let a = c .before .args in sym (List·getD-eq-default (a .list .now) 0 {n = a .at + a .index} (omega arith))
 

@@ -6,23 +6,18 @@ use Rattle.list_values.proofs.value.place.Lts as lts
 use native.Mathlib.Omega.{arith}
 use Rattle.list_values.proofs.ValueLaws.{place-at, place-far, place-off}
 
--- src/value.rt:128:27
 mul-result : tie.Need-mul-result
 mul-result c = search needs
 
--- src/value.rt:128:20
 add-result : tie.Need-add-result
 add-result c = search needs
 
--- src/value.rt:128:13
 returns : tie.Need-returns
 returns c = place-at _ _ (omega arith) (omega arith)
 
--- src/value.rt:123:1
 returns-2 : tie.Need-returns-2
 returns-2 c = place-far _ _ (omega arith) (omega arith)
 
--- src/value.rt:123:1
 returns-3 : tie.Need-returns-3
 returns-3 c = place-off _ _ (omega arith)
 

@@ -7,35 +7,27 @@ use mathlib.Core.Path.{sym}
 use native.Mathlib.Omega.{arith}
 use lib.Seq.{set-out}
 
--- src/value.rt:86:16
 sub-if2 : tie.Need-sub-if2
 sub-if2 c = search needs
 
--- src/value.rt:87:18
 add-list : tie.Need-add-list
 add-list c = search needs
 
--- src/value.rt:87:13
 mul-list : tie.Need-mul-list
 mul-list c = search needs
 
--- src/value.rt:87:13
 slice-write-list : tie.Need-slice-write-list
 slice-write-list c = search needs
 
--- src/value.rt:82:1
 same-length : tie.Need-same-length
 same-length c = search needs
 
--- src/value.rt:82:1
 returns : tie.Need-returns
 returns c = search needs
 
--- src/value.rt:82:1
 returns-2 : tie.Need-returns-2
 returns-2 c = sym (set-out _ _ _ (omega arith))
 
--- src/value.rt:82:1
 returns-3 : tie.Need-returns-3
 returns-3 c = sym (set-out _ _ _ (omega arith))
 

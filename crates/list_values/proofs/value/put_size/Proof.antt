@@ -7,35 +7,27 @@ use Rattle.list_values.proofs.value.get.Reads as get-reads
 use Rattle.list_values.proofs.value.put.Reads as put-reads
 use Rattle.list_values.proofs.ValueLaws.{value-laws}
 
--- src/value.rt:118:27
 add-get : tie.Need-add-get
 add-get c = search (value-laws, needs)
 
--- src/value.rt:118:9
 get-requires : tie.Need-get-requires
 get-requires c κs = search (value-laws, needs)
 
--- src/value.rt:119:19
 add-put : tie.Need-add-put
 add-put c = search (value-laws, needs)
 
--- src/value.rt:119:41
 mul-put : tie.Need-mul-put
 mul-put c = search (value-laws, needs)
 
--- src/value.rt:119:26
 add-put-2 : tie.Need-add-put-2
 add-put-2 c = search (value-laws, needs)
 
--- src/value.rt:119:5
 put-requires : tie.Need-put-requires
 put-requires c κs = search (value-laws, needs)
 
--- src/value.rt:114:1
 same-length : tie.Need-same-length
 same-length c = search (value-laws, needs)
 
--- src/value.rt:114:1
 returns : tie.Need-returns
 returns c = search (value-laws, needs)
 

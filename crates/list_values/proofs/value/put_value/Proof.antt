@@ -7,27 +7,21 @@ use Rattle.list_values.proofs.value.put.Reads as put-reads
 use Rattle.list_values.proofs.value.word.Reads as word-reads
 use Rattle.list_values.proofs.ValueLaws.{value-laws}
 
--- src/value.rt:110:5
 put-requires : tie.Need-put-requires
 put-requires c κs = search (value-laws, needs)
 
--- src/value.rt:111:19
 add-put : tie.Need-add-put
 add-put c = search (value-laws, needs)
 
--- src/value.rt:111:26
 word-requires : tie.Need-word-requires
 word-requires c κs = search (value-laws, needs)
 
--- src/value.rt:111:5
 put-requires-2 : tie.Need-put-requires-2
 put-requires-2 c κs = search (value-laws, needs)
 
--- src/value.rt:106:1
 same-length : tie.Need-same-length
 same-length c = search (value-laws, needs)
 
--- src/value.rt:106:1
 returns : tie.Need-returns
 returns c = search (value-laws, needs)
 

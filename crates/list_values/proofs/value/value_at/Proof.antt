@@ -6,19 +6,15 @@ use Rattle.list_values.proofs.value.value_at.Lts as lts
 use Rattle.list_values.proofs.value.get.Reads as get-reads
 use Rattle.list_values.proofs.ValueLaws.{value-laws}
 
--- src/value.rt:97:27
 add-get : tie.Need-add-get
 add-get c = search (value-laws, needs)
 
--- src/value.rt:97:9
 get-requires : tie.Need-get-requires
 get-requires c κs = search (value-laws, needs)
 
--- src/value.rt:100:17
 get-requires-2 : tie.Need-get-requires-2
 get-requires-2 c κs = search (value-laws, needs)
 
--- src/value.rt:93:1
 returns : tie.Need-returns
 returns c = search (value-laws, needs)
 

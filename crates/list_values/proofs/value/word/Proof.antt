@@ -5,23 +5,18 @@ use Rattle.list_values.proofs.value.word.Reads as reads
 use Rattle.list_values.proofs.value.word.Lts as lts
 use Rattle.list_values.specs.Values.{word}
 
--- src/value.rt:67:20
 mul-result : tie.Need-mul-result
 mul-result c = search needs
 
--- src/value.rt:67:5
 add-result : tie.Need-add-result
 add-result c = search needs
 
--- src/value.rt:67:45
 mul-result-2 : tie.Need-mul-result-2
 mul-result-2 c = search needs
 
--- src/value.rt:67:5
 add-result-2 : tie.Need-add-result-2
 add-result-2 c = search needs
 
--- src/value.rt:64:1
 returns : tie.Need-returns
 unfolding word
 returns c = search needs

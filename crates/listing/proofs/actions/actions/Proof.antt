@@ -12,27 +12,21 @@ Inv-loop s t temporaries list n i₀ i = i ≤ n
 abbrev μ-loop : tie.MeasureT-loop
 μ-loop s t temporaries list n i₀ i = n - i
 
--- src/actions.rt:233:5
 loop-holds : tie.Need-loop-holds Inv-loop μ-loop
 loop-holds c = search needs
 
--- src/actions.rt:234:9
 action-in-requires : tie.Need-action-in-requires Inv-loop μ-loop
 action-in-requires c κs = search needs
 
--- src/actions.rt:233:9
 add-i : tie.Need-add-i Inv-loop μ-loop
 add-i c = search needs
 
--- src/actions.rt:233:5
 loop-less : tie.Need-loop-less Inv-loop μ-loop
 loop-less c = search needs
 
--- src/actions.rt:233:5
 loop-again : tie.Need-loop-again Inv-loop μ-loop
 loop-again c = search needs
 
--- src/actions.rt:232:1
 returns : tie.Need-returns Inv-loop μ-loop
 returns c = search needs
 

@@ -14,35 +14,27 @@ Inv-loop s t temporaries a first n i₀ i = i ≤ n
 abbrev μ-loop : tie.MeasureT-loop
 μ-loop s t temporaries a first n i₀ i = n - i
 
--- src/actions.rt:56:13
 get-requires : tie.Need-get-requires Inv-loop μ-loop
 get-requires c κs = search needs
 
--- src/actions.rt:57:5
 loop-holds : tie.Need-loop-holds Inv-loop μ-loop
 loop-holds c = search needs
 
--- src/actions.rt:58:9
 separator-requires : tie.Need-separator-requires Inv-loop μ-loop
 separator-requires c κs = search needs
 
--- src/actions.rt:59:9
 input-requires : tie.Need-input-requires Inv-loop μ-loop
 input-requires c κs = search needs
 
--- src/actions.rt:57:9
 add-i : tie.Need-add-i Inv-loop μ-loop
 add-i c = search needs
 
--- src/actions.rt:57:5
 loop-less : tie.Need-loop-less Inv-loop μ-loop
 loop-less c = search needs
 
--- src/actions.rt:57:5
 loop-again : tie.Need-loop-again Inv-loop μ-loop
 loop-again c = search needs
 
--- src/actions.rt:55:1
 returns : tie.Need-returns Inv-loop μ-loop
 returns c = search needs
 

@@ -14,31 +14,24 @@ Inv-loop name i₀ i-end i = (i ≤ i-end) × (i-end ≡ length name)
 abbrev μ-loop : tie.MeasureT-loop
 μ-loop name i₀ i-end i = i-end - i
 
--- src/print.rt:56:5
 loop-holds : tie.Need-loop-holds Inv-loop μ-loop
 loop-holds c = search needs
 
--- src/print.rt:57:14
 shared-slice-read-sign : tie.Need-shared-slice-read-sign Inv-loop μ-loop
 shared-slice-read-sign c = search needs
 
--- src/print.rt:57:9
 sign-requires : tie.Need-sign-requires Inv-loop μ-loop
 sign-requires c κs = search needs
 
--- src/print.rt:56:9
 add-i : tie.Need-add-i Inv-loop μ-loop
 add-i c = search needs
 
--- src/print.rt:56:5
 loop-less : tie.Need-loop-less Inv-loop μ-loop
 loop-less c = search needs
 
--- src/print.rt:56:5
 loop-again : tie.Need-loop-again Inv-loop μ-loop
 loop-again c = search needs
 
--- src/print.rt:55:1
 returns : tie.Need-returns Inv-loop μ-loop
 returns c = search needs
 

@@ -13,31 +13,24 @@ Inv-loop s t ordinal n last₀ i₀ last i = i ≤ n
 abbrev μ-loop : tie.MeasureT-loop
 μ-loop s t ordinal n last₀ i₀ last i = n - i
 
--- src/statements.rt:44:13
 u16-at-requires : tie.Need-u16-at-requires Inv-loop μ-loop
 u16-at-requires c κs = search needs
 
--- src/statements.rt:46:5
 loop-holds : tie.Need-loop-holds Inv-loop μ-loop
 loop-holds c = search needs
 
--- src/statements.rt:47:9
 later-requires : tie.Need-later-requires Inv-loop μ-loop
 later-requires c κs = search needs
 
--- src/statements.rt:46:9
 add-i : tie.Need-add-i Inv-loop μ-loop
 add-i c = search needs
 
--- src/statements.rt:46:5
 loop-less : tie.Need-loop-less Inv-loop μ-loop
 loop-less c = search needs
 
--- src/statements.rt:46:5
 loop-again : tie.Need-loop-again Inv-loop μ-loop
 loop-again c = search needs
 
--- src/statements.rt:43:1
 returns : tie.Need-returns Inv-loop μ-loop
 returns c = search needs
 

@@ -13,35 +13,27 @@ Inv-loop temporaries i n j₀ j-end j = (j ≤ j-end) × (j-end ≡ length tempo
 abbrev μ-loop : tie.MeasureT-loop
 μ-loop temporaries i n j₀ j-end j = j-end - j
 
--- src/values.rt:9:5
 loop-holds : tie.Need-loop-holds Inv-loop μ-loop
 loop-holds c = search needs
 
--- src/values.rt:11:16
 mul-if2 : tie.Need-mul-if2 Inv-loop μ-loop
 mul-if2 c = search needs
 
--- src/values.rt:11:16
 shared-slice-read-if2 : tie.Need-shared-slice-read-if2 Inv-loop μ-loop
 shared-slice-read-if2 c = search needs
 
--- src/values.rt:12:17
 returns : tie.Need-returns Inv-loop μ-loop
 returns c = search needs
 
--- src/values.rt:9:9
 add-j : tie.Need-add-j Inv-loop μ-loop
 add-j c = search needs
 
--- src/values.rt:9:5
 loop-less : tie.Need-loop-less Inv-loop μ-loop
 loop-less c = search needs
 
--- src/values.rt:9:5
 loop-again : tie.Need-loop-again Inv-loop μ-loop
 loop-again c = search needs
 
--- src/values.rt:8:1
 returns-2 : tie.Need-returns-2 Inv-loop μ-loop
 returns-2 c = search needs
 

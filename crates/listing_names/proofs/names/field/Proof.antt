@@ -6,15 +6,12 @@ use Rattle.listing_names.proofs.names.field.Lts as lts
 use Rattle.listing_names.proofs.names.name_in.Reads as name-in-reads
 use Rattle.listing_names.specs.Names.{fieldName}
 
--- src/names.rt:53:22
 mul-name-in : tie.Need-mul-name-in
 mul-name-in c = search needs
 
--- src/names.rt:53:5
 name-in-requires : tie.Need-name-in-requires
 name-in-requires c κs = search needs
 
--- src/names.rt:50:1
 returns : tie.Need-returns
 unfolding fieldName
 returns c = search needs

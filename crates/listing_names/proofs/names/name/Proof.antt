@@ -9,19 +9,15 @@ use mathlib.Core.Path.{_∙_, ap}
 use Rattle.listing_names.specs.Names.{nameOf}
 use Rattle.file_refinement.specs.Holds.{spelledAt}
 
--- src/names.rt:27:14
 get-u16-requires : tie.Need-get-u16-requires
 get-u16-requires c κs = search needs
 
--- src/names.rt:27:14
 cast-at : tie.Need-cast-at
 cast-at c = search needs
 
--- src/names.rt:28:5
 spelled-requires : tie.Need-spelled-requires
 spelled-requires c κs = search needs
 
--- src/names.rt:24:1
 returns : tie.Need-returns
 unfolding nameOf
 returns c = c .spelled .ensures ∙ ap (spelledAt (c .before .before .before .before .args .stream .now)) (c .before .get-u16 .ensures)

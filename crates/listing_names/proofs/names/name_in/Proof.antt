@@ -8,19 +8,15 @@ use Rattle.list_values.proofs.sizes.entry.Reads as entry-reads
 use Rattle.listing_names.proofs.names.name.Reads as name-reads
 use Rattle.listing_names.specs.Names.{nameIn}
 
--- src/names.rt:35:33
 entry-requires : tie.Need-entry-requires
 entry-requires c κs = search needs
 
--- src/names.rt:35:16
 u16-at-requires : tie.Need-u16-at-requires
 u16-at-requires c κs = search needs
 
--- src/names.rt:35:5
 name-requires : tie.Need-name-requires
 name-requires c κs = search needs
 
--- src/names.rt:32:1
 returns : tie.Need-returns
 unfolding nameIn
 returns c = rw (c .before .u16-at .ensures .0, c .before .before .entry .ensures) at (c .name .ensures)

@@ -17,35 +17,27 @@ Inv-loop words n at₀ left₀ at left = (at ≤ length words) × (word left (dr
 abbrev μ-loop : tie.MeasureT-loop
 μ-loop words n at₀ left₀ at left = length words - at
 
--- src/operations.rt:28:5
 loop-holds : tie.Need-loop-holds Inv-loop μ-loop
 loop-holds c = (omega arith, refl)
 
--- src/operations.rt:30:13
 returns : tie.Need-returns Inv-loop μ-loop
 returns c = (omega arith, begin-here (c .before .before .before .before .args .words .now) _ (c .before .before .loop .at) (c .before .before .loop .left) (c .if1 .taken) (c .before .before .loop .inv .1))
 
--- src/operations.rt:32:27
 shared-slice-read-left-after : tie.Need-shared-slice-read-left-after Inv-loop μ-loop
 shared-slice-read-left-after c = search needs
 
--- src/operations.rt:32:9
 left-after-requires : tie.Need-left-after-requires Inv-loop μ-loop
 left-after-requires c κs = search needs
 
--- src/operations.rt:33:9
 add-at : tie.Need-add-at Inv-loop μ-loop
 add-at c = search needs
 
--- src/operations.rt:28:5
 loop-less : tie.Need-loop-less Inv-loop μ-loop
 loop-less c = search needs
 
--- src/operations.rt:28:5
 loop-again : tie.Need-loop-again Inv-loop μ-loop
 loop-again c = (omega arith, rw (c .left-after .ensures) (begin-more (c .before .before .before .before .before .before .args .words .now) _ (c .before .before .before .before .loop .at) (c .before .before .before .before .loop .left) (omega arith) (c .before .before .if1 .left) (c .before .before .before .before .loop .inv .1)))
 
--- src/operations.rt:23:1
 returns-2 : tie.Need-returns-2 Inv-loop μ-loop
 returns-2 c = (omega arith, begin-past (c .before .before .before .args .words .now) _ (c .before .loop .at) (c .before .loop .left) (omega arith) (c .before .loop .inv .1))
 

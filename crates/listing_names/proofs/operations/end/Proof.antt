@@ -16,31 +16,24 @@ Inv-loop words at i₀ i = (i ≤ length words) × (i + length (first (drop i wo
 abbrev μ-loop : tie.MeasureT-loop
 μ-loop words at i₀ i = length words - i
 
--- src/operations.rt:44:5
 loop-holds : tie.Need-loop-holds Inv-loop μ-loop
 loop-holds c = (omega arith, refl)
 
--- src/operations.rt:45:12
 shared-slice-read-if1 : tie.Need-shared-slice-read-if1 Inv-loop μ-loop
 shared-slice-read-if1 c = search needs
 
--- src/operations.rt:46:13
 returns : tie.Need-returns Inv-loop μ-loop
 returns c = (omega arith, end-here (c .before .before .before .before .args .words .now) (c .before .before .before .loop .i) _ (omega arith) (c .if1 .taken) (c .before .before .before .loop .inv .1))
 
--- src/operations.rt:48:9
 add-i : tie.Need-add-i Inv-loop μ-loop
 add-i c = search needs
 
--- src/operations.rt:44:5
 loop-less : tie.Need-loop-less Inv-loop μ-loop
 loop-less c = search needs
 
--- src/operations.rt:44:5
 loop-again : tie.Need-loop-again Inv-loop μ-loop
 loop-again c = (omega arith, end-more (c .before .before .before .before .args .words .now) (c .before .before .before .loop .i) _ (omega arith) (c .if1 .left) (c .before .before .before .loop .inv .1))
 
--- src/operations.rt:39:1
 returns-2 : tie.Need-returns-2 Inv-loop μ-loop
 returns-2 c = (omega arith, end-past (c .before .before .args .words .now) (c .before .loop .i) _ (omega arith) (c .before .loop .inv .1))
 

@@ -8,21 +8,17 @@ use borrow.Author.Tests.{eq-eqb, ne-eqb}
 use Rattle.definition.specs.Base.{if_then_else_}
 use native.Mathlib.Omega.{arith}
 
--- src/operations.rt:14:9
 returns : tie.Need-returns
 unfolding leftAfter if_then_else_
 returns c = rw (ne-eqb _ 32 (c .if1 .taken))
 
--- src/operations.rt:17:9
 returns-2 : tie.Need-returns-2
 unfolding leftAfter if_then_else_
 returns-2 c = rw (eq-eqb _ 32 (c .before .if1 .left)) (omega arith)
 
--- src/operations.rt:19:5
 sub-result : tie.Need-sub-result
 sub-result c = search needs
 
--- src/operations.rt:10:1
 returns-3 : tie.Need-returns-3
 unfolding leftAfter if_then_else_
 returns-3 c = rw (eq-eqb _ 32 (c .before .if1 .left)) (omega arith)

@@ -13,16 +13,13 @@ use Rattle.definition.specs.Spellings.{bytesOf}
 use Rattle.definition.specs.Base.{if_then_else_}
 use Rattle.listing_names.specs.Words.{first, widest}
 
--- src/operations.rt:78:9
 word-requires : tie.Need-word-requires
 word-requires c κs = search needs
 
--- src/operations.rt:78:5
 put-requires : tie.Need-put-requires
 unfolding widest first if_then_else_
 put-requires c κs = rw (c .before .word .ensures) (word-fits _ _ _ refl (omega arith))
 
--- src/operations.rt:74:1
 returns : tie.Need-returns
 unfolding operationText operationNames bytesOf
 returns c = (c .put .ensures .0, c .put .ensures .1 ∙ c .before .before .word .ensures, c .put .ensures .2)

@@ -15,35 +15,27 @@ Inv-loop text out₀ i₀ i-end out i = (i ≤ i-end) × (i-end ≡ length text)
 abbrev μ-loop : tie.MeasureT-loop
 μ-loop text out₀ i₀ i-end out i = i-end - i
 
--- src/operations.rt:67:5
 loop-holds : tie.Need-loop-holds Inv-loop μ-loop
 loop-holds c = search needs
 
--- src/operations.rt:68:18
 shared-slice-read-out : tie.Need-shared-slice-read-out Inv-loop μ-loop
 shared-slice-read-out c = search needs
 
--- src/operations.rt:68:9
 slice-write-out : tie.Need-slice-write-out Inv-loop μ-loop
 slice-write-out c = search needs
 
--- src/operations.rt:67:9
 add-i : tie.Need-add-i Inv-loop μ-loop
 add-i c = search needs
 
--- src/operations.rt:67:5
 loop-less : tie.Need-loop-less Inv-loop μ-loop
 loop-less c = search needs
 
--- src/operations.rt:67:5
 loop-again : tie.Need-loop-again Inv-loop μ-loop
 loop-again c = (omega arith, c .before .before .loop .inv .1, put-more (c .before .before .before .args .text .now) (c .before .before .loop .out) (c .before .before .before .args .out .now) (c .before .before .loop .i) (omega arith) (omega arith) (c .before .before .loop .inv .2))
 
--- src/operations.rt:63:1
 same-length : tie.Need-same-length Inv-loop μ-loop
 same-length c = search needs
 
--- src/operations.rt:63:1
 returns : tie.Need-returns Inv-loop μ-loop
 returns c = put-done (c .before .before .args .text .now) (c .before .loop .out) (c .before .before .args .out .now) (c .before .loop .i) (omega arith) (omega arith) (c .before .loop .inv .2)
 

@@ -7,27 +7,21 @@ use Rattle.listing_names.proofs.operations.begin.Reads as begin-reads
 use Rattle.listing_names.proofs.operations.end.Reads as end-reads
 use Rattle.listing_names.proofs.Laws.{word-law}
 
--- src/operations.rt:57:9
 begin-requires : tie.Need-begin-requires
 begin-requires c κs = search needs
 
--- src/operations.rt:58:9
 end-requires : tie.Need-end-requires
 end-requires c κs = search needs
 
--- src/operations.rt:59:5
 sub-result : tie.Need-sub-result
 sub-result c = search needs
 
--- src/operations.rt:59:5
 part-result-start : tie.Need-part-result-start
 part-result-start c = search needs
 
--- src/operations.rt:59:5
 part-result-end : tie.Need-part-result-end
 part-result-end c = search needs
 
--- src/operations.rt:54:1
 returns : tie.Need-returns
 returns c = word-law (c .before .before .before .before .args .words .now) _ (c .before .before .begin .result) (c .before .end .result) (c .before .before .begin .ensures .1) (c .before .end .ensures .1)
 

@@ -10,35 +10,27 @@ use Rattle.resolve_answer.proofs.answer.export_words.Reads as export-wo
 use Rattle.resolve_answer.proofs.answer.points.Reads as points-reads
 use Rattle.resolve_answer.proofs.AnswerLaws.{answer-laws}
 
--- src/answer.rt:98:9
 assemble-requires : tie.Need-assemble-requires
 assemble-requires c κs = search needs
 
--- src/answer.rt:100:5
 clear-marks-requires : tie.Need-clear-marks-requires
 clear-marks-requires c κs = search needs
 
--- src/answer.rt:101:5
 zero-from-requires : tie.Need-zero-from-requires
 zero-from-requires c κs = search needs
 
--- src/answer.rt:102:9
 export-words-requires : tie.Need-export-words-requires
 export-words-requires c κs = search needs
 
--- src/answer.rt:110:17
 points-requires : tie.Need-points-requires
 points-requires c κs = search needs
 
--- src/answer.rt:95:1
 same-length : tie.Need-same-length
 same-length c = search needs
 
--- src/answer.rt:95:1
 same-length-2 : tie.Need-same-length-2
 same-length-2 c = search needs
 
--- src/answer.rt:95:1
 returns : tie.Need-returns
 returns c = search (answer-laws, needs)
 

@@ -7,19 +7,15 @@ use Rattle.access.proofs.get.Reads as get-reads
 use Rattle.access.proofs.put.Reads as put-reads
 use Rattle.resolve_answer.proofs.AnswerLaws.{answer-laws}
 
--- src/answer.rt:59:9
 get-requires : tie.Need-get-requires
 get-requires c κs = search (answer-laws, needs)
 
--- src/answer.rt:60:5
 put-requires : tie.Need-put-requires
 put-requires c κs = search (answer-laws, needs)
 
--- src/answer.rt:56:1
 same-length : tie.Need-same-length
 same-length c = search (answer-laws, needs)
 
--- src/answer.rt:56:1
 returns : tie.Need-returns
 returns c = search (answer-laws, needs)
 

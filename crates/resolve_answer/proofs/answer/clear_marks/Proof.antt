@@ -19,31 +19,24 @@ Inv-loop m₀ n i₀ m i = (i ≤ n) × (length m ≡ length m₀) × (run (n - 
 abbrev μ-loop : tie.MeasureT-loop
 μ-loop m₀ n i₀ m i = n - i
 
--- src/answer.rt:67:5
 loop-holds : tie.Need-loop-holds Inv-loop μ-loop
 loop-holds c = (search needs, refl, run-start _ _ _)
 
--- src/answer.rt:68:9
 clear-mark-requires : tie.Need-clear-mark-requires Inv-loop μ-loop
 clear-mark-requires c κs = search needs
 
--- src/answer.rt:67:9
 add-i : tie.Need-add-i Inv-loop μ-loop
 add-i c = search needs
 
--- src/answer.rt:67:5
 loop-less : tie.Need-loop-less Inv-loop μ-loop
 loop-less c = search needs
 
--- src/answer.rt:67:5
 loop-again : tie.Need-loop-again Inv-loop μ-loop
 loop-again c = (search needs, search needs, run-again _ _ _ _ _ _ (omega arith) (c .before .before .before .before .before .loop .inv .2) (c .before .before .clear-mark .ensures))
 
--- src/answer.rt:64:1
 same-length : tie.Need-same-length Inv-loop μ-loop
 same-length c = search needs
 
--- src/answer.rt:64:1
 returns : tie.Need-returns Inv-loop μ-loop
 returns c = marks-law _ _ _ _ (omega arith) (c .before .loop .inv .2)
 

@@ -6,15 +6,12 @@ use Rattle.resolve_answer.proofs.answer.export_words.Lts as lts
 use Rattle.list_values.proofs.value.word.Reads as word-reads
 use Rattle.resolve_answer.proofs.AnswerLaws.{answer-laws}
 
--- src/answer.rt:82:9
 returns : tie.Need-returns
 returns c = search (answer-laws, needs)
 
--- src/answer.rt:90:17
 word-requires : tie.Need-word-requires
 word-requires c κs = search (answer-laws, needs)
 
--- src/answer.rt:78:1
 returns-2 : tie.Need-returns-2
 returns-2 c = search (answer-laws, needs)
 

@@ -5,27 +5,21 @@ use Rattle.resolve_answer.proofs.answer.points.Tie as tie
 use Rattle.resolve_answer.proofs.answer.points.Reads as reads
 use Rattle.resolve_answer.proofs.answer.points.Lts as lts
 
--- src/answer.rt:50:21
 mul-result : tie.Need-mul-result
 mul-result c = search needs
 
--- src/answer.rt:50:21
 add-result : tie.Need-add-result
 add-result c = search needs
 
--- src/answer.rt:50:21
 add-result-2 : tie.Need-add-result-2
 add-result-2 c = search needs
 
--- src/answer.rt:50:13
 returns : tie.Need-returns
 returns c = points-small _ _ (c .before .if1 .taken) (c .if2 .taken)
 
--- src/answer.rt:45:1
 returns-2 : tie.Need-returns-2
 returns-2 c = points-wide _ _ (c .before .if1 .taken) (c .if2 .left)
 
--- src/answer.rt:45:1
 returns-3 : tie.Need-returns-3
 returns-3 c = points-many _ _ (c .if1 .left)
 

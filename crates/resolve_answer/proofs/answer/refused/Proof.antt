@@ -6,23 +6,18 @@ use Rattle.resolve_answer.proofs.answer.refused.Lts as lts
 use Rattle.access.proofs.zero_from.Reads as zero-from-reads
 use Rattle.resolve_answer.proofs.AnswerLaws.{answer-laws}
 
--- src/answer.rt:28:5
 zero-from-requires : tie.Need-zero-from-requires
 zero-from-requires c κs = search needs
 
--- src/answer.rt:29:5
 zero-from-requires-2 : tie.Need-zero-from-requires-2
 zero-from-requires-2 c κs = search needs
 
--- src/answer.rt:25:1
 same-length : tie.Need-same-length
 same-length c = search needs
 
--- src/answer.rt:25:1
 same-length-2 : tie.Need-same-length-2
 same-length-2 c = search needs
 
--- src/answer.rt:25:1
 returns : tie.Need-returns
 returns c = search (answer-laws, needs)
 

@@ -5,11 +5,9 @@ use Rattle.resolve_answer.proofs.finish.actions_between.Lts as lts
 use Rattle.resolve_answer.proofs.FinishLaws.{finish-laws}
 use borrow.Author.Needs.{needs}
 
--- src/finish.rt:77:9
 returns : tie.Need-returns
 returns c = search (finish-laws, needs)
 
--- src/finish.rt:73:1
 returns-2 : tie.Need-returns-2
 returns-2 c = search (finish-laws, needs)
 

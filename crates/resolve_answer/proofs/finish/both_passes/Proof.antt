@@ -7,23 +7,18 @@ use Rattle.list_end.proofs.passes.backward_pass.Reads as backward-pass-reads
 use Rattle.list_end.proofs.passes.forward_pass.Reads as forward-pass-reads
 use Rattle.resolve_answer.proofs.FinishLaws.{finish-laws}
 
--- src/finish.rt:94:9
 backward-pass-requires : tie.Need-backward-pass-requires
 backward-pass-requires c κs = search (finish-laws, needs)
 
--- src/finish.rt:95:5
 forward-pass-requires : tie.Need-forward-pass-requires
 forward-pass-requires c κs = search (finish-laws, needs)
 
--- src/finish.rt:82:1
 same-length : tie.Need-same-length
 same-length c = search (finish-laws, needs)
 
--- src/finish.rt:82:1
 same-length-2 : tie.Need-same-length-2
 same-length-2 c = search (finish-laws, needs)
 
--- src/finish.rt:82:1
 returns : tie.Need-returns
 returns c = search (finish-laws, needs)
 

@@ -10,35 +10,27 @@ use Rattle.resolve_answer.proofs.finish.both_passes.Reads as both-passe
 use Rattle.resolve_answer.proofs.finish.finish_sized.Reads as finish-sized-reads
 use Rattle.resolve_answer.proofs.FinishLaws.{finish-laws}
 
--- src/finish.rt:103:21
 u16-at-requires : tie.Need-u16-at-requires
 u16-at-requires c κs = search needs
 
--- src/finish.rt:104:9
 place-requires : tie.Need-place-requires
 place-requires c κs = search needs
 
--- src/finish.rt:105:9
 actions-between-requires : tie.Need-actions-between-requires
 actions-between-requires c κs = search needs
 
--- src/finish.rt:106:9
 both-passes-requires : tie.Need-both-passes-requires
 both-passes-requires c κs = search needs
 
--- src/finish.rt:107:5
 finish-sized-requires : tie.Need-finish-sized-requires
 finish-sized-requires c κs = search needs
 
--- src/finish.rt:100:1
 same-length : tie.Need-same-length
 same-length c = search needs
 
--- src/finish.rt:100:1
 same-length-2 : tie.Need-same-length-2
 same-length-2 c = search needs
 
--- src/finish.rt:100:1
 returns : tie.Need-returns
 returns c = search (finish-laws, needs)
 

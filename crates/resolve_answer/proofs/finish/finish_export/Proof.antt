@@ -7,39 +7,30 @@ use Rattle.list_end.proofs.end.fix_size.Reads as fix-size-reads
 use Rattle.resolve_answer.proofs.finish.judged.Reads as judged-reads
 use Rattle.resolve_answer.proofs.FinishLaws.{finish-laws}
 
--- src/finish.rt:39:9
 judged-requires : tie.Need-judged-requires
 judged-requires c κs = search needs
 
--- src/finish.rt:39:9
 same-length : tie.Need-same-length
 same-length c = search needs
 
--- src/finish.rt:39:9
 same-length-2 : tie.Need-same-length-2
 same-length-2 c = search needs
 
--- src/finish.rt:39:9
 returns : tie.Need-returns
 returns c = search (finish-laws, needs)
 
--- src/finish.rt:42:9
 fix-size-requires : tie.Need-fix-size-requires
 fix-size-requires c κs = search needs
 
--- src/finish.rt:49:5
 judged-requires-2 : tie.Need-judged-requires-2
 judged-requires-2 c κs = search needs
 
--- src/finish.rt:24:1
 same-length-3 : tie.Need-same-length-3
 same-length-3 c = search needs
 
--- src/finish.rt:24:1
 same-length-4 : tie.Need-same-length-4
 same-length-4 c = search needs
 
--- src/finish.rt:24:1
 returns-2 : tie.Need-returns-2
 returns-2 c = search (finish-laws, needs)
 

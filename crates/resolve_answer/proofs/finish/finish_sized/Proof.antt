@@ -9,43 +9,33 @@ use Rattle.resolve_answer.proofs.answer.refused.Reads as refused-reads
 use Rattle.resolve_answer.proofs.finish.finish_export.Reads as finish-export-reads
 use Rattle.resolve_answer.proofs.FinishLaws.{finish-laws}
 
--- src/finish.rt:66:52
 place-requires : tie.Need-place-requires
 place-requires c κs = search needs
 
--- src/finish.rt:66:9
 finish-actions-requires : tie.Need-finish-actions-requires
 finish-actions-requires c κs = search needs
 
--- src/finish.rt:69:9
 refused-requires : tie.Need-refused-requires
 refused-requires c κs = search needs
 
--- src/finish.rt:69:9
 same-length : tie.Need-same-length
 same-length c = search needs
 
--- src/finish.rt:69:9
 same-length-2 : tie.Need-same-length-2
 same-length-2 c = search needs
 
--- src/finish.rt:69:9
 returns : tie.Need-returns
 returns c = search (finish-laws, needs)
 
--- src/finish.rt:71:5
 finish-export-requires : tie.Need-finish-export-requires
 finish-export-requires c κs = search needs
 
--- src/finish.rt:53:1
 same-length-3 : tie.Need-same-length-3
 same-length-3 c = search needs
 
--- src/finish.rt:53:1
 same-length-4 : tie.Need-same-length-4
 same-length-4 c = search needs
 
--- src/finish.rt:53:1
 returns-2 : tie.Need-returns-2
 returns-2 c = search (finish-laws, needs)
 

@@ -7,35 +7,27 @@ use Rattle.resolve_answer.proofs.answer.accepted.Reads as accepted-read
 use Rattle.resolve_answer.proofs.answer.refused.Reads as refused-reads
 use Rattle.resolve_answer.proofs.FinishLaws.{finish-laws}
 
--- src/finish.rt:19:9
 refused-requires : tie.Need-refused-requires
 refused-requires c κs = search needs
 
--- src/finish.rt:19:9
 same-length : tie.Need-same-length
 same-length c = search needs
 
--- src/finish.rt:19:9
 same-length-2 : tie.Need-same-length-2
 same-length-2 c = search needs
 
--- src/finish.rt:19:9
 returns : tie.Need-returns
 returns c = search (finish-laws, needs)
 
--- src/finish.rt:21:5
 accepted-requires : tie.Need-accepted-requires
 accepted-requires c κs = search needs
 
--- src/finish.rt:15:1
 same-length-3 : tie.Need-same-length-3
 same-length-3 c = search needs
 
--- src/finish.rt:15:1
 same-length-4 : tie.Need-same-length-4
 same-length-4 c = search needs
 
--- src/finish.rt:15:1
 returns-2 : tie.Need-returns-2
 returns-2 c = search (finish-laws, needs)
 

@@ -9,23 +9,18 @@ use Rattle.stmt_assignments.proofs.CopyLaws.{bit-laws}
 use Rattle.stmt_assignments.proofs.CopyLaws.{copy-laws}
 use Rattle.stmt_assignments.proofs.CopyLaws.{after-cut}
 
--- src/copies.rt:175:8
 byte-requires : tie.Need-byte-requires
 byte-requires c κs = search needs
 
--- src/copies.rt:176:9
 after-requires : tie.Need-after-requires
 after-requires c κs = search needs
 
--- src/copies.rt:176:9
 returns : tie.Need-returns
 returns c = search (bit-laws, copy-laws, needs)
 
--- src/copies.rt:178:5
 after-requires-2 : tie.Need-after-requires-2
 after-requires-2 c κs = search needs
 
--- src/copies.rt:172:1
 returns-2 : tie.Need-returns-2
 returns-2 c = after-cut _ _ _ (c .before .before .byte .ensures) _ (c .before .if1 .left) (c .after2 .ensures)
 

@@ -8,35 +8,27 @@ use Rattle.expr_reading.proofs.read.sliced.Reads as sliced-reads
 use Rattle.stmt_assignments.proofs.CopyLaws.{bit-laws}
 use Rattle.stmt_assignments.proofs.CopyLaws.{copy-laws}
 
--- src/copies.rt:112:11
 sliced-requires : tie.Need-sliced-requires
 sliced-requires c κs = search needs
 
--- src/copies.rt:113:18
 enum-known-n : tie.Need-enum-known-n
 enum-known-n c = search needs
 
--- src/copies.rt:114:23
 enum-known-v : tie.Need-enum-known-v
 enum-known-v c = search needs
 
--- src/copies.rt:114:39
 read-value-requires : tie.Need-read-value-requires
 read-value-requires c κs = search needs
 
--- src/copies.rt:109:1
 returns : tie.Need-returns
 returns c = search (bit-laws, copy-laws, needs)
 
--- src/copies.rt:109:1
 same-length : tie.Need-same-length
 same-length c = search needs
 
--- src/copies.rt:109:1
 same-length-2 : tie.Need-same-length-2
 same-length-2 c = search needs
 
--- src/copies.rt:109:1
 returns-2 : tie.Need-returns-2
 returns-2 c = search (bit-laws, copy-laws, needs)
 

@@ -11,79 +11,60 @@ use Rattle.stmt_walk.proofs.walk.stop.Reads as stop-reads
 use Rattle.stmt_assignments.proofs.CopyLaws.{bit-laws}
 use Rattle.stmt_assignments.proofs.CopyLaws.{copy-laws}
 
--- src/copies.rt:140:26
 enum-known-target : tie.Need-enum-known-target
 enum-known-target c = search needs
 
--- src/copies.rt:140:42
 read-value-requires : tie.Need-read-value-requires
 read-value-requires c κs = search needs
 
--- src/copies.rt:140:32
 read-then-requires : tie.Need-read-then-requires
 read-then-requires c κs = search needs
 
--- src/copies.rt:141:29
 enum-known-target-2 : tie.Need-enum-known-target-2
 enum-known-target-2 c = search needs
 
--- src/copies.rt:141:48
 copy-ram-requires : tie.Need-copy-ram-requires
 copy-ram-requires c κs = search needs
 
--- src/copies.rt:142:31
 enum-known-target-3 : tie.Need-enum-known-target-3
 enum-known-target-3 c = search needs
 
--- src/copies.rt:142:60
 copy-range-requires : tie.Need-copy-range-requires
 copy-range-requires c κs = search needs
 
--- src/copies.rt:142:50
 read-then-requires-2 : tie.Need-read-then-requires-2
 read-then-requires-2 c κs = search needs
 
--- src/copies.rt:143:14
 stop-requires : tie.Need-stop-requires
 stop-requires c κs = search needs
 
--- src/copies.rt:136:1
 same-length : tie.Need-same-length
 same-length c = search needs
 
--- src/copies.rt:136:1
 same-length-2 : tie.Need-same-length-2
 same-length-2 c = search needs
 
--- src/copies.rt:136:1
 returns : tie.Need-returns
 returns c = search (bit-laws, copy-laws, needs)
 
--- src/copies.rt:136:1
 same-length-3 : tie.Need-same-length-3
 same-length-3 c = search needs
 
--- src/copies.rt:136:1
 same-length-4 : tie.Need-same-length-4
 same-length-4 c = search needs
 
--- src/copies.rt:136:1
 returns-2 : tie.Need-returns-2
 returns-2 c = search (bit-laws, copy-laws, needs)
 
--- src/copies.rt:136:1
 same-length-5 : tie.Need-same-length-5
 same-length-5 c = search needs
 
--- src/copies.rt:136:1
 same-length-6 : tie.Need-same-length-6
 same-length-6 c = search needs
 
--- src/copies.rt:136:1
 returns-3 : tie.Need-returns-3
 returns-3 c = search (bit-laws, copy-laws, needs)
 
--- src/copies.rt:136:1
 returns-4 : tie.Need-returns-4
 returns-4 c = search (bit-laws, copy-laws, needs)
 

@@ -9,47 +9,36 @@ use Rattle.stmt_walk.proofs.walk.stop.Reads as stop-reads
 use Rattle.stmt_assignments.proofs.CopyLaws.{bit-laws}
 use Rattle.stmt_assignments.proofs.CopyLaws.{copy-laws}
 
--- src/copies.rt:130:11
 read-operand-requires : tie.Need-read-operand-requires
 read-operand-requires c κs = search needs
 
--- src/copies.rt:131:18
 enum-known-n : tie.Need-enum-known-n
 enum-known-n c = search needs
 
--- src/copies.rt:131:24
 stop-requires : tie.Need-stop-requires
 stop-requires c κs = search needs
 
--- src/copies.rt:132:23
 enum-known-v : tie.Need-enum-known-v
 enum-known-v c = search needs
 
--- src/copies.rt:132:39
 store-requires : tie.Need-store-requires
 store-requires c κs = search needs
 
--- src/copies.rt:127:1
 same-length : tie.Need-same-length
 same-length c = search needs
 
--- src/copies.rt:127:1
 same-length-2 : tie.Need-same-length-2
 same-length-2 c = search needs
 
--- src/copies.rt:127:1
 returns : tie.Need-returns
 returns c = search (bit-laws, copy-laws, needs)
 
--- src/copies.rt:127:1
 same-length-3 : tie.Need-same-length-3
 same-length-3 c = search needs
 
--- src/copies.rt:127:1
 same-length-4 : tie.Need-same-length-4
 same-length-4 c = search needs
 
--- src/copies.rt:127:1
 returns-2 : tie.Need-returns-2
 returns-2 c = search (bit-laws, copy-laws, needs)
 

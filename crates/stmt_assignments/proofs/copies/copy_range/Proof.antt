@@ -9,39 +9,30 @@ use Rattle.stmt_assignments.proofs.copies.copy_bytes.Reads as copy-byte
 use Rattle.stmt_assignments.proofs.CopyLaws.{bit-laws}
 use Rattle.stmt_assignments.proofs.CopyLaws.{copy-laws}
 
--- src/copies.rt:121:8
 byte-aligned-requires : tie.Need-byte-aligned-requires
 byte-aligned-requires c κs = search needs
 
--- src/copies.rt:122:9
 copy-bytes-requires : tie.Need-copy-bytes-requires
 copy-bytes-requires c κs = search needs
 
--- src/copies.rt:122:9
 same-length : tie.Need-same-length
 same-length c = search needs
 
--- src/copies.rt:122:9
 same-length-2 : tie.Need-same-length-2
 same-length-2 c = search needs
 
--- src/copies.rt:122:9
 returns : tie.Need-returns
 returns c = search (bit-laws, copy-laws, needs)
 
--- src/copies.rt:124:5
 copy-bits-requires : tie.Need-copy-bits-requires
 copy-bits-requires c κs = search needs
 
--- src/copies.rt:118:1
 same-length-3 : tie.Need-same-length-3
 same-length-3 c = search needs
 
--- src/copies.rt:118:1
 same-length-4 : tie.Need-same-length-4
 same-length-4 c = search needs
 
--- src/copies.rt:118:1
 returns-2 : tie.Need-returns-2
 returns-2 c = search (bit-laws, copy-laws, needs)
 

@@ -9,51 +9,39 @@ use Rattle.expr_resolver.proofs.expr.resolve_expr.Reads as resolve-expr-reads
 use Rattle.stmt_walk.proofs.walk.stop.Reads as stop-reads
 use Rattle.stmt_assignments.proofs.CopyLaws.{bit-laws, copy-laws}
 
--- src/copies.rt:499:37
 after-requires : tie.Need-after-requires
 after-requires c κs = search needs
 
--- src/copies.rt:499:11
 resolve-expr-requires : tie.Need-resolve-expr-requires
 resolve-expr-requires c κs = search needs
 
--- src/copies.rt:500:18
 enum-known-n : tie.Need-enum-known-n
 enum-known-n c = search needs
 
--- src/copies.rt:500:24
 stop-requires : tie.Need-stop-requires
 stop-requires c κs = search needs
 
--- src/copies.rt:501:26
 enum-known-next : tie.Need-enum-known-next
 enum-known-next c = search (bit-laws, copy-laws, needs)
 
--- src/copies.rt:501:40
 copy-target-requires : tie.Need-copy-target-requires
 copy-target-requires c κs = search needs
 
--- src/copies.rt:487:1
 same-length : tie.Need-same-length
 same-length c = search needs
 
--- src/copies.rt:487:1
 same-length-2 : tie.Need-same-length-2
 same-length-2 c = search needs
 
--- src/copies.rt:487:1
 returns : tie.Need-returns
 returns c = search (bit-laws, copy-laws, needs)
 
--- src/copies.rt:487:1
 same-length-3 : tie.Need-same-length-3
 same-length-3 c = search needs
 
--- src/copies.rt:487:1
 same-length-4 : tie.Need-same-length-4
 same-length-4 c = search needs
 
--- src/copies.rt:487:1
 returns-2 : tie.Need-returns-2
 returns-2 c = search (bit-laws, copy-laws, needs)
 

@@ -8,47 +8,36 @@ use Rattle.stmt_assignments.proofs.copies.resolve_dst.Reads as resolve-
 use Rattle.stmt_walk.proofs.walk.stop.Reads as stop-reads
 use Rattle.stmt_assignments.proofs.CopyLaws.{bit-laws, copy-laws}
 
--- src/copies.rt:477:11
 resolve-dst-requires : tie.Need-resolve-dst-requires
 resolve-dst-requires c κs = search needs
 
--- src/copies.rt:478:18
 enum-known-n : tie.Need-enum-known-n
 enum-known-n c = search needs
 
--- src/copies.rt:478:24
 stop-requires : tie.Need-stop-requires
 stop-requires c κs = search needs
 
--- src/copies.rt:481:13
 enum-known-next : tie.Need-enum-known-next
 enum-known-next c = search (bit-laws, copy-laws, needs)
 
--- src/copies.rt:483:14
 copy-into-requires : tie.Need-copy-into-requires
 copy-into-requires c κs = search needs
 
--- src/copies.rt:463:1
 same-length : tie.Need-same-length
 same-length c = search needs
 
--- src/copies.rt:463:1
 same-length-2 : tie.Need-same-length-2
 same-length-2 c = search needs
 
--- src/copies.rt:463:1
 returns : tie.Need-returns
 returns c = search (bit-laws, copy-laws, needs)
 
--- src/copies.rt:463:1
 same-length-3 : tie.Need-same-length-3
 same-length-3 c = search needs
 
--- src/copies.rt:463:1
 same-length-4 : tie.Need-same-length-4
 same-length-4 c = search needs
 
--- src/copies.rt:463:1
 returns-2 : tie.Need-returns-2
 returns-2 c = search (bit-laws, copy-laws, needs)
 

@@ -9,43 +9,33 @@ use Rattle.stmt_assignments.proofs.copies.insert_in.Reads as insert-in-
 use Rattle.stmt_assignments.proofs.CopyLaws.{bit-laws}
 use Rattle.stmt_assignments.proofs.CopyLaws.{copy-laws}
 
--- src/copies.rt:75:9
 size-of-requires : tie.Need-size-of-requires
 size-of-requires c κs = search needs
 
--- src/copies.rt:76:11
 add-tmp-requires : tie.Need-add-tmp-requires
 add-tmp-requires c κs = search needs
 
--- src/copies.rt:77:18
 enum-known-n : tie.Need-enum-known-n
 enum-known-n c = search needs
 
--- src/copies.rt:78:26
 enum-known-tmp : tie.Need-enum-known-tmp
 enum-known-tmp c = search needs
 
--- src/copies.rt:78:44
 insert-in-requires : tie.Need-insert-in-requires
 insert-in-requires c κs = search needs
 
--- src/copies.rt:72:1
 same-length : tie.Need-same-length
 same-length c = search needs
 
--- src/copies.rt:72:1
 returns : tie.Need-returns
 returns c = search (bit-laws, copy-laws, needs)
 
--- src/copies.rt:72:1
 same-length-2 : tie.Need-same-length-2
 same-length-2 c = search needs
 
--- src/copies.rt:72:1
 same-length-3 : tie.Need-same-length-3
 same-length-3 c = search needs
 
--- src/copies.rt:72:1
 returns-2 : tie.Need-returns-2
 returns-2 c = search (bit-laws, copy-laws, needs)
 

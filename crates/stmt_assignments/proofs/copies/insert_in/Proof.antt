@@ -8,43 +8,33 @@ use Rattle.stmt_assignments.proofs.copies.merge_bits.Reads as merge-bit
 use Rattle.stmt_assignments.proofs.CopyLaws.{bit-laws}
 use Rattle.stmt_assignments.proofs.CopyLaws.{copy-laws}
 
--- src/copies.rt:66:11
 extend-bits-requires : tie.Need-extend-bits-requires
 extend-bits-requires c κs = search needs
 
--- src/copies.rt:67:18
 enum-known-n : tie.Need-enum-known-n
 enum-known-n c = search needs
 
--- src/copies.rt:68:33
 enum-known-st1 : tie.Need-enum-known-st1
 enum-known-st1 c = search needs
 
--- src/copies.rt:68:42
 merge-bits-requires : tie.Need-merge-bits-requires
 merge-bits-requires c κs = search needs
 
--- src/copies.rt:63:1
 same-length : tie.Need-same-length
 same-length c = search needs
 
--- src/copies.rt:63:1
 same-length-2 : tie.Need-same-length-2
 same-length-2 c = search needs
 
--- src/copies.rt:63:1
 returns : tie.Need-returns
 returns c = search (bit-laws, copy-laws, needs)
 
--- src/copies.rt:63:1
 same-length-3 : tie.Need-same-length-3
 same-length-3 c = search needs
 
--- src/copies.rt:63:1
 same-length-4 : tie.Need-same-length-4
 same-length-4 c = search needs
 
--- src/copies.rt:63:1
 returns-2 : tie.Need-returns-2
 returns-2 c = search (bit-laws, copy-laws, needs)
 

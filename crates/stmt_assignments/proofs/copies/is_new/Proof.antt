@@ -8,19 +8,15 @@ use Rattle.stmt_assignments.proofs.copies.is_wrong.Reads as is-wrong-re
 use Rattle.stmt_assignments.proofs.CopyLaws.{bit-laws}
 use Rattle.stmt_assignments.proofs.CopyLaws.{copy-laws}
 
--- src/copies.rt:209:9
 returns : tie.Need-returns
 returns c = search (bit-laws, copy-laws, needs)
 
--- src/copies.rt:211:14
 resolve-ident-requires : tie.Need-resolve-ident-requires
 resolve-ident-requires c κs = search needs
 
--- src/copies.rt:211:5
 is-wrong-requires : tie.Need-is-wrong-requires
 is-wrong-requires c κs = search needs
 
--- src/copies.rt:205:1
 returns-2 : tie.Need-returns-2
 returns-2 c = search (bit-laws, copy-laws, needs)
 

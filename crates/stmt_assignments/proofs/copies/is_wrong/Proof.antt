@@ -6,19 +6,15 @@ use Rattle.stmt_assignments.proofs.copies.is_wrong.Lts as lts
 use Rattle.stmt_assignments.proofs.CopyLaws.{bit-laws}
 use Rattle.stmt_assignments.proofs.CopyLaws.{copy-laws}
 
--- src/copies.rt:200:30
 enum-told : tie.Need-enum-told
 enum-told c = search needs
 
--- src/copies.rt:201:30
 enum-told-2 : tie.Need-enum-told-2
 enum-told-2 c = search needs
 
--- src/copies.rt:196:1
 returns : tie.Need-returns
 returns c = search (bit-laws, copy-laws, needs)
 
--- src/copies.rt:196:1
 returns-2 : tie.Need-returns-2
 returns-2 c = search (bit-laws, copy-laws, needs)
 

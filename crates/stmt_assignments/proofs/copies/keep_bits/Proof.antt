@@ -10,51 +10,39 @@ use Rattle.stmt_assignments.proofs.copies.mask_but.Reads as mask-but-re
 use Rattle.stmt_assignments.proofs.CopyLaws.{bit-laws}
 use Rattle.stmt_assignments.proofs.CopyLaws.{copy-laws}
 
--- src/copies.rt:81:61
 mask-but-requires : tie.Need-mask-but-requires
 mask-but-requires c κs = search needs
 
--- src/copies.rt:81:52
 constant-requires : tie.Need-constant-requires
 constant-requires c κs = search needs
 
--- src/copies.rt:81:11
 op-to-requires : tie.Need-op-to-requires
 op-to-requires c κs = search needs
 
--- src/copies.rt:82:18
 enum-known-n : tie.Need-enum-known-n
 enum-known-n c = search needs
 
--- src/copies.rt:83:33
 enum-known-st1 : tie.Need-enum-known-st1
 enum-known-st1 c = search needs
 
--- src/copies.rt:83:42
 insert-bits-requires : tie.Need-insert-bits-requires
 insert-bits-requires c κs = search needs
 
--- src/copies.rt:77:1
 same-length : tie.Need-same-length
 same-length c = search needs
 
--- src/copies.rt:77:1
 same-length-2 : tie.Need-same-length-2
 same-length-2 c = search needs
 
--- src/copies.rt:77:1
 returns : tie.Need-returns
 returns c = search (bit-laws, copy-laws, needs)
 
--- src/copies.rt:77:1
 same-length-3 : tie.Need-same-length-3
 same-length-3 c = search needs
 
--- src/copies.rt:77:1
 same-length-4 : tie.Need-same-length-4
 same-length-4 c = search needs
 
--- src/copies.rt:77:1
 returns-2 : tie.Need-returns-2
 returns-2 c = search (bit-laws, copy-laws, needs)
 

@@ -8,19 +8,15 @@ use Rattle.stmt_assignments.proofs.CopyLaws.{bit-laws}
 use Rattle.stmt_assignments.proofs.CopyLaws.{copy-laws}
 use Rattle.stmt_assignments.proofs.CopyLaws.{mask-but-law}
 
--- src/copies.rt:41:29
 mask-requires : tie.Need-mask-requires
 mask-requires c κs = search needs
 
--- src/copies.rt:41:29
 shl-result : tie.Need-shl-result
 shl-result c = search needs
 
--- src/copies.rt:41:5
 sub-result : tie.Need-sub-result
 sub-result c = search needs
 
--- src/copies.rt:37:1
 returns : tie.Need-returns
 returns c = mask-but-law _ _ _ (c .mask .ensures)
 

@@ -8,47 +8,36 @@ use Rattle.list_pushes.proofs.push.op_to.Reads as op-to-reads
 use Rattle.stmt_assignments.proofs.CopyLaws.{bit-laws}
 use Rattle.stmt_assignments.proofs.CopyLaws.{copy-laws}
 
--- src/copies.rt:48:51
 constant-requires : tie.Need-constant-requires
 constant-requires c κs = search needs
 
--- src/copies.rt:48:11
 op-to-requires : tie.Need-op-to-requires
 op-to-requires c κs = search needs
 
--- src/copies.rt:49:18
 enum-known-n : tie.Need-enum-known-n
 enum-known-n c = search needs
 
--- src/copies.rt:50:33
 enum-known-st1 : tie.Need-enum-known-st1
 enum-known-st1 c = search needs
 
--- src/copies.rt:50:42
 op-to-requires-2 : tie.Need-op-to-requires-2
 op-to-requires-2 c κs = search needs
 
--- src/copies.rt:45:1
 same-length : tie.Need-same-length
 same-length c = search needs
 
--- src/copies.rt:45:1
 same-length-2 : tie.Need-same-length-2
 same-length-2 c = search needs
 
--- src/copies.rt:45:1
 returns : tie.Need-returns
 returns c = search (bit-laws, copy-laws, needs)
 
--- src/copies.rt:45:1
 same-length-3 : tie.Need-same-length-3
 same-length-3 c = search needs
 
--- src/copies.rt:45:1
 same-length-4 : tie.Need-same-length-4
 same-length-4 c = search needs
 
--- src/copies.rt:45:1
 returns-2 : tie.Need-returns-2
 returns-2 c = search (bit-laws, copy-laws, needs)
 

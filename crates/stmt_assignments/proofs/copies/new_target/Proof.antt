@@ -9,39 +9,30 @@ use Rattle.stmt_assignments.proofs.copies.target_size.Reads as target-s
 use Rattle.stmt_assignments.proofs.CopyLaws.{bit-laws}
 use Rattle.stmt_assignments.proofs.CopyLaws.{copy-laws}
 
--- src/copies.rt:184:9
 target-size-requires : tie.Need-target-size-requires
 target-size-requires c κs = search needs
 
--- src/copies.rt:185:9
 after-target-requires : tie.Need-after-target-requires
 after-target-requires c κs = search needs
 
--- src/copies.rt:186:11
 named-tmp-requires : tie.Need-named-tmp-requires
 named-tmp-requires c κs = search needs
 
--- src/copies.rt:187:18
 enum-known-n : tie.Need-enum-known-n
 enum-known-n c = search needs
 
--- src/copies.rt:188:23
 enum-known-v : tie.Need-enum-known-v
 enum-known-v c = search needs
 
--- src/copies.rt:181:1
 same-length : tie.Need-same-length
 same-length c = search needs
 
--- src/copies.rt:181:1
 returns : tie.Need-returns
 returns c = search (bit-laws, copy-laws, needs)
 
--- src/copies.rt:181:1
 same-length-2 : tie.Need-same-length-2
 same-length-2 c = search needs
 
--- src/copies.rt:181:1
 returns-2 : tie.Need-returns-2
 returns-2 c = search (bit-laws, copy-laws, needs)
 

@@ -7,23 +7,18 @@ use Rattle.access.proofs.byte.Reads as byte-reads
 use Rattle.expr_scope.proofs.scope.plain_local.Reads as plain-local-reads
 use Rattle.stmt_assignments.proofs.CopyLaws.{copy-laws}
 
--- src/copies.rt:415:8
 byte-requires : tie.Need-byte-requires
 byte-requires c κs = search (copy-laws, needs)
 
--- src/copies.rt:416:9
 returns : tie.Need-returns
 returns c = search (copy-laws, needs)
 
--- src/copies.rt:419:9
 returns-2 : tie.Need-returns-2
 returns-2 c = search (copy-laws, needs)
 
--- src/copies.rt:421:5
 plain-local-requires : tie.Need-plain-local-requires
 plain-local-requires c κs = search (copy-laws, needs)
 
--- src/copies.rt:403:1
 returns-3 : tie.Need-returns-3
 returns-3 c = search (copy-laws, needs)
 

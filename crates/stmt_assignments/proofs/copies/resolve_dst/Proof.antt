@@ -12,75 +12,57 @@ use Rattle.expr_resolver.proofs.expr.resolve_expr.Reads as resolve-expr-reads
 use Rattle.list_values.proofs.value.local.Reads as local-reads
 use Rattle.stmt_assignments.proofs.CopyLaws.{bit-laws, copy-laws}
 
--- src/copies.rt:437:9
 target-name-requires : tie.Need-target-name-requires
 target-name-requires c κs = search needs
 
--- src/copies.rt:438:9
 plain-target-requires : tie.Need-plain-target-requires
 plain-target-requires c κs = search (bit-laws, copy-laws, needs)
 
--- src/copies.rt:441:46
 sub-local : tie.Need-sub-local
 sub-local c = search (bit-laws, copy-laws, needs)
 
--- src/copies.rt:441:33
 local-requires : tie.Need-local-requires
 local-requires c κs = search (bit-laws, copy-laws, needs)
 
--- src/copies.rt:442:19
 after-requires : tie.Need-after-requires
 after-requires c κs = search (bit-laws, copy-laws, needs)
 
--- src/copies.rt:440:9
 same-length : tie.Need-same-length
 same-length c = search (bit-laws, copy-laws, needs)
 
--- src/copies.rt:440:9
 returns : tie.Need-returns
 returns c = search (bit-laws, copy-laws, needs)
 
--- src/copies.rt:447:9
 new-target-requires : tie.Need-new-target-requires
 new-target-requires c κs = search (bit-laws, copy-laws, needs)
 
--- src/copies.rt:447:9
 same-length-2 : tie.Need-same-length-2
 same-length-2 c = search (bit-laws, copy-laws, needs)
 
--- src/copies.rt:447:9
 returns-2 : tie.Need-returns-2
 returns-2 c = search (bit-laws, copy-laws, needs)
 
--- src/copies.rt:449:8
 is-new-requires : tie.Need-is-new-requires
 is-new-requires c κs = search needs
 
--- src/copies.rt:450:9
 new-target-requires-2 : tie.Need-new-target-requires-2
 new-target-requires-2 c κs = search needs
 
--- src/copies.rt:450:9
 same-length-3 : tie.Need-same-length-3
 same-length-3 c = search needs
 
--- src/copies.rt:450:9
 returns-3 : tie.Need-returns-3
 returns-3 c = search (bit-laws, copy-laws, needs)
 
--- src/copies.rt:452:5
 resolve-expr-requires : tie.Need-resolve-expr-requires
 resolve-expr-requires c κs = search needs
 
--- src/copies.rt:425:1
 same-length-4 : tie.Need-same-length-4
 same-length-4 c = search needs
 
--- src/copies.rt:425:1
 same-length-5 : tie.Need-same-length-5
 same-length-5 c = search needs
 
--- src/copies.rt:425:1
 returns-4 : tie.Need-returns-4
 returns-4 c = search (bit-laws, copy-laws, needs)
 

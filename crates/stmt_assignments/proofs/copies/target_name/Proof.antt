@@ -9,35 +9,27 @@ use Rattle.stmt_assignments.proofs.CopyLaws.{bit-laws}
 use Rattle.stmt_assignments.proofs.CopyLaws.{copy-laws}
 use Rattle.stmt_assignments.proofs.CopyLaws.{name-part, name-none}
 
--- src/copies.rt:151:9
 byte-requires : tie.Need-byte-requires
 byte-requires c κs = search needs
 
--- src/copies.rt:153:9
 u16-in-requires : tie.Need-u16-in-requires
 u16-in-requires c κs = search needs
 
--- src/copies.rt:153:9
 returns : tie.Need-returns
 returns c = search (bit-laws, copy-laws, needs)
 
--- src/copies.rt:156:12
 byte-requires-2 : tie.Need-byte-requires-2
 byte-requires-2 c κs = search needs
 
--- src/copies.rt:157:13
 u16-in-requires-2 : tie.Need-u16-in-requires-2
 u16-in-requires-2 c κs = search needs
 
--- src/copies.rt:157:13
 returns-2 : tie.Need-returns-2
 returns-2 c = search (bit-laws, copy-laws, needs)
 
--- src/copies.rt:148:1
 returns-3 : tie.Need-returns-3
 returns-3 c = name-part _ _ _ (c .before .before .before .before .byte .ensures) _ (c .before .before .before .if1 .left) (c .before .before .if2 .taken) (c .before .byte2 .ensures) (c .if3 .left)
 
--- src/copies.rt:148:1
 returns-4 : tie.Need-returns-4
 returns-4 c = name-none _ _ _ (c .before .before .byte .ensures) (c .before .if1 .left) (c .if2 .left)
 

@@ -9,47 +9,36 @@ use Rattle.stmt_assignments.proofs.copies.keep_bits.Reads as keep-bits-
 use Rattle.stmt_assignments.proofs.CopyLaws.{bit-laws}
 use Rattle.stmt_assignments.proofs.CopyLaws.{copy-laws}
 
--- src/copies.rt:91:9
 returns : tie.Need-returns
 returns c = search (bit-laws, copy-laws, needs)
 
--- src/copies.rt:93:9
 size-of-requires : tie.Need-size-of-requires
 size-of-requires c κs = search needs
 
--- src/copies.rt:94:11
 add-tmp-requires : tie.Need-add-tmp-requires
 add-tmp-requires c κs = search needs
 
--- src/copies.rt:95:18
 enum-known-n : tie.Need-enum-known-n
 enum-known-n c = search needs
 
--- src/copies.rt:96:26
 enum-known-prev : tie.Need-enum-known-prev
 enum-known-prev c = search needs
 
--- src/copies.rt:96:45
 keep-bits-requires : tie.Need-keep-bits-requires
 keep-bits-requires c κs = search needs
 
--- src/copies.rt:87:1
 same-length : tie.Need-same-length
 same-length c = search needs
 
--- src/copies.rt:87:1
 returns-2 : tie.Need-returns-2
 returns-2 c = search (bit-laws, copy-laws, needs)
 
--- src/copies.rt:87:1
 same-length-2 : tie.Need-same-length-2
 same-length-2 c = search needs
 
--- src/copies.rt:87:1
 same-length-3 : tie.Need-same-length-3
 same-length-3 c = search needs
 
--- src/copies.rt:87:1
 returns-3 : tie.Need-returns-3
 returns-3 c = search (bit-laws, copy-laws, needs)
 

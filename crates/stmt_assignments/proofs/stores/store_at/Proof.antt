@@ -8,51 +8,39 @@ use Rattle.stmt_assignments.proofs.stores.store_register.Reads as store
 use Rattle.stmt_walk.proofs.walk.stop.Reads as stop-reads
 use Rattle.stmt_assignments.proofs.StoreLaws.{store-laws}
 
--- src/stores.rt:46:29
 enum-known-expr : tie.Need-enum-known-expr
 enum-known-expr c = search needs
 
--- src/stores.rt:46:48
 store-requires : tie.Need-store-requires
 store-requires c κs = search needs
 
--- src/stores.rt:47:34
 enum-known-expr-2 : tie.Need-enum-known-expr-2
 enum-known-expr-2 c = search needs
 
--- src/stores.rt:47:53
 store-register-requires : tie.Need-store-register-requires
 store-register-requires c κs = search needs
 
--- src/stores.rt:48:14
 stop-requires : tie.Need-stop-requires
 stop-requires c κs = search needs
 
--- src/stores.rt:42:1
 same-length : tie.Need-same-length
 same-length c = search needs
 
--- src/stores.rt:42:1
 same-length-2 : tie.Need-same-length-2
 same-length-2 c = search needs
 
--- src/stores.rt:42:1
 returns : tie.Need-returns
 returns c = search (store-laws, needs)
 
--- src/stores.rt:42:1
 same-length-3 : tie.Need-same-length-3
 same-length-3 c = search needs
 
--- src/stores.rt:42:1
 same-length-4 : tie.Need-same-length-4
 same-length-4 c = search needs
 
--- src/stores.rt:42:1
 returns-2 : tie.Need-returns-2
 returns-2 c = search (store-laws, needs)
 
--- src/stores.rt:42:1
 returns-3 : tie.Need-returns-3
 returns-3 c = search (store-laws, needs)
 

@@ -9,55 +9,42 @@ use Rattle.expr_terms.proofs.address.resolve_address.Reads as resolve-address-r
 use Rattle.stmt_walk.proofs.walk.stop.Reads as stop-reads
 use Rattle.stmt_assignments.proofs.StoreLaws.{store-laws}
 
--- src/stores.rt:120:9
 u16-in-requires : tie.Need-u16-in-requires
 u16-in-requires c κs = search needs
 
--- src/stores.rt:121:9
 u16-in-requires-2 : tie.Need-u16-in-requires-2
 u16-in-requires-2 c κs = search needs
 
--- src/stores.rt:122:11
 resolve-address-requires : tie.Need-resolve-address-requires
 resolve-address-requires c κs = search needs
 
--- src/stores.rt:123:18
 enum-known-n : tie.Need-enum-known-n
 enum-known-n c = search needs
 
--- src/stores.rt:123:24
 stop-requires : tie.Need-stop-requires
 stop-requires c κs = search needs
 
--- src/stores.rt:126:13
 enum-known-next : tie.Need-enum-known-next
 enum-known-next c = search (store-laws, needs)
 
--- src/stores.rt:128:14
 store-at-requires : tie.Need-store-at-requires
 store-at-requires c κs = search needs
 
--- src/stores.rt:105:1
 same-length : tie.Need-same-length
 same-length c = search needs
 
--- src/stores.rt:105:1
 same-length-2 : tie.Need-same-length-2
 same-length-2 c = search needs
 
--- src/stores.rt:105:1
 returns : tie.Need-returns
 returns c = search (store-laws, needs)
 
--- src/stores.rt:105:1
 same-length-3 : tie.Need-same-length-3
 same-length-3 c = search needs
 
--- src/stores.rt:105:1
 same-length-4 : tie.Need-same-length-4
 same-length-4 c = search needs
 
--- src/stores.rt:105:1
 returns-2 : tie.Need-returns-2
 returns-2 c = search (store-laws, needs)
 

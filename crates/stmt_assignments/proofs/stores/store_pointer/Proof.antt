@@ -9,51 +9,39 @@ use Rattle.expr_resolver.proofs.expr.resolve_expr.Reads as resolve-expr-reads
 use Rattle.stmt_walk.proofs.walk.stop.Reads as stop-reads
 use Rattle.stmt_assignments.proofs.StoreLaws.{store-laws}
 
--- src/stores.rt:147:37
 after-requires : tie.Need-after-requires
 after-requires c κs = search needs
 
--- src/stores.rt:147:11
 resolve-expr-requires : tie.Need-resolve-expr-requires
 resolve-expr-requires c κs = search needs
 
--- src/stores.rt:148:18
 enum-known-n : tie.Need-enum-known-n
 enum-known-n c = search needs
 
--- src/stores.rt:148:24
 stop-requires : tie.Need-stop-requires
 stop-requires c κs = search needs
 
--- src/stores.rt:150:13
 enum-known-x : tie.Need-enum-known-x
 enum-known-x c = search needs
 
--- src/stores.rt:153:14
 store-in-requires : tie.Need-store-in-requires
 store-in-requires c κs = search needs
 
--- src/stores.rt:132:1
 same-length : tie.Need-same-length
 same-length c = search needs
 
--- src/stores.rt:132:1
 same-length-2 : tie.Need-same-length-2
 same-length-2 c = search needs
 
--- src/stores.rt:132:1
 returns : tie.Need-returns
 returns c = search (store-laws, needs)
 
--- src/stores.rt:132:1
 same-length-3 : tie.Need-same-length-3
 same-length-3 c = search needs
 
--- src/stores.rt:132:1
 same-length-4 : tie.Need-same-length-4
 same-length-4 c = search needs
 
--- src/stores.rt:132:1
 returns-2 : tie.Need-returns-2
 returns-2 c = search (store-laws, needs)
 

@@ -9,31 +9,24 @@ use Rattle.list_values.proofs.value.absent.Reads as absent-reads
 use Rattle.stmt_walk.proofs.walk.pushed_then.Reads as pushed-then-reads
 use Rattle.stmt_assignments.proofs.StoreLaws.{store-laws}
 
--- src/stores.rt:38:9
 set-stated-requires : tie.Need-set-stated-requires
 set-stated-requires c κs = search needs
 
--- src/stores.rt:39:40
 absent-requires : tie.Need-absent-requires
 absent-requires c κs = search needs
 
--- src/stores.rt:39:17
 push-requires : tie.Need-push-requires
 push-requires c κs = search needs
 
--- src/stores.rt:39:5
 pushed-then-requires : tie.Need-pushed-then-requires
 pushed-then-requires c κs = search needs
 
--- src/stores.rt:35:1
 same-length : tie.Need-same-length
 same-length c = search needs
 
--- src/stores.rt:35:1
 same-length-2 : tie.Need-same-length-2
 same-length-2 c = search needs
 
--- src/stores.rt:35:1
 returns : tie.Need-returns
 returns c = search (store-laws, needs)
 

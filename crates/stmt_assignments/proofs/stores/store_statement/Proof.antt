@@ -10,55 +10,42 @@ use Rattle.expr_resolver.proofs.expr.skip_expr.Reads as skip-expr-reads
 use Rattle.stmt_walk.proofs.walk.stop.Reads as stop-reads
 use Rattle.stmt_assignments.proofs.StoreLaws.{store-laws}
 
--- src/stores.rt:169:9
 after-requires : tie.Need-after-requires
 after-requires c κs = search needs
 
--- src/stores.rt:170:9
 skip-expr-requires : tie.Need-skip-expr-requires
 skip-expr-requires c κs = search needs
 
--- src/stores.rt:171:11
 expr-value-requires : tie.Need-expr-value-requires
 expr-value-requires c κs = search needs
 
--- src/stores.rt:172:21
 enum-known-n : tie.Need-enum-known-n
 enum-known-n c = search needs
 
--- src/stores.rt:172:27
 stop-requires : tie.Need-stop-requires
 stop-requires c κs = search needs
 
--- src/stores.rt:173:26
 enum-known-v : tie.Need-enum-known-v
 enum-known-v c = search needs
 
--- src/stores.rt:173:43
 store-pointer-requires : tie.Need-store-pointer-requires
 store-pointer-requires c κs = search needs
 
--- src/stores.rt:157:1
 same-length : tie.Need-same-length
 same-length c = search needs
 
--- src/stores.rt:157:1
 same-length-2 : tie.Need-same-length-2
 same-length-2 c = search needs
 
--- src/stores.rt:157:1
 returns : tie.Need-returns
 returns c = search (store-laws, needs)
 
--- src/stores.rt:157:1
 same-length-3 : tie.Need-same-length-3
 same-length-3 c = search needs
 
--- src/stores.rt:157:1
 same-length-4 : tie.Need-same-length-4
 same-length-4 c = search needs
 
--- src/stores.rt:157:1
 returns-2 : tie.Need-returns-2
 returns-2 c = search (store-laws, needs)
 

@@ -115,7 +115,6 @@ body-Inv-loop deep s t p l₀ a₀ m₀ e pos n ordinal at₀ w₀ i₀ l a m at
 abbrev body-μ-loop : body-lts.MeasureT-loop
 body-μ-loop deep s t p l₀ a₀ m₀ e pos n ordinal at₀ w₀ i₀ l a m at w i = length s - at
 
--- src/statements.rt:310:5
 body-loop-holds : (t : ℕ) → body-lts.Need-loop-holds (
   wrapping-add-u64-reads.Asked,
   wrapping-add-u64-reads.Learnt,
@@ -128,7 +127,6 @@ body-loop-holds : (t : ℕ) → body-lts.Need-loop-holds (
 ) (body-at t) body.Post body-Inv-loop body-μ-loop
 body-loop-holds t c = search (statement-laws, needs)
 
--- src/statements.rt:311:13
 body-wrapping-add-u64-requires : (t : ℕ) → body-lts.Need-wrapping-add-u64-requires (
   wrapping-add-u64-reads.Asked,
   wrapping-add-u64-reads.Learnt,
@@ -141,7 +139,6 @@ body-wrapping-add-u64-requires : (t : ℕ) → body-lts.Need-wrapping-add-u64-re
 ) (body-at t) body.Post body-Inv-loop body-μ-loop
 body-wrapping-add-u64-requires t c κs = search (statement-laws, needs)
 
--- src/statements.rt:312:15
 body-statement-requires : (t : ℕ) → body-lts.Need-statement-requires (
   wrapping-add-u64-reads.Asked,
   wrapping-add-u64-reads.Learnt,
@@ -154,7 +151,6 @@ body-statement-requires : (t : ℕ) → body-lts.Need-statement-requires (
 ) (body-at t) body.Post body-Inv-loop body-μ-loop
 body-statement-requires t c κs = search (statement-laws, needs)
 
--- src/statements.rt:314:17
 body-enum-known-refusal : (t : ℕ) → body-lts.Need-enum-known-refusal (
   wrapping-add-u64-reads.Asked,
   wrapping-add-u64-reads.Learnt,
@@ -167,7 +163,6 @@ body-enum-known-refusal : (t : ℕ) → body-lts.Need-enum-known-refusal (
 ) (body-at t) body.Post body-Inv-loop body-μ-loop
 body-enum-known-refusal t c = search (statement-laws, needs)
 
--- src/statements.rt:316:18
 body-same-length : (t : ℕ) → body-lts.Need-same-length (
   wrapping-add-u64-reads.Asked,
   wrapping-add-u64-reads.Learnt,
@@ -180,7 +175,6 @@ body-same-length : (t : ℕ) → body-lts.Need-same-length (
 ) (body-at t) body.Post body-Inv-loop body-μ-loop
 body-same-length t c = search (statement-laws, needs)
 
--- src/statements.rt:316:18
 body-same-length-2 : (t : ℕ) → body-lts.Need-same-length-2 (
   wrapping-add-u64-reads.Asked,
   wrapping-add-u64-reads.Learnt,
@@ -193,7 +187,6 @@ body-same-length-2 : (t : ℕ) → body-lts.Need-same-length-2 (
 ) (body-at t) body.Post body-Inv-loop body-μ-loop
 body-same-length-2 t c = search (statement-laws, needs)
 
--- src/statements.rt:316:18
 body-same-length-3 : (t : ℕ) → body-lts.Need-same-length-3 (
   wrapping-add-u64-reads.Asked,
   wrapping-add-u64-reads.Learnt,
@@ -206,7 +199,6 @@ body-same-length-3 : (t : ℕ) → body-lts.Need-same-length-3 (
 ) (body-at t) body.Post body-Inv-loop body-μ-loop
 body-same-length-3 t c = search (statement-laws, needs)
 
--- src/statements.rt:316:18
 body-returns : (t : ℕ) → body-lts.Need-returns (
   wrapping-add-u64-reads.Asked,
   wrapping-add-u64-reads.Learnt,
@@ -219,7 +211,6 @@ body-returns : (t : ℕ) → body-lts.Need-returns (
 ) (body-at t) body.Post body-Inv-loop body-μ-loop
 body-returns t c = search (statement-laws, needs)
 
--- src/statements.rt:320:26
 body-enum-known-next : (t : ℕ) → body-lts.Need-enum-known-next (
   wrapping-add-u64-reads.Asked,
   wrapping-add-u64-reads.Learnt,
@@ -232,7 +223,6 @@ body-enum-known-next : (t : ℕ) → body-lts.Need-enum-known-next (
 ) (body-at t) body.Post body-Inv-loop body-μ-loop
 body-enum-known-next t c = search (statement-laws, needs)
 
--- src/statements.rt:321:21
 body-forward-requires : (t : ℕ) → body-lts.Need-forward-requires (
   wrapping-add-u64-reads.Asked,
   wrapping-add-u64-reads.Learnt,
@@ -245,7 +235,6 @@ body-forward-requires : (t : ℕ) → body-lts.Need-forward-requires (
 ) (body-at t) body.Post body-Inv-loop body-μ-loop
 body-forward-requires t c κs = search (statement-laws, needs)
 
--- src/statements.rt:322:21
 body-stop-requires : (t : ℕ) → body-lts.Need-stop-requires (
   wrapping-add-u64-reads.Asked,
   wrapping-add-u64-reads.Learnt,
@@ -258,7 +247,6 @@ body-stop-requires : (t : ℕ) → body-lts.Need-stop-requires (
 ) (body-at t) body.Post body-Inv-loop body-μ-loop
 body-stop-requires t c κs = search (statement-laws, needs)
 
--- src/statements.rt:322:21
 body-same-length-4 : (t : ℕ) → body-lts.Need-same-length-4 (
   wrapping-add-u64-reads.Asked,
   wrapping-add-u64-reads.Learnt,
@@ -271,7 +259,6 @@ body-same-length-4 : (t : ℕ) → body-lts.Need-same-length-4 (
 ) (body-at t) body.Post body-Inv-loop body-μ-loop
 body-same-length-4 t c = search (c .before .before .before .before .before .before .before .before .before .before .before .labels .given, c .before .before .before .before .before .before .before .before .before .before .before .before .before .before .before .before .before .before .loop .inv .0, needs)
 
--- src/statements.rt:322:21
 body-same-length-5 : (t : ℕ) → body-lts.Need-same-length-5 (
   wrapping-add-u64-reads.Asked,
   wrapping-add-u64-reads.Learnt,
@@ -284,7 +271,6 @@ body-same-length-5 : (t : ℕ) → body-lts.Need-same-length-5 (
 ) (body-at t) body.Post body-Inv-loop body-μ-loop
 body-same-length-5 t c = search (c .before .before .before .before .before .before .before .before .before .actions .given, c .before .before .before .before .before .before .before .before .before .before .before .before .before .before .before .before .before .before .loop .inv .1, needs)
 
--- src/statements.rt:322:21
 body-same-length-6 : (t : ℕ) → body-lts.Need-same-length-6 (
   wrapping-add-u64-reads.Asked,
   wrapping-add-u64-reads.Learnt,
@@ -297,7 +283,6 @@ body-same-length-6 : (t : ℕ) → body-lts.Need-same-length-6 (
 ) (body-at t) body.Post body-Inv-loop body-μ-loop
 body-same-length-6 t c = search (c .before .before .before .before .before .before .before .temporaries .given, c .before .before .before .before .before .before .before .before .before .before .before .before .before .before .before .before .before .before .loop .inv .2, needs)
 
--- src/statements.rt:322:21
 body-returns-2 : (t : ℕ) → body-lts.Need-returns-2 (
   wrapping-add-u64-reads.Asked,
   wrapping-add-u64-reads.Learnt,
@@ -310,7 +295,6 @@ body-returns-2 : (t : ℕ) → body-lts.Need-returns-2 (
 ) (body-at t) body.Post body-Inv-loop body-μ-loop
 body-returns-2 t c = body-cut _ _ _ _ _ _ _ _ _ _ _ (c .before .before .before .before .before .before .before .before .before .before .before .before .before .before .before .before .before .before .loop .inv .3) (c .before .before .before .before .before .before .before .before .before .before .before .before .before .before .before .before .before .loop-test .taken) _ (c .before .before .before .before .before .before .before .before .before .before .before .before .before .before .before .before .wrapping-add-u64 .ensures) _ _ _ _ (c .before .before .before .before .before .before .before .before .before .before .before .before .statement .ensures) (c .before .before .before .before .next .given .0 .0) (c .before .before .before .before .next .given .0 .1 .0) (search needs) _ (c .before .before .forward .ensures) _ (c .before .if1 .taken) (c .stop .ensures)
 
--- src/statements.rt:326:17
 body-add-i : (t : ℕ) → body-lts.Need-add-i (
   wrapping-add-u64-reads.Asked,
   wrapping-add-u64-reads.Learnt,
@@ -323,7 +307,6 @@ body-add-i : (t : ℕ) → body-lts.Need-add-i (
 ) (body-at t) body.Post body-Inv-loop body-μ-loop
 body-add-i t c = omega (arith, c .before .before .before .before .before .before .before .before .before .before .before .before .before .before .before .before .loop-test .taken, c .before .before .before .before .before .before .before .before .before .before .before .before .before .before .before .before .before .before .before .before .before .before .before .fits)
 
--- src/statements.rt:310:5
 body-loop-less : (t : ℕ) → body-lts.Need-loop-less (
   wrapping-add-u64-reads.Asked,
   wrapping-add-u64-reads.Learnt,
@@ -336,7 +319,6 @@ body-loop-less : (t : ℕ) → body-lts.Need-loop-less (
 ) (body-at t) body.Post body-Inv-loop body-μ-loop
 body-loop-less t c = bytes-fall _ _ _ _ (c .before .forward .ensures) (c .if1 .left)
 
--- src/statements.rt:310:5
 body-loop-again : (t : ℕ) → body-lts.Need-loop-again (
   wrapping-add-u64-reads.Asked,
   wrapping-add-u64-reads.Learnt,
@@ -349,7 +331,6 @@ body-loop-again : (t : ℕ) → body-lts.Need-loop-again (
 ) (body-at t) body.Post body-Inv-loop body-μ-loop
 body-loop-again t c = (search (c .before .before .before .before .before .before .before .before .before .before .labels .given, c .before .before .before .before .before .before .before .before .before .before .before .before .before .before .before .before .before .loop .inv .0, needs), search (c .before .before .before .before .before .before .before .before .actions .given, c .before .before .before .before .before .before .before .before .before .before .before .before .before .before .before .before .before .loop .inv .1, needs), search (c .before .before .before .before .before .before .temporaries .given, c .before .before .before .before .before .before .before .before .before .before .before .before .before .before .before .before .before .loop .inv .2, needs), body-next _ _ _ _ _ _ _ _ _ _ _ (c .before .before .before .before .before .before .before .before .before .before .before .before .before .before .before .before .before .loop .inv .3) (c .before .before .before .before .before .before .before .before .before .before .before .before .before .before .before .before .loop-test .taken) _ (c .before .before .before .before .before .before .before .before .before .before .before .before .before .before .before .wrapping-add-u64 .ensures) _ _ _ _ (c .before .before .before .before .before .before .before .before .before .before .before .statement .ensures) _ _ (search needs) _ (c .before .forward .ensures) (c .if1 .left))
 
--- src/statements.rt:291:1
 body-same-length-7 : (t : ℕ) → body-lts.Need-same-length-7 (
   wrapping-add-u64-reads.Asked,
   wrapping-add-u64-reads.Learnt,
@@ -362,7 +343,6 @@ body-same-length-7 : (t : ℕ) → body-lts.Need-same-length-7 (
 ) (body-at t) body.Post body-Inv-loop body-μ-loop
 body-same-length-7 t c = search (statement-laws, needs)
 
--- src/statements.rt:291:1
 body-same-length-8 : (t : ℕ) → body-lts.Need-same-length-8 (
   wrapping-add-u64-reads.Asked,
   wrapping-add-u64-reads.Learnt,
@@ -375,7 +355,6 @@ body-same-length-8 : (t : ℕ) → body-lts.Need-same-length-8 (
 ) (body-at t) body.Post body-Inv-loop body-μ-loop
 body-same-length-8 t c = search (statement-laws, needs)
 
--- src/statements.rt:291:1
 body-same-length-9 : (t : ℕ) → body-lts.Need-same-length-9 (
   wrapping-add-u64-reads.Asked,
   wrapping-add-u64-reads.Learnt,
@@ -388,7 +367,6 @@ body-same-length-9 : (t : ℕ) → body-lts.Need-same-length-9 (
 ) (body-at t) body.Post body-Inv-loop body-μ-loop
 body-same-length-9 t c = search (statement-laws, needs)
 
--- src/statements.rt:291:1
 body-returns-3 : (t : ℕ) → body-lts.Need-returns-3 (
   wrapping-add-u64-reads.Asked,
   wrapping-add-u64-reads.Learnt,
@@ -401,7 +379,6 @@ body-returns-3 : (t : ℕ) → body-lts.Need-returns-3 (
 ) (body-at t) body.Post body-Inv-loop body-μ-loop
 body-returns-3 t c = search (statement-laws, needs)
 
--- src/statements.rt:241:9
 call-statement-byte-requires : (t : ℕ) → call-statement-lts.Need-byte-requires (
   byte-reads.Asked,
   byte-reads.Learnt,
@@ -416,7 +393,6 @@ call-statement-byte-requires : (t : ℕ) → call-statement-lts.Need-byte-requir
 ) (call-statement-at t) call-statement.Post
 call-statement-byte-requires t c κs = search (statement-laws, needs)
 
--- src/statements.rt:242:29
 call-statement-u16-in-requires : (t : ℕ) → call-statement-lts.Need-u16-in-requires (
   byte-reads.Asked,
   byte-reads.Learnt,
@@ -431,7 +407,6 @@ call-statement-u16-in-requires : (t : ℕ) → call-statement-lts.Need-u16-in-re
 ) (call-statement-at t) call-statement.Post
 call-statement-u16-in-requires t c κs = search (statement-laws, needs)
 
--- src/statements.rt:242:9
 call-statement-called-of-requires : (t : ℕ) → call-statement-lts.Need-called-of-requires (
   byte-reads.Asked,
   byte-reads.Learnt,
@@ -446,7 +421,6 @@ call-statement-called-of-requires : (t : ℕ) → call-statement-lts.Need-called
 ) (call-statement-at t) call-statement.Post
 call-statement-called-of-requires t c κs = search (statement-laws, needs)
 
--- src/statements.rt:244:9
 call-statement-macro-statement-requires :
     (t : ℕ) → call-statement-lts.Need-macro-statement-requires (
       byte-reads.Asked,
@@ -462,7 +436,6 @@ call-statement-macro-statement-requires :
     ) (call-statement-at t) call-statement.Post
 call-statement-macro-statement-requires t c κs = search (statement-laws, needs)
 
--- src/statements.rt:244:9
 call-statement-same-length : (t : ℕ) → call-statement-lts.Need-same-length (
   byte-reads.Asked,
   byte-reads.Learnt,
@@ -477,7 +450,6 @@ call-statement-same-length : (t : ℕ) → call-statement-lts.Need-same-length (
 ) (call-statement-at t) call-statement.Post
 call-statement-same-length t c = search (statement-laws, needs)
 
--- src/statements.rt:244:9
 call-statement-same-length-2 : (t : ℕ) → call-statement-lts.Need-same-length-2 (
   byte-reads.Asked,
   byte-reads.Learnt,
@@ -492,7 +464,6 @@ call-statement-same-length-2 : (t : ℕ) → call-statement-lts.Need-same-length
 ) (call-statement-at t) call-statement.Post
 call-statement-same-length-2 t c = search (statement-laws, needs)
 
--- src/statements.rt:244:9
 call-statement-same-length-3 : (t : ℕ) → call-statement-lts.Need-same-length-3 (
   byte-reads.Asked,
   byte-reads.Learnt,
@@ -507,7 +478,6 @@ call-statement-same-length-3 : (t : ℕ) → call-statement-lts.Need-same-length
 ) (call-statement-at t) call-statement.Post
 call-statement-same-length-3 t c = search (statement-laws, needs)
 
--- src/statements.rt:244:9
 call-statement-returns : (t : ℕ) → call-statement-lts.Need-returns (
   byte-reads.Asked,
   byte-reads.Learnt,
@@ -522,7 +492,6 @@ call-statement-returns : (t : ℕ) → call-statement-lts.Need-returns (
 ) (call-statement-at t) call-statement.Post
 call-statement-returns t c = search (statement-laws, needs)
 
--- src/statements.rt:246:5
 call-statement-other-call-requires : (t : ℕ) → call-statement-lts.Need-other-call-requires (
   byte-reads.Asked,
   byte-reads.Learnt,
@@ -537,7 +506,6 @@ call-statement-other-call-requires : (t : ℕ) → call-statement-lts.Need-other
 ) (call-statement-at t) call-statement.Post
 call-statement-other-call-requires t c κs = search (statement-laws, needs)
 
--- src/statements.rt:227:1
 call-statement-same-length-4 : (t : ℕ) → call-statement-lts.Need-same-length-4 (
   byte-reads.Asked,
   byte-reads.Learnt,
@@ -552,7 +520,6 @@ call-statement-same-length-4 : (t : ℕ) → call-statement-lts.Need-same-length
 ) (call-statement-at t) call-statement.Post
 call-statement-same-length-4 t c = search (statement-laws, needs)
 
--- src/statements.rt:227:1
 call-statement-same-length-5 : (t : ℕ) → call-statement-lts.Need-same-length-5 (
   byte-reads.Asked,
   byte-reads.Learnt,
@@ -567,7 +534,6 @@ call-statement-same-length-5 : (t : ℕ) → call-statement-lts.Need-same-length
 ) (call-statement-at t) call-statement.Post
 call-statement-same-length-5 t c = search (statement-laws, needs)
 
--- src/statements.rt:227:1
 call-statement-returns-2 : (t : ℕ) → call-statement-lts.Need-returns-2 (
   byte-reads.Asked,
   byte-reads.Learnt,
@@ -582,7 +548,6 @@ call-statement-returns-2 : (t : ℕ) → call-statement-lts.Need-returns-2 (
 ) (call-statement-at t) call-statement.Post
 call-statement-returns-2 t c = search (statement-laws, needs)
 
--- src/statements.rt:189:9
 enter-stop-requires : (t : ℕ) → enter-lts.Need-stop-requires (
   stop-reads.Asked,
   stop-reads.Learnt,
@@ -609,7 +574,6 @@ enter-stop-requires : (t : ℕ) → enter-lts.Need-stop-requires (
 ) (enter-at t) enter.Post
 enter-stop-requires t c κs = search (statement-laws, needs)
 
--- src/statements.rt:189:9
 enter-returns : (t : ℕ) → enter-lts.Need-returns (
   stop-reads.Asked,
   stop-reads.Learnt,
@@ -636,7 +600,6 @@ enter-returns : (t : ℕ) → enter-lts.Need-returns (
 ) (enter-at t) enter.Post
 enter-returns t c = search (statement-laws, needs)
 
--- src/statements.rt:191:9
 enter-macro-at-requires : (t : ℕ) → enter-lts.Need-macro-at-requires (
   stop-reads.Asked,
   stop-reads.Learnt,
@@ -663,7 +626,6 @@ enter-macro-at-requires : (t : ℕ) → enter-lts.Need-macro-at-requires (
 ) (enter-at t) enter.Post
 enter-macro-at-requires t c κs = search (statement-laws, needs)
 
--- src/statements.rt:192:9
 enter-wrapping-add-u64-requires : (t : ℕ) → enter-lts.Need-wrapping-add-u64-requires (
   stop-reads.Asked,
   stop-reads.Learnt,
@@ -690,7 +652,6 @@ enter-wrapping-add-u64-requires : (t : ℕ) → enter-lts.Need-wrapping-add-u64-
 ) (enter-at t) enter.Post
 enter-wrapping-add-u64-requires t c κs = search (statement-laws, needs)
 
--- src/statements.rt:193:9
 enter-body-at-requires : (t : ℕ) → enter-lts.Need-body-at-requires (
   stop-reads.Asked,
   stop-reads.Learnt,
@@ -717,7 +678,6 @@ enter-body-at-requires : (t : ℕ) → enter-lts.Need-body-at-requires (
 ) (enter-at t) enter.Post
 enter-body-at-requires t c κs = search (statement-laws, needs)
 
--- src/statements.rt:194:9
 enter-u16-in-requires : (t : ℕ) → enter-lts.Need-u16-in-requires (
   stop-reads.Asked,
   stop-reads.Learnt,
@@ -744,7 +704,6 @@ enter-u16-in-requires : (t : ℕ) → enter-lts.Need-u16-in-requires (
 ) (enter-at t) enter.Post
 enter-u16-in-requires t c κs = search (statement-laws, needs)
 
--- src/statements.rt:195:9
 enter-macro-env-requires : (t : ℕ) → enter-lts.Need-macro-env-requires (
   stop-reads.Asked,
   stop-reads.Learnt,
@@ -771,7 +730,6 @@ enter-macro-env-requires : (t : ℕ) → enter-lts.Need-macro-env-requires (
 ) (enter-at t) enter.Post
 enter-macro-env-requires t c κs = search (statement-laws, needs)
 
--- src/statements.rt:196:9
 enter-first-ordinal-requires : (t : ℕ) → enter-lts.Need-first-ordinal-requires (
   stop-reads.Asked,
   stop-reads.Learnt,
@@ -798,7 +756,6 @@ enter-first-ordinal-requires : (t : ℕ) → enter-lts.Need-first-ordinal-requir
 ) (enter-at t) enter.Post
 enter-first-ordinal-requires t c κs = search (statement-laws, needs)
 
--- src/statements.rt:197:17
 enter-sub-below : (t : ℕ) → enter-lts.Need-sub-below (
   stop-reads.Asked,
   stop-reads.Learnt,
@@ -825,7 +782,6 @@ enter-sub-below : (t : ℕ) → enter-lts.Need-sub-below (
 ) (enter-at t) enter.Post
 enter-sub-below t c = search (statement-laws, needs)
 
--- src/statements.rt:198:9
 enter-after-requires : (t : ℕ) → enter-lts.Need-after-requires (
   stop-reads.Asked,
   stop-reads.Learnt,
@@ -852,7 +808,6 @@ enter-after-requires : (t : ℕ) → enter-lts.Need-after-requires (
 ) (enter-at t) enter.Post
 enter-after-requires t c κs = search (statement-laws, needs)
 
--- src/statements.rt:199:9
 enter-entered-requires : (t : ℕ) → enter-lts.Need-entered-requires (
   stop-reads.Asked,
   stop-reads.Learnt,
@@ -879,7 +834,6 @@ enter-entered-requires : (t : ℕ) → enter-lts.Need-entered-requires (
 ) (enter-at t) enter.Post
 enter-entered-requires t c κs = search (statement-laws, needs)
 
--- src/statements.rt:200:9
 enter-body-requires : (t : ℕ) → enter-lts.Need-body-requires (
   stop-reads.Asked,
   stop-reads.Learnt,
@@ -906,7 +860,6 @@ enter-body-requires : (t : ℕ) → enter-lts.Need-body-requires (
 ) (enter-at t) enter.Post
 enter-body-requires t c κs = search (c .before .before .before .before .before .before .before .before .before .before .before .if1 .left, c .before .before .before .before .before .before .before .before .before .before .before .before .before .before .before .before .before .pre, needs)
 
--- src/statements.rt:201:5
 enter-returned-requires : (t : ℕ) → enter-lts.Need-returned-requires (
   stop-reads.Asked,
   stop-reads.Learnt,
@@ -933,7 +886,6 @@ enter-returned-requires : (t : ℕ) → enter-lts.Need-returned-requires (
 ) (enter-at t) enter.Post
 enter-returned-requires t c κs = search (statement-laws, needs)
 
--- src/statements.rt:171:1
 enter-same-length : (t : ℕ) → enter-lts.Need-same-length (
   stop-reads.Asked,
   stop-reads.Learnt,
@@ -960,7 +912,6 @@ enter-same-length : (t : ℕ) → enter-lts.Need-same-length (
 ) (enter-at t) enter.Post
 enter-same-length t c = search (statement-laws, needs)
 
--- src/statements.rt:171:1
 enter-same-length-2 : (t : ℕ) → enter-lts.Need-same-length-2 (
   stop-reads.Asked,
   stop-reads.Learnt,
@@ -987,7 +938,6 @@ enter-same-length-2 : (t : ℕ) → enter-lts.Need-same-length-2 (
 ) (enter-at t) enter.Post
 enter-same-length-2 t c = search (statement-laws, needs)
 
--- src/statements.rt:171:1
 enter-same-length-3 : (t : ℕ) → enter-lts.Need-same-length-3 (
   stop-reads.Asked,
   stop-reads.Learnt,
@@ -1014,7 +964,6 @@ enter-same-length-3 : (t : ℕ) → enter-lts.Need-same-length-3 (
 ) (enter-at t) enter.Post
 enter-same-length-3 t c = search (statement-laws, needs)
 
--- src/statements.rt:171:1
 enter-returns-2 : (t : ℕ) → enter-lts.Need-returns-2 (
   stop-reads.Asked,
   stop-reads.Learnt,
@@ -1041,7 +990,6 @@ enter-returns-2 : (t : ℕ) → enter-lts.Need-returns-2 (
 ) (enter-at t) enter.Post
 enter-returns-2 t c = enter-body _ _ _ _ _ _ _ _ _ _ _ _ _ _ _ _ _ _ _ _ _ _ _ _ _ _ (c .before .before .before .before .before .before .before .before .before .before .before .before .before .before .before .before .before .before .before .if1 .left) (c .before .before .before .before .before .before .before .before .before .before .before .before .before .before .before .before .before .before .macro-at .ensures) (c .before .before .before .before .before .before .before .before .before .before .before .before .before .before .before .before .before .wrapping-add-u64 .ensures) (c .before .before .before .before .before .before .before .before .before .before .before .before .before .before .before .before .body-at .ensures) (c .before .before .before .before .before .before .before .before .before .before .before .before .before .before .before .u16-in .ensures) (c .before .before .before .before .before .before .before .before .before .before .before .before .before .before .macro-env .ensures) (c .before .before .before .before .before .before .before .before .before .before .before .before .before .first-ordinal .ensures) (c .before .before .before .before .before .before .before .before .before .before .before .before .after .ensures) (c .before .before .before .before .before .before .before .before .before .before .before .entered .ensures) (c .before .before .before .before .before .before .before .body .ensures) (c .returned .ensures)
 
--- src/statements.rt:221:37
 macro-statement-slice-aggregate-macro-args :
     (t : ℕ) → macro-statement-lts.Need-slice-aggregate-macro-args (
       macro-args-reads.Asked,
@@ -1053,7 +1001,6 @@ macro-statement-slice-aggregate-macro-args :
     ) (macro-statement-at t) macro-statement.Post
 macro-statement-slice-aggregate-macro-args t c = search (statement-laws, needs)
 
--- src/statements.rt:221:11
 macro-statement-macro-args-requires : (t : ℕ) → macro-statement-lts.Need-macro-args-requires (
   macro-args-reads.Asked,
   macro-args-reads.Learnt,
@@ -1064,7 +1011,6 @@ macro-statement-macro-args-requires : (t : ℕ) → macro-statement-lts.Need-mac
 ) (macro-statement-at t) macro-statement.Post
 macro-statement-macro-args-requires t c κs = search (statement-laws, needs)
 
--- src/statements.rt:222:18
 macro-statement-enum-known-k : (t : ℕ) → macro-statement-lts.Need-enum-known-k (
   macro-args-reads.Asked,
   macro-args-reads.Learnt,
@@ -1075,7 +1021,6 @@ macro-statement-enum-known-k : (t : ℕ) → macro-statement-lts.Need-enum-known
 ) (macro-statement-at t) macro-statement.Post
 macro-statement-enum-known-k t c = search (statement-laws, needs)
 
--- src/statements.rt:222:24
 macro-statement-stop-requires : (t : ℕ) → macro-statement-lts.Need-stop-requires (
   macro-args-reads.Asked,
   macro-args-reads.Learnt,
@@ -1086,7 +1031,6 @@ macro-statement-stop-requires : (t : ℕ) → macro-statement-lts.Need-stop-requ
 ) (macro-statement-at t) macro-statement.Post
 macro-statement-stop-requires t c κs = search (statement-laws, needs)
 
--- src/statements.rt:223:22
 macro-statement-enum-known-next : (t : ℕ) → macro-statement-lts.Need-enum-known-next (
   macro-args-reads.Asked,
   macro-args-reads.Learnt,
@@ -1097,7 +1041,6 @@ macro-statement-enum-known-next : (t : ℕ) → macro-statement-lts.Need-enum-kn
 ) (macro-statement-at t) macro-statement.Post
 macro-statement-enum-known-next t c = search (statement-laws, needs)
 
--- src/statements.rt:223:70
 macro-statement-slice-aggregate-enter : (t : ℕ) → macro-statement-lts.Need-slice-aggregate-enter (
   macro-args-reads.Asked,
   macro-args-reads.Learnt,
@@ -1108,7 +1051,6 @@ macro-statement-slice-aggregate-enter : (t : ℕ) → macro-statement-lts.Need-s
 ) (macro-statement-at t) macro-statement.Post
 macro-statement-slice-aggregate-enter t c = search (statement-laws, needs)
 
--- src/statements.rt:223:36
 macro-statement-enter-requires : (t : ℕ) → macro-statement-lts.Need-enter-requires (
   macro-args-reads.Asked,
   macro-args-reads.Learnt,
@@ -1119,7 +1061,6 @@ macro-statement-enter-requires : (t : ℕ) → macro-statement-lts.Need-enter-re
 ) (macro-statement-at t) macro-statement.Post
 macro-statement-enter-requires t c κs = search (statement-laws, needs)
 
--- src/statements.rt:204:1
 macro-statement-same-length : (t : ℕ) → macro-statement-lts.Need-same-length (
   macro-args-reads.Asked,
   macro-args-reads.Learnt,
@@ -1130,7 +1071,6 @@ macro-statement-same-length : (t : ℕ) → macro-statement-lts.Need-same-length
 ) (macro-statement-at t) macro-statement.Post
 macro-statement-same-length t c = search (statement-laws, needs)
 
--- src/statements.rt:204:1
 macro-statement-same-length-2 : (t : ℕ) → macro-statement-lts.Need-same-length-2 (
   macro-args-reads.Asked,
   macro-args-reads.Learnt,
@@ -1141,7 +1081,6 @@ macro-statement-same-length-2 : (t : ℕ) → macro-statement-lts.Need-same-leng
 ) (macro-statement-at t) macro-statement.Post
 macro-statement-same-length-2 t c = search (statement-laws, needs)
 
--- src/statements.rt:204:1
 macro-statement-returns : (t : ℕ) → macro-statement-lts.Need-returns (
   macro-args-reads.Asked,
   macro-args-reads.Learnt,
@@ -1152,7 +1091,6 @@ macro-statement-returns : (t : ℕ) → macro-statement-lts.Need-returns (
 ) (macro-statement-at t) macro-statement.Post
 macro-statement-returns t c = search (statement-laws, needs)
 
--- src/statements.rt:204:1
 macro-statement-same-length-3 : (t : ℕ) → macro-statement-lts.Need-same-length-3 (
   macro-args-reads.Asked,
   macro-args-reads.Learnt,
@@ -1163,7 +1101,6 @@ macro-statement-same-length-3 : (t : ℕ) → macro-statement-lts.Need-same-leng
 ) (macro-statement-at t) macro-statement.Post
 macro-statement-same-length-3 t c = search (statement-laws, needs)
 
--- src/statements.rt:204:1
 macro-statement-same-length-4 : (t : ℕ) → macro-statement-lts.Need-same-length-4 (
   macro-args-reads.Asked,
   macro-args-reads.Learnt,
@@ -1174,7 +1111,6 @@ macro-statement-same-length-4 : (t : ℕ) → macro-statement-lts.Need-same-leng
 ) (macro-statement-at t) macro-statement.Post
 macro-statement-same-length-4 t c = search (statement-laws, needs)
 
--- src/statements.rt:204:1
 macro-statement-same-length-5 : (t : ℕ) → macro-statement-lts.Need-same-length-5 (
   macro-args-reads.Asked,
   macro-args-reads.Learnt,
@@ -1185,7 +1121,6 @@ macro-statement-same-length-5 : (t : ℕ) → macro-statement-lts.Need-same-leng
 ) (macro-statement-at t) macro-statement.Post
 macro-statement-same-length-5 t c = search (statement-laws, needs)
 
--- src/statements.rt:204:1
 macro-statement-returns-2 : (t : ℕ) → macro-statement-lts.Need-returns-2 (
   macro-args-reads.Asked,
   macro-args-reads.Learnt,
@@ -1196,7 +1131,6 @@ macro-statement-returns-2 : (t : ℕ) → macro-statement-lts.Need-returns-2 (
 ) (macro-statement-at t) macro-statement.Post
 macro-statement-returns-2 t c = search (statement-laws, needs)
 
--- src/statements.rt:264:11
 statement-begin-requires : (t : ℕ) → statement-lts.Need-begin-requires (
   begin-reads.Asked,
   begin-reads.Learnt,
@@ -1209,7 +1143,6 @@ statement-begin-requires : (t : ℕ) → statement-lts.Need-begin-requires (
 ) (statement-at t) statement′.Post
 statement-begin-requires t c κs = search (statement-laws, needs)
 
--- src/statements.rt:266:13
 statement-enum-known-refusal : (t : ℕ) → statement-lts.Need-enum-known-refusal (
   begin-reads.Asked,
   begin-reads.Learnt,
@@ -1222,7 +1155,6 @@ statement-enum-known-refusal : (t : ℕ) → statement-lts.Need-enum-known-refus
 ) (statement-at t) statement′.Post
 statement-enum-known-refusal t c = search (statement-laws, needs)
 
--- src/statements.rt:272:34
 statement-enum-known-b : (t : ℕ) → statement-lts.Need-enum-known-b (
   begin-reads.Asked,
   begin-reads.Learnt,
@@ -1235,7 +1167,6 @@ statement-enum-known-b : (t : ℕ) → statement-lts.Need-enum-known-b (
 ) (statement-at t) statement′.Post
 statement-enum-known-b t c = search (statement-laws, needs)
 
--- src/statements.rt:273:17
 statement-byte-requires : (t : ℕ) → statement-lts.Need-byte-requires (
   begin-reads.Asked,
   begin-reads.Learnt,
@@ -1248,7 +1179,6 @@ statement-byte-requires : (t : ℕ) → statement-lts.Need-byte-requires (
 ) (statement-at t) statement′.Post
 statement-byte-requires t c κs = search (statement-laws, needs)
 
--- src/statements.rt:275:17
 statement-call-statement-requires : (t : ℕ) → statement-lts.Need-call-statement-requires (
   begin-reads.Asked,
   begin-reads.Learnt,
@@ -1261,7 +1191,6 @@ statement-call-statement-requires : (t : ℕ) → statement-lts.Need-call-statem
 ) (statement-at t) statement′.Post
 statement-call-statement-requires t c κs = search (statement-laws, needs)
 
--- src/statements.rt:275:17
 statement-same-length : (t : ℕ) → statement-lts.Need-same-length (
   begin-reads.Asked,
   begin-reads.Learnt,
@@ -1274,7 +1203,6 @@ statement-same-length : (t : ℕ) → statement-lts.Need-same-length (
 ) (statement-at t) statement′.Post
 statement-same-length t c = search (statement-laws, needs)
 
--- src/statements.rt:275:17
 statement-same-length-2 : (t : ℕ) → statement-lts.Need-same-length-2 (
   begin-reads.Asked,
   begin-reads.Learnt,
@@ -1287,7 +1215,6 @@ statement-same-length-2 : (t : ℕ) → statement-lts.Need-same-length-2 (
 ) (statement-at t) statement′.Post
 statement-same-length-2 t c = search (statement-laws, needs)
 
--- src/statements.rt:275:17
 statement-same-length-3 : (t : ℕ) → statement-lts.Need-same-length-3 (
   begin-reads.Asked,
   begin-reads.Learnt,
@@ -1300,7 +1227,6 @@ statement-same-length-3 : (t : ℕ) → statement-lts.Need-same-length-3 (
 ) (statement-at t) statement′.Post
 statement-same-length-3 t c = search (statement-laws, needs)
 
--- src/statements.rt:275:17
 statement-returns : (t : ℕ) → statement-lts.Need-returns (
   begin-reads.Asked,
   begin-reads.Learnt,
@@ -1313,7 +1239,6 @@ statement-returns : (t : ℕ) → statement-lts.Need-returns (
 ) (statement-at t) statement′.Post
 statement-returns t c = search (statement-laws, needs)
 
--- src/statements.rt:277:13
 statement-other-statement-requires : (t : ℕ) → statement-lts.Need-other-statement-requires (
   begin-reads.Asked,
   begin-reads.Learnt,
@@ -1326,7 +1251,6 @@ statement-other-statement-requires : (t : ℕ) → statement-lts.Need-other-stat
 ) (statement-at t) statement′.Post
 statement-other-statement-requires t c κs = search (statement-laws, needs)
 
--- src/statements.rt:249:1
 statement-returns-2 : (t : ℕ) → statement-lts.Need-returns-2 (
   begin-reads.Asked,
   begin-reads.Learnt,
@@ -1339,7 +1263,6 @@ statement-returns-2 : (t : ℕ) → statement-lts.Need-returns-2 (
 ) (statement-at t) statement′.Post
 statement-returns-2 t c = search (statement-laws, needs)
 
--- src/statements.rt:249:1
 statement-same-length-4 : (t : ℕ) → statement-lts.Need-same-length-4 (
   begin-reads.Asked,
   begin-reads.Learnt,
@@ -1352,7 +1275,6 @@ statement-same-length-4 : (t : ℕ) → statement-lts.Need-same-length-4 (
 ) (statement-at t) statement′.Post
 statement-same-length-4 t c = search (statement-laws, needs)
 
--- src/statements.rt:249:1
 statement-same-length-5 : (t : ℕ) → statement-lts.Need-same-length-5 (
   begin-reads.Asked,
   begin-reads.Learnt,
@@ -1365,7 +1287,6 @@ statement-same-length-5 : (t : ℕ) → statement-lts.Need-same-length-5 (
 ) (statement-at t) statement′.Post
 statement-same-length-5 t c = search (statement-laws, needs)
 
--- src/statements.rt:249:1
 statement-same-length-6 : (t : ℕ) → statement-lts.Need-same-length-6 (
   begin-reads.Asked,
   begin-reads.Learnt,
@@ -1378,7 +1299,6 @@ statement-same-length-6 : (t : ℕ) → statement-lts.Need-same-length-6 (
 ) (statement-at t) statement′.Post
 statement-same-length-6 t c = search (statement-laws, needs)
 
--- src/statements.rt:249:1
 statement-returns-3 : (t : ℕ) → statement-lts.Need-returns-3 (
   begin-reads.Asked,
   begin-reads.Learnt,

@@ -7,23 +7,18 @@ use Rattle.stmt_bodies.proofs.statements.begun.Reads as begun-reads
 use Rattle.stmt_bodies.proofs.StatementLaws.{code-laws}
 use Rattle.stmt_bodies.proofs.StatementLaws.{begin-laws}
 
--- src/statements.rt:106:9
 returns : tie.Need-returns
 returns c = search (code-laws, begin-laws, needs)
 
--- src/statements.rt:112:9
 returns-2 : tie.Need-returns-2
 returns-2 c = search (code-laws, begin-laws, needs)
 
--- src/statements.rt:119:30
 add-begun : tie.Need-add-begun
 add-begun c = search needs
 
--- src/statements.rt:119:12
 begun-requires : tie.Need-begun-requires
 begun-requires c κs = search needs
 
--- src/statements.rt:102:1
 returns-3 : tie.Need-returns-3
 returns-3 c = search (code-laws, begin-laws, needs)
 

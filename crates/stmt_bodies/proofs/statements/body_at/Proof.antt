@@ -7,19 +7,15 @@ use Rattle.expr_terms.proofs.answers.after.Reads as after-reads
 use Rattle.stmt_bodies.proofs.StatementLaws.{code-laws}
 use Rattle.stmt_bodies.proofs.StatementLaws.{begin-laws}
 
--- src/statements.rt:169:19
 mul-after : tie.Need-mul-after
 mul-after c = search needs
 
--- src/statements.rt:169:15
 add-after : tie.Need-add-after
 add-after c = search needs
 
--- src/statements.rt:169:5
 after-requires : tie.Need-after-requires
 after-requires c κs = search needs
 
--- src/statements.rt:166:1
 returns : tie.Need-returns
 returns c = search (code-laws, begin-laws, needs)
 

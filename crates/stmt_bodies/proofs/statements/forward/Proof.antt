@@ -5,7 +5,6 @@ use Rattle.stmt_bodies.proofs.statements.forward.Lts as lts
 use Rattle.stmt_bodies.proofs.StatementLaws.{begin-laws}
 use borrow.Author.Needs.{needs}
 
--- src/statements.rt:283:1
 returns : tie.Need-returns
 returns c = search (begin-laws, needs)
 

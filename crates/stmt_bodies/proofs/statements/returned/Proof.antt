@@ -6,19 +6,15 @@ use Rattle.stmt_bodies.proofs.statements.returned.Lts as lts
 use Rattle.stmt_bodies.proofs.StatementLaws.{code-laws}
 use Rattle.stmt_bodies.proofs.StatementLaws.{begin-laws}
 
--- src/statements.rt:142:22
 enum-known-answer : tie.Need-enum-known-answer
 enum-known-answer c = search needs
 
--- src/statements.rt:143:31
 enum-known-answer-2 : tie.Need-enum-known-answer-2
 enum-known-answer-2 c = search needs
 
--- src/statements.rt:138:1
 returns : tie.Need-returns
 returns c = search (code-laws, begin-laws, needs)
 
--- src/statements.rt:138:1
 returns-2 : tie.Need-returns-2
 returns-2 c = search (code-laws, begin-laws, needs)
 

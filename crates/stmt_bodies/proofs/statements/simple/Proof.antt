@@ -13,107 +13,81 @@ use Rattle.stmt_assignments.proofs.stores.store_statement.Reads as store-statem
 use Rattle.stmt_bodies.proofs.StatementLaws.{code-laws}
 use Rattle.stmt_bodies.proofs.StatementLaws.{begin-laws}
 
--- src/statements.rt:55:14
 unimplemented-requires : tie.Need-unimplemented-requires
 unimplemented-requires c κs = search needs
 
--- src/statements.rt:56:14
 export-statement-requires : tie.Need-export-statement-requires
 export-statement-requires c κs = search needs
 
--- src/statements.rt:57:14
 local-statement-requires : tie.Need-local-statement-requires
 local-statement-requires c κs = search needs
 
--- src/statements.rt:58:14
 local-assignment-requires : tie.Need-local-assignment-requires
 local-assignment-requires c κs = search needs
 
--- src/statements.rt:59:14
 build-requires : tie.Need-build-requires
 build-requires c κs = search needs
 
--- src/statements.rt:60:14
 copy-statement-requires : tie.Need-copy-statement-requires
 copy-statement-requires c κs = search needs
 
--- src/statements.rt:61:14
 store-statement-requires : tie.Need-store-statement-requires
 store-statement-requires c κs = search needs
 
--- src/statements.rt:51:1
 same-length : tie.Need-same-length
 same-length c = search needs
 
--- src/statements.rt:51:1
 same-length-2 : tie.Need-same-length-2
 same-length-2 c = search needs
 
--- src/statements.rt:51:1
 returns : tie.Need-returns
 returns c = search (code-laws, begin-laws, needs)
 
--- src/statements.rt:51:1
 same-length-3 : tie.Need-same-length-3
 same-length-3 c = search needs
 
--- src/statements.rt:51:1
 same-length-4 : tie.Need-same-length-4
 same-length-4 c = search needs
 
--- src/statements.rt:51:1
 returns-2 : tie.Need-returns-2
 returns-2 c = search (code-laws, begin-laws, needs)
 
--- src/statements.rt:51:1
 same-length-5 : tie.Need-same-length-5
 same-length-5 c = search needs
 
--- src/statements.rt:51:1
 returns-3 : tie.Need-returns-3
 returns-3 c = search (code-laws, begin-laws, needs)
 
--- src/statements.rt:51:1
 same-length-6 : tie.Need-same-length-6
 same-length-6 c = search needs
 
--- src/statements.rt:51:1
 same-length-7 : tie.Need-same-length-7
 same-length-7 c = search needs
 
--- src/statements.rt:51:1
 returns-4 : tie.Need-returns-4
 returns-4 c = search (code-laws, begin-laws, needs)
 
--- src/statements.rt:51:1
 same-length-8 : tie.Need-same-length-8
 same-length-8 c = search needs
 
--- src/statements.rt:51:1
 returns-5 : tie.Need-returns-5
 returns-5 c = search (code-laws, begin-laws, needs)
 
--- src/statements.rt:51:1
 same-length-9 : tie.Need-same-length-9
 same-length-9 c = search needs
 
--- src/statements.rt:51:1
 same-length-10 : tie.Need-same-length-10
 same-length-10 c = search needs
 
--- src/statements.rt:51:1
 returns-6 : tie.Need-returns-6
 returns-6 c = search (code-laws, begin-laws, needs)
 
--- src/statements.rt:51:1
 same-length-11 : tie.Need-same-length-11
 same-length-11 c = search needs
 
--- src/statements.rt:51:1
 same-length-12 : tie.Need-same-length-12
 same-length-12 c = search needs
 
--- src/statements.rt:51:1
 returns-7 : tie.Need-returns-7
 returns-7 c = search (code-laws, begin-laws, needs)
 

@@ -8,23 +8,18 @@ use Rattle.expr_terms.proofs.answers.after.Reads as after-reads
 use Rattle.stmt_branches.proofs.BranchLaws.{branch-laws}
 use Rattle.stmt_branches.proofs.BranchLaws.{after-integer}
 
--- src/branches.rt:85:8
 byte-requires : tie.Need-byte-requires
 byte-requires c κs = search needs
 
--- src/branches.rt:86:9
 after-requires : tie.Need-after-requires
 after-requires c κs = search needs
 
--- src/branches.rt:86:9
 returns : tie.Need-returns
 returns c = search (branch-laws, needs)
 
--- src/branches.rt:88:5
 after-requires-2 : tie.Need-after-requires-2
 after-requires-2 c κs = search needs
 
--- src/branches.rt:82:1
 returns-2 : tie.Need-returns-2
 returns-2 c = after-integer _ _ _ (c .before .before .byte .ensures) _ (c .before .if1 .left) (c .after2 .ensures)
 

@@ -8,31 +8,24 @@ use Rattle.expr_reading.proofs.read.constant.Reads as constant-reads
 use Rattle.stmt_branches.proofs.branches.resolve_branch.Reads as resolve-branch-reads
 use Rattle.stmt_branches.proofs.BranchLaws.{branch-laws}
 
--- src/branches.rt:156:38
 after-requires : tie.Need-after-requires
 after-requires c κs = search needs
 
--- src/branches.rt:156:53
 constant-requires : tie.Need-constant-requires
 constant-requires c κs = search needs
 
--- src/branches.rt:156:5
 resolve-branch-requires : tie.Need-resolve-branch-requires
 resolve-branch-requires c κs = search needs
 
--- src/branches.rt:153:1
 same-length : tie.Need-same-length
 same-length c = search needs
 
--- src/branches.rt:153:1
 same-length-2 : tie.Need-same-length-2
 same-length-2 c = search needs
 
--- src/branches.rt:153:1
 same-length-3 : tie.Need-same-length-3
 same-length-3 c = search needs
 
--- src/branches.rt:153:1
 returns : tie.Need-returns
 returns c = search (branch-laws, needs)
 

@@ -10,35 +10,27 @@ use Rattle.stmt_branches.proofs.labels.labelled.Reads as labelled-reads
 use Rattle.stmt_walk.proofs.walk.pushed_then.Reads as pushed-then-reads
 use Rattle.stmt_branches.proofs.BranchLaws.{branch-laws}
 
--- src/branches.rt:56:9
 labelled-requires : tie.Need-labelled-requires
 labelled-requires c κs = search needs
 
--- src/branches.rt:57:51
 no-output-requires : tie.Need-no-output-requires
 no-output-requires c κs = search needs
 
--- src/branches.rt:57:70
 constant-requires : tie.Need-constant-requires
 constant-requires c κs = search needs
 
--- src/branches.rt:57:17
 push-op-requires : tie.Need-push-op-requires
 push-op-requires c κs = search needs
 
--- src/branches.rt:57:5
 pushed-then-requires : tie.Need-pushed-then-requires
 pushed-then-requires c κs = search needs
 
--- src/branches.rt:53:1
 same-length : tie.Need-same-length
 same-length c = search needs
 
--- src/branches.rt:53:1
 same-length-2 : tie.Need-same-length-2
 same-length-2 c = search needs
 
--- src/branches.rt:53:1
 returns : tie.Need-returns
 returns c = search (branch-laws, needs)
 

@@ -10,35 +10,27 @@ use Rattle.list_values.proofs.value.no_output.Reads as no-output-reads
 use Rattle.stmt_walk.proofs.walk.pushed_then.Reads as pushed-then-reads
 use Rattle.stmt_branches.proofs.BranchLaws.{branch-laws}
 
--- src/branches.rt:49:9
 byte-requires : tie.Need-byte-requires
 byte-requires c κs = search needs
 
--- src/branches.rt:50:55
 no-output-requires : tie.Need-no-output-requires
 no-output-requires c κs = search needs
 
--- src/branches.rt:50:17
 push-op-requires : tie.Need-push-op-requires
 push-op-requires c κs = search needs
 
--- src/branches.rt:50:88
 after-requires : tie.Need-after-requires
 after-requires c κs = search needs
 
--- src/branches.rt:50:5
 pushed-then-requires : tie.Need-pushed-then-requires
 pushed-then-requires c κs = search needs
 
--- src/branches.rt:46:1
 same-length : tie.Need-same-length
 same-length c = search needs
 
--- src/branches.rt:46:1
 same-length-2 : tie.Need-same-length-2
 same-length-2 c = search needs
 
--- src/branches.rt:46:1
 returns : tie.Need-returns
 returns c = search (branch-laws, needs)
 

@@ -8,35 +8,27 @@ use Rattle.stmt_branches.proofs.branches.direct_address.Reads as direct
 use Rattle.stmt_walk.proofs.walk.stop.Reads as stop-reads
 use Rattle.stmt_branches.proofs.BranchLaws.{branch-laws}
 
--- src/branches.rt:110:26
 enum-known-expr : tie.Need-enum-known-expr
 enum-known-expr c = search needs
 
--- src/branches.rt:110:63
 direct-address-requires : tie.Need-direct-address-requires
 direct-address-requires c κs = search needs
 
--- src/branches.rt:110:32
 branch-to-requires : tie.Need-branch-to-requires
 branch-to-requires c κs = search needs
 
--- src/branches.rt:111:14
 stop-requires : tie.Need-stop-requires
 stop-requires c κs = search needs
 
--- src/branches.rt:106:1
 same-length : tie.Need-same-length
 same-length c = search needs
 
--- src/branches.rt:106:1
 same-length-2 : tie.Need-same-length-2
 same-length-2 c = search needs
 
--- src/branches.rt:106:1
 returns : tie.Need-returns
 returns c = search (branch-laws, needs)
 
--- src/branches.rt:106:1
 returns-2 : tie.Need-returns-2
 returns-2 c = search (branch-laws, needs)
 

@@ -5,11 +5,9 @@ use Rattle.stmt_branches.proofs.branches.direct_address.Lts as lts
 use borrow.Author.Needs.{needs}
 use Rattle.stmt_branches.proofs.BranchLaws.{branch-laws}
 
--- src/branches.rt:96:9
 returns : tie.Need-returns
 returns c = search (branch-laws, needs)
 
--- src/branches.rt:92:1
 returns-2 : tie.Need-returns-2
 returns-2 c = search (branch-laws, needs)
 

@@ -8,47 +8,36 @@ use Rattle.stmt_branches.proofs.branches.branch_to.Reads as branch-to-r
 use Rattle.stmt_walk.proofs.walk.stop.Reads as stop-reads
 use Rattle.stmt_branches.proofs.BranchLaws.{branch-laws}
 
--- src/branches.rt:118:11
 read-operand-requires : tie.Need-read-operand-requires
 read-operand-requires c κs = search needs
 
--- src/branches.rt:119:18
 enum-known-n : tie.Need-enum-known-n
 enum-known-n c = search needs
 
--- src/branches.rt:119:24
 stop-requires : tie.Need-stop-requires
 stop-requires c κs = search needs
 
--- src/branches.rt:120:23
 enum-known-v : tie.Need-enum-known-v
 enum-known-v c = search needs
 
--- src/branches.rt:120:39
 branch-to-requires : tie.Need-branch-to-requires
 branch-to-requires c κs = search needs
 
--- src/branches.rt:115:1
 same-length : tie.Need-same-length
 same-length c = search needs
 
--- src/branches.rt:115:1
 same-length-2 : tie.Need-same-length-2
 same-length-2 c = search needs
 
--- src/branches.rt:115:1
 returns : tie.Need-returns
 returns c = search (branch-laws, needs)
 
--- src/branches.rt:115:1
 same-length-3 : tie.Need-same-length-3
 same-length-3 c = search needs
 
--- src/branches.rt:115:1
 same-length-4 : tie.Need-same-length-4
 same-length-4 c = search needs
 
--- src/branches.rt:115:1
 returns-2 : tie.Need-returns-2
 returns-2 c = search (branch-laws, needs)
 

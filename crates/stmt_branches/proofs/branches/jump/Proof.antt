@@ -11,55 +11,42 @@ use Rattle.stmt_branches.proofs.branches.jump_value.Reads as jump-value
 use Rattle.stmt_walk.proofs.walk.stop.Reads as stop-reads
 use Rattle.stmt_branches.proofs.BranchLaws.{branch-laws}
 
--- src/branches.rt:136:9
 after-requires : tie.Need-after-requires
 after-requires c κs = search needs
 
--- src/branches.rt:137:9
 byte-requires : tie.Need-byte-requires
 byte-requires c κs = search needs
 
--- src/branches.rt:138:11
 jump-value-requires : tie.Need-jump-value-requires
 jump-value-requires c κs = search needs
 
--- src/branches.rt:139:24
 enum-known-n : tie.Need-enum-known-n
 enum-known-n c = search needs
 
--- src/branches.rt:139:30
 stop-requires : tie.Need-stop-requires
 stop-requires c κs = search needs
 
--- src/branches.rt:140:24
 enum-known-x : tie.Need-enum-known-x
 enum-known-x c = search needs
 
--- src/branches.rt:140:68
 after-jump-requires : tie.Need-after-jump-requires
 after-jump-requires c κs = search needs
 
--- src/branches.rt:140:30
 jump-to-requires : tie.Need-jump-to-requires
 jump-to-requires c κs = search needs
 
--- src/branches.rt:133:1
 same-length : tie.Need-same-length
 same-length c = search needs
 
--- src/branches.rt:133:1
 returns : tie.Need-returns
 returns c = search (branch-laws, needs)
 
--- src/branches.rt:133:1
 same-length-2 : tie.Need-same-length-2
 same-length-2 c = search needs
 
--- src/branches.rt:133:1
 same-length-3 : tie.Need-same-length-3
 same-length-3 c = search needs
 
--- src/branches.rt:133:1
 returns-2 : tie.Need-returns-2
 returns-2 c = search (branch-laws, needs)
 

@@ -7,35 +7,27 @@ use Rattle.stmt_branches.proofs.branches.direct.Reads as direct-reads
 use Rattle.stmt_branches.proofs.branches.indirect.Reads as indirect-reads
 use Rattle.stmt_branches.proofs.BranchLaws.{branch-laws}
 
--- src/branches.rt:128:9
 direct-requires : tie.Need-direct-requires
 direct-requires c κs = search needs
 
--- src/branches.rt:128:9
 same-length : tie.Need-same-length
 same-length c = search needs
 
--- src/branches.rt:128:9
 same-length-2 : tie.Need-same-length-2
 same-length-2 c = search needs
 
--- src/branches.rt:128:9
 returns : tie.Need-returns
 returns c = search (branch-laws, needs)
 
--- src/branches.rt:130:5
 indirect-requires : tie.Need-indirect-requires
 indirect-requires c κs = search needs
 
--- src/branches.rt:124:1
 same-length-3 : tie.Need-same-length-3
 same-length-3 c = search needs
 
--- src/branches.rt:124:1
 same-length-4 : tie.Need-same-length-4
 same-length-4 c = search needs
 
--- src/branches.rt:124:1
 returns-2 : tie.Need-returns-2
 returns-2 c = search (branch-laws, needs)
 

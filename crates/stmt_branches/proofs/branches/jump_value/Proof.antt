@@ -11,35 +11,27 @@ use Rattle.access.proofs.u16_in.Reads as u16-in-reads
 use Rattle.stmt_branches.proofs.BranchLaws.{branch-laws}
 use Rattle.stmt_branches.proofs.BranchLaws.{jump-integer}
 
--- src/branches.rt:73:8
 byte-requires : tie.Need-byte-requires
 byte-requires c κs = search needs
 
--- src/branches.rt:74:49
 u16-in-requires : tie.Need-u16-in-requires
 u16-in-requires c κs = search needs
 
--- src/branches.rt:74:9
 resolve-ident-requires : tie.Need-resolve-ident-requires
 resolve-ident-requires c κs = search needs
 
--- src/branches.rt:74:9
 returns : tie.Need-returns
 returns c = search (branch-laws, needs)
 
--- src/branches.rt:77:33
 after-requires : tie.Need-after-requires
 after-requires c κs = search needs
 
--- src/branches.rt:77:16
 u64-at-requires : tie.Need-u64-at-requires
 u64-at-requires c κs = search needs
 
--- src/branches.rt:78:15
 u16-in-requires-2 : tie.Need-u16-in-requires-2
 u16-in-requires-2 c κs = search needs
 
--- src/branches.rt:70:1
 returns-2 : tie.Need-returns-2
 returns-2 c = jump-integer _ _ _ _ _ _ _ _ (c .before .before .before .before .byte .ensures) _ _ _ (c .before .before .before .if1 .left) (c .before .before .after .ensures) (c .before .u64-at .ensures) (c .u16-in2 .ensures)
 

@@ -10,55 +10,42 @@ use Rattle.stmt_branches.proofs.labels.resolve_label.Reads as resolve-l
 use Rattle.stmt_walk.proofs.walk.stop.Reads as stop-reads
 use Rattle.stmt_branches.proofs.BranchLaws.{branch-laws}
 
--- src/branches.rt:40:28
 u16-in-requires : tie.Need-u16-in-requires
 u16-in-requires c κs = search needs
 
--- src/branches.rt:40:11
 resolve-label-requires : tie.Need-resolve-label-requires
 resolve-label-requires c κs = search needs
 
--- src/branches.rt:41:19
 enum-known-n : tie.Need-enum-known-n
 enum-known-n c = search needs
 
--- src/branches.rt:41:25
 stop-requires : tie.Need-stop-requires
 stop-requires c κs = search needs
 
--- src/branches.rt:42:19
 enum-known-id : tie.Need-enum-known-id
 enum-known-id c = search needs
 
--- src/branches.rt:42:56
 after-requires : tie.Need-after-requires
 after-requires c κs = search needs
 
--- src/branches.rt:42:26
 push-label-requires : tie.Need-push-label-requires
 push-label-requires c κs = search needs
 
--- src/branches.rt:37:1
 same-length : tie.Need-same-length
 same-length c = search needs
 
--- src/branches.rt:37:1
 returns : tie.Need-returns
 returns c = search (branch-laws, needs)
 
--- src/branches.rt:37:1
 same-length-2 : tie.Need-same-length-2
 same-length-2 c = search needs
 
--- src/branches.rt:37:1
 same-length-3 : tie.Need-same-length-3
 same-length-3 c = search needs
 
--- src/branches.rt:37:1
 same-length-4 : tie.Need-same-length-4
 same-length-4 c = search needs
 
--- src/branches.rt:37:1
 returns-2 : tie.Need-returns-2
 returns-2 c = search (branch-laws, needs)
 

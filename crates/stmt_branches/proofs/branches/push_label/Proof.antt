@@ -10,39 +10,30 @@ use Rattle.stmt_branches.proofs.labels.labelled.Reads as labelled-reads
 use Rattle.stmt_walk.proofs.walk.pushed_then.Reads as pushed-then-reads
 use Rattle.stmt_branches.proofs.BranchLaws.{branch-laws}
 
--- src/branches.rt:33:9
 labelled-requires : tie.Need-labelled-requires
 labelled-requires c κs = search needs
 
--- src/branches.rt:34:51
 no-output-requires : tie.Need-no-output-requires
 no-output-requires c κs = search needs
 
--- src/branches.rt:34:64
 absent-requires : tie.Need-absent-requires
 absent-requires c κs = search needs
 
--- src/branches.rt:34:74
 absent-requires-2 : tie.Need-absent-requires-2
 absent-requires-2 c κs = search needs
 
--- src/branches.rt:34:17
 push-op-requires : tie.Need-push-op-requires
 push-op-requires c κs = search needs
 
--- src/branches.rt:34:5
 pushed-then-requires : tie.Need-pushed-then-requires
 pushed-then-requires c κs = search needs
 
--- src/branches.rt:30:1
 same-length : tie.Need-same-length
 same-length c = search needs
 
--- src/branches.rt:30:1
 same-length-2 : tie.Need-same-length-2
 same-length-2 c = search needs
 
--- src/branches.rt:30:1
 returns : tie.Need-returns
 returns c = search (branch-laws, needs)
 

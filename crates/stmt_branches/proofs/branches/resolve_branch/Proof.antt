@@ -8,43 +8,33 @@ use Rattle.stmt_branches.proofs.branches.jump.Reads as jump-reads
 use Rattle.stmt_branches.proofs.branches.label_branch.Reads as label-branch-reads
 use Rattle.stmt_branches.proofs.BranchLaws.{branch-laws, to-jump}
 
--- src/branches.rt:291:8
 byte-requires : tie.Need-byte-requires
 byte-requires c κs = search needs
 
--- src/branches.rt:292:9
 label-branch-requires : tie.Need-label-branch-requires
 label-branch-requires c κs = search needs
 
--- src/branches.rt:292:9
 same-length : tie.Need-same-length
 same-length c = search needs
 
--- src/branches.rt:292:9
 same-length-2 : tie.Need-same-length-2
 same-length-2 c = search needs
 
--- src/branches.rt:292:9
 same-length-3 : tie.Need-same-length-3
 same-length-3 c = search needs
 
--- src/branches.rt:292:9
 returns : tie.Need-returns
 returns c = search (branch-laws, needs)
 
--- src/branches.rt:294:5
 jump-requires : tie.Need-jump-requires
 jump-requires c κs = search needs
 
--- src/branches.rt:276:1
 same-length-4 : tie.Need-same-length-4
 same-length-4 c = search needs
 
--- src/branches.rt:276:1
 same-length-5 : tie.Need-same-length-5
 same-length-5 c = search needs
 
--- src/branches.rt:276:1
 returns-2 : tie.Need-returns-2
 returns-2 c = to-jump _ _ _ _ _ _ _ _ _ _ _ _ (c .before .before .before .before .before .before .before .before .byte .ensures) _ _ _ (c .before .before .before .before .before .before .before .if1 .left) (c .before .before .before .before .jump .ensures)
 

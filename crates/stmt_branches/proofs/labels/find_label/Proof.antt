@@ -16,31 +16,24 @@ Inv-loop p n key i₀ i = findLabel (n - i) i p key ≡ findLabel n 0 p key
 abbrev μ-loop : tie.MeasureT-loop
 μ-loop p n key i₀ i = n - i
 
--- src/labels.rt:19:5
 loop-holds : tie.Need-loop-holds Inv-loop μ-loop
 loop-holds c = find-start _ _ _
 
--- src/labels.rt:20:12
 get-requires : tie.Need-get-requires Inv-loop μ-loop
 get-requires c κs = search needs
 
--- src/labels.rt:21:13
 returns : tie.Need-returns Inv-loop μ-loop
 returns c = find-hit _ _ _ _ _ _ (c .before .before .loop-test .taken) (c .before .get .ensures) (c .if1 .taken) (c .before .before .before .loop .inv)
 
--- src/labels.rt:23:9
 add-i : tie.Need-add-i Inv-loop μ-loop
 add-i c = omega arith
 
--- src/labels.rt:19:5
 loop-less : tie.Need-loop-less Inv-loop μ-loop
 loop-less c = omega arith
 
--- src/labels.rt:19:5
 loop-again : tie.Need-loop-again Inv-loop μ-loop
 loop-again c = find-miss _ _ _ _ _ _ (c .before .before .loop-test .taken) (c .before .get .ensures) (c .if1 .left) (c .before .before .before .loop .inv)
 
--- src/labels.rt:15:1
 returns-2 : tie.Need-returns-2 Inv-loop μ-loop
 returns-2 c = find-end _ _ _ _ _ (c .loop-test .left) (c .before .loop .inv)
 

@@ -8,39 +8,30 @@ use Rattle.stmt_branches.proofs.labels.find_label.Reads as find-label-r
 use Rattle.stmt_branches.proofs.labels.key.Reads as key-reads
 use Rattle.stmt_branches.proofs.LabelLaws.{label-laws}
 
--- src/labels.rt:38:9
 key-requires : tie.Need-key-requires
 key-requires c κs = search needs
 
--- src/labels.rt:39:9
 find-label-requires : tie.Need-find-label-requires
 find-label-requires c κs = search needs
 
--- src/labels.rt:41:9
 same-length : tie.Need-same-length
 same-length c = search needs
 
--- src/labels.rt:41:9
 returns : tie.Need-returns
 returns c = search (label-laws, needs)
 
--- src/labels.rt:44:9
 same-length-2 : tie.Need-same-length-2
 same-length-2 c = search needs
 
--- src/labels.rt:44:9
 returns-2 : tie.Need-returns-2
 returns-2 c = search (label-laws, needs)
 
--- src/labels.rt:46:5
 put-requires : tie.Need-put-requires
 put-requires c κs = search (label-laws, needs)
 
--- src/labels.rt:35:1
 same-length-3 : tie.Need-same-length-3
 same-length-3 c = search needs
 
--- src/labels.rt:35:1
 returns-3 : tie.Need-returns-3
 returns-3 c = search (label-laws, needs)
 

@@ -5,15 +5,12 @@ use Rattle.stmt_branches.proofs.labels.key.Reads as reads
 use Rattle.stmt_branches.proofs.labels.key.Lts as lts
 use Rattle.stmt_branches.proofs.LabelLaws.{label-laws}
 
--- src/labels.rt:33:20
 mul-result : tie.Need-mul-result
 mul-result c = search needs
 
--- src/labels.rt:33:5
 add-result : tie.Need-add-result
 add-result c = search needs
 
--- src/labels.rt:30:1
 returns : tie.Need-returns
 returns c = search (label-laws, needs)
 

@@ -7,15 +7,12 @@ use Rattle.stmt_branches.proofs.labels.labels_after.Reads as labels-aft
 use Rattle.std.proofs.num.wrapping_add_u64.Reads as wrapping-add-u64-reads
 use Rattle.stmt_branches.proofs.LabelLaws.{label-laws}
 
--- src/labels.rt:86:9
 labels-after-requires : tie.Need-labels-after-requires
 labels-after-requires c κs = search needs
 
--- src/labels.rt:87:9
 wrapping-add-u64-requires : tie.Need-wrapping-add-u64-requires
 wrapping-add-u64-requires c κs = search needs
 
--- src/labels.rt:82:1
 returns : tie.Need-returns
 returns c = search (label-laws, needs)
 

@@ -6,15 +6,12 @@ use Rattle.stmt_branches.proofs.labels.labels_after.Lts as lts
 use Rattle.std.proofs.num.wrapping_add_u64.Reads as wrapping-add-u64-reads
 use Rattle.stmt_branches.proofs.LabelLaws.{label-laws}
 
--- src/labels.rt:76:9
 returns : tie.Need-returns
 returns c = search (label-laws, needs)
 
--- src/labels.rt:78:5
 wrapping-add-u64-requires : tie.Need-wrapping-add-u64-requires
 wrapping-add-u64-requires c κs = search needs
 
--- src/labels.rt:72:1
 returns-2 : tie.Need-returns-2
 returns-2 c = search (label-laws, needs)
 

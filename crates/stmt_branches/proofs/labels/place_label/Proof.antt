@@ -8,35 +8,27 @@ use Rattle.access.proofs.put.Reads as put-reads
 use Rattle.stmt_branches.proofs.labels.key.Reads as key-reads
 use Rattle.stmt_branches.proofs.LabelLaws.{label-laws}
 
--- src/labels.rt:53:22
 get-requires : tie.Need-get-requires
 get-requires c κs = search (label-laws, needs)
 
--- src/labels.rt:54:9
 same-length : tie.Need-same-length
 same-length c = search needs
 
--- src/labels.rt:54:9
 returns : tie.Need-returns
 returns c = search (label-laws, needs)
 
--- src/labels.rt:56:45
 key-requires : tie.Need-key-requires
 key-requires c κs = search needs
 
--- src/labels.rt:56:32
 add-put : tie.Need-add-put
 add-put c = search (label-laws, needs)
 
--- src/labels.rt:56:5
 put-requires : tie.Need-put-requires
 put-requires c κs = search (label-laws, needs)
 
--- src/labels.rt:50:1
 same-length-2 : tie.Need-same-length-2
 same-length-2 c = search needs
 
--- src/labels.rt:50:1
 returns-2 : tie.Need-returns-2
 returns-2 c = search (label-laws, needs)
 

@@ -21,43 +21,33 @@ Inv-loop s args₀ names n i₀ args i = (length args ≡ length args₀) × (ru
 abbrev μ-loop : tie.MeasureT-loop
 μ-loop s args₀ names n i₀ args i = n - i
 
--- src/calls.rt:212:5
 loop-holds : tie.Need-loop-holds Inv-loop μ-loop
 loop-holds c = (refl, run-start _ _ _)
 
--- src/calls.rt:213:37
 mul-u16-in : tie.Need-mul-u16-in Inv-loop μ-loop
 mul-u16-in c = search needs
 
--- src/calls.rt:213:13
 u16-in-requires : tie.Need-u16-in-requires Inv-loop μ-loop
 u16-in-requires c κs = search needs
 
--- src/calls.rt:214:19
 param-place-requires : tie.Need-param-place-requires Inv-loop μ-loop
 param-place-requires c κs = search needs
 
--- src/calls.rt:214:9
 put-requires : tie.Need-put-requires Inv-loop μ-loop
 put-requires c κs = search needs
 
--- src/calls.rt:212:9
 add-i : tie.Need-add-i Inv-loop μ-loop
 add-i c = omega arith
 
--- src/calls.rt:212:5
 loop-less : tie.Need-loop-less Inv-loop μ-loop
 loop-less c = omega arith
 
--- src/calls.rt:212:5
 loop-again : tie.Need-loop-again Inv-loop μ-loop
 loop-again c = (search needs, run-again _ _ _ _ _ _ (omega arith) (c .before .before .before .before .before .before .before .loop .inv .1) (bind-name-law _ _ _ _ _ _ _ (c .before .before .before .before .before .u16-in .ensures) (c .before .before .before .param-place .ensures) (c .before .before .put .ensures)))
 
--- src/calls.rt:209:1
 same-length : tie.Need-same-length Inv-loop μ-loop
 same-length c = search needs
 
--- src/calls.rt:209:1
 returns : tie.Need-returns Inv-loop μ-loop
 returns c = bind-names-law _ _ _ _ _ _ (omega arith) (c .before .loop .inv .1)
 

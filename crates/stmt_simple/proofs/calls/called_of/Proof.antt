@@ -9,23 +9,18 @@ use Rattle.stmt_simple.proofs.calls.symbol_of.Reads as symbol-of-reads
 use Rattle.stmt_simple.proofs.CallLaws.{call-laws}
 use Rattle.stmt_simple.proofs.CallLaws.{called-symbol}
 
--- src/calls.rt:70:16
 u16-at-requires : tie.Need-u16-at-requires
 u16-at-requires c κs = search needs
 
--- src/calls.rt:71:9
 returns : tie.Need-returns
 returns c = search (call-laws, needs)
 
--- src/calls.rt:73:15
 global-requires : tie.Need-global-requires
 global-requires c κs = search needs
 
--- src/calls.rt:73:5
 symbol-of-requires : tie.Need-symbol-of-requires
 symbol-of-requires c κs = search needs
 
--- src/calls.rt:67:1
 returns-2 : tie.Need-returns-2
 returns-2 c = called-symbol _ _ _ _ (c .before .before .before .u16-at .ensures) _ _ (c .before .before .if1 .left) (c .before .global .ensures .0) (c .symbol-of .ensures)
 

@@ -7,19 +7,15 @@ use Rattle.access.proofs.byte.Reads as byte-reads
 use Rattle.stmt_simple.proofs.calls.macro_at.Reads as macro-at-reads
 use Rattle.stmt_simple.proofs.CallLaws.{counted-same, counted-other}
 
--- src/calls.rt:183:23
 macro-at-requires : tie.Need-macro-at-requires
 macro-at-requires c κs = search needs
 
--- src/calls.rt:183:8
 byte-requires : tie.Need-byte-requires
 byte-requires c κs = search needs
 
--- src/calls.rt:184:9
 returns : tie.Need-returns
 returns c = counted-same _ _ _ _ _ _ _ _ (c .before .before .macro-at .ensures) (c .before .byte .ensures) (c .if1 .taken)
 
--- src/calls.rt:180:1
 returns-2 : tie.Need-returns-2
 returns-2 c = counted-other _ _ _ _ _ _ _ _ (c .before .before .macro-at .ensures) (c .before .byte .ensures) (c .if1 .left)
 

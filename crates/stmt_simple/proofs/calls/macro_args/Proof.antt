@@ -10,67 +10,51 @@ use Rattle.stmt_simple.proofs.calls.counted.Reads as counted-reads
 use Rattle.stmt_simple.proofs.calls.macro_at.Reads as macro-at-reads
 use Rattle.stmt_simple.proofs.CallLaws.{call-laws}
 
--- src/calls.rt:244:37
 after-requires : tie.Need-after-requires
 after-requires c κs = search needs
 
--- src/calls.rt:244:11
 resolve-args-requires : tie.Need-resolve-args-requires
 resolve-args-requires c κs = search needs
 
--- src/calls.rt:245:18
 enum-known-k : tie.Need-enum-known-k
 enum-known-k c = search needs
 
--- src/calls.rt:246:22
 enum-known-next : tie.Need-enum-known-next
 enum-known-next c = search needs
 
--- src/calls.rt:247:39
 macro-at-requires : tie.Need-macro-at-requires
 macro-at-requires c κs = search (call-laws, needs)
 
--- src/calls.rt:247:33
 after-requires-2 : tie.Need-after-requires-2
 after-requires-2 c κs = search (call-laws, needs)
 
--- src/calls.rt:247:13
 bind-names-requires : tie.Need-bind-names-requires
 bind-names-requires c κs = search (call-laws, needs)
 
--- src/calls.rt:248:13
 counted-requires : tie.Need-counted-requires
 counted-requires c κs = search needs
 
--- src/calls.rt:229:1
 same-length : tie.Need-same-length
 same-length c = search needs
 
--- src/calls.rt:229:1
 same-length-2 : tie.Need-same-length-2
 same-length-2 c = search needs
 
--- src/calls.rt:229:1
 same-length-3 : tie.Need-same-length-3
 same-length-3 c = search needs
 
--- src/calls.rt:229:1
 returns : tie.Need-returns
 returns c = search (call-laws, needs)
 
--- src/calls.rt:229:1
 same-length-4 : tie.Need-same-length-4
 same-length-4 c = search needs
 
--- src/calls.rt:229:1
 same-length-5 : tie.Need-same-length-5
 same-length-5 c = search needs
 
--- src/calls.rt:229:1
 same-length-6 : tie.Need-same-length-6
 same-length-6 c = search needs
 
--- src/calls.rt:229:1
 returns-2 : tie.Need-returns-2
 returns-2 c = search (call-laws, needs)
 

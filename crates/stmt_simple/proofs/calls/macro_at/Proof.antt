@@ -6,19 +6,15 @@ use Rattle.stmt_simple.proofs.calls.macro_at.Lts as lts
 use Rattle.access.proofs.get_u16.Reads as get-u16-reads
 use Rattle.stmt_simple.proofs.CallLaws.{call-laws}
 
--- src/calls.rt:176:23
 add-get-u16 : tie.Need-add-get-u16
 add-get-u16 c = search needs
 
--- src/calls.rt:176:5
 get-u16-requires : tie.Need-get-u16-requires
 get-u16-requires c κs = search needs
 
--- src/calls.rt:176:5
 cast-result : tie.Need-cast-result
 cast-result c = search needs
 
--- src/calls.rt:173:1
 returns : tie.Need-returns
 returns c = search (call-laws, needs)
 

@@ -8,39 +8,30 @@ use Rattle.stmt_simple.proofs.calls.user_op_statement.Reads as user-op-
 use Rattle.stmt_walk.proofs.walk.stop.Reads as stop-reads
 use Rattle.stmt_simple.proofs.CallLaws.{call-laws}
 
--- src/calls.rt:195:14
 delay-slot-requires : tie.Need-delay-slot-requires
 delay-slot-requires c κs = search needs
 
--- src/calls.rt:196:14
 user-op-statement-requires : tie.Need-user-op-statement-requires
 user-op-statement-requires c κs = search needs
 
--- src/calls.rt:197:14
 stop-requires : tie.Need-stop-requires
 stop-requires c κs = search needs
 
--- src/calls.rt:179:1
 same-length : tie.Need-same-length
 same-length c = search needs
 
--- src/calls.rt:179:1
 returns : tie.Need-returns
 returns c = search (call-laws, needs)
 
--- src/calls.rt:179:1
 same-length-2 : tie.Need-same-length-2
 same-length-2 c = search needs
 
--- src/calls.rt:179:1
 same-length-3 : tie.Need-same-length-3
 same-length-3 c = search needs
 
--- src/calls.rt:179:1
 returns-2 : tie.Need-returns-2
 returns-2 c = search (call-laws, needs)
 
--- src/calls.rt:179:1
 returns-3 : tie.Need-returns-3
 returns-3 c = search (call-laws, needs)
 

@@ -9,47 +9,36 @@ use Rattle.list_values.proofs.value.no_output.Reads as no-output-reads
 use Rattle.stmt_simple.proofs.calls.write_inputs.Reads as write-inputs-reads
 use Rattle.stmt_simple.proofs.CallLaws.{call-laws}
 
--- src/calls.rt:115:33
 no-output-requires : tie.Need-no-output-requires
 no-output-requires c κs = search needs
 
--- src/calls.rt:115:46
 absent-requires : tie.Need-absent-requires
 absent-requires c κs = search needs
 
--- src/calls.rt:115:56
 absent-requires-2 : tie.Need-absent-requires-2
 absent-requires-2 c κs = search needs
 
--- src/calls.rt:115:11
 push-requires : tie.Need-push-requires
 push-requires c κs = search needs
 
--- src/calls.rt:116:20
 enum-known-k : tie.Need-enum-known-k
 enum-known-k c = search needs
 
--- src/calls.rt:117:22
 enum-known-st1 : tie.Need-enum-known-st1
 enum-known-st1 c = search needs
 
--- src/calls.rt:118:13
 write-inputs-requires : tie.Need-write-inputs-requires
 write-inputs-requires c κs = search needs
 
--- src/calls.rt:112:1
 same-length : tie.Need-same-length
 same-length c = search needs
 
--- src/calls.rt:112:1
 returns : tie.Need-returns
 returns c = search (call-laws, needs)
 
--- src/calls.rt:112:1
 same-length-2 : tie.Need-same-length-2
 same-length-2 c = search needs
 
--- src/calls.rt:112:1
 returns-2 : tie.Need-returns-2
 returns-2 c = search (call-laws, needs)
 

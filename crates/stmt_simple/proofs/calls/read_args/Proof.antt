@@ -20,75 +20,57 @@ Inv-loop s t a₀ m₀ args₀ n e st₀ i₀ a m args st i = (length a ≡ leng
 abbrev μ-loop : tie.MeasureT-loop
 μ-loop s t a₀ m₀ args₀ n e st₀ i₀ a m args st i = n - i
 
--- src/calls.rt:100:5
 loop-holds : tie.Need-loop-holds Inv-loop μ-loop
 loop-holds c = (refl, refl, refl, args-start _ _ _ _ _ _ _ _)
 
--- src/calls.rt:101:43
 arg-at-requires : tie.Need-arg-at-requires Inv-loop μ-loop
 arg-at-requires c κs = search needs
 
--- src/calls.rt:101:15
 read-operand-requires : tie.Need-read-operand-requires Inv-loop μ-loop
 read-operand-requires c κs = search needs
 
--- src/calls.rt:102:22
 enum-known-k : tie.Need-enum-known-k Inv-loop μ-loop
 enum-known-k c = search needs
 
--- src/calls.rt:102:28
 same-length : tie.Need-same-length Inv-loop μ-loop
 same-length c = search needs
 
--- src/calls.rt:102:28
 same-length-2 : tie.Need-same-length-2 Inv-loop μ-loop
 same-length-2 c = search needs
 
--- src/calls.rt:102:28
 same-length-3 : tie.Need-same-length-3 Inv-loop μ-loop
 same-length-3 c = search needs
 
--- src/calls.rt:102:28
 returns : tie.Need-returns Inv-loop μ-loop
 returns c = args-stop _ _ _ _ _ _ _ _ _ _ (c .before .before .before .before .before .before .before .before .before .before .before .before .loop-test .taken) (c .before .before .before .before .before .before .before .before .before .before .before .before .before .loop .inv .3) _ (c .before .before .before .before .before .before .before .before .arg-at .ensures) _ _ _ (c .before .before .before .before .before .before .before .read-operand .ensures) _ (search needs)
 
--- src/calls.rt:103:27
 enum-known-v : tie.Need-enum-known-v Inv-loop μ-loop
 enum-known-v c = search needs
 
--- src/calls.rt:104:33
 param-place-requires : tie.Need-param-place-requires Inv-loop μ-loop
 param-place-requires c κs = search needs
 
--- src/calls.rt:104:17
 put-value-requires : tie.Need-put-value-requires Inv-loop μ-loop
 put-value-requires c κs = search needs
 
--- src/calls.rt:100:9
 add-i : tie.Need-add-i Inv-loop μ-loop
 add-i c = omega (arith, c .before .before .before .before .before .before .before .before .before .before .before .before .before .before .before .before .before .loop-test .taken, c .before .before .before .before .before .before .before .before .before .before .before .before .before .before .before .before .before .before .before .before .before .before .before .fits)
 
--- src/calls.rt:100:5
 loop-less : tie.Need-loop-less Inv-loop μ-loop
 loop-less c = omega arith
 
--- src/calls.rt:100:5
 loop-again : tie.Need-loop-again Inv-loop μ-loop
 loop-again c = (search needs, search needs, search needs, args-next _ _ _ _ _ _ _ _ _ _ (c .before .before .before .before .before .before .before .before .before .before .before .before .before .before .before .before .before .loop-test .taken) (c .before .before .before .before .before .before .before .before .before .before .before .before .before .before .before .before .before .before .loop .inv .3) _ (c .before .before .before .before .before .before .before .before .before .before .before .before .before .arg-at .ensures) _ _ _ (c .before .before .before .before .before .before .before .before .before .before .before .before .read-operand .ensures) _ _ _ _ (search needs) (c .before .before .before .param-place .ensures) (c .before .before .put-value .ensures))
 
--- src/calls.rt:87:1
 same-length-4 : tie.Need-same-length-4 Inv-loop μ-loop
 same-length-4 c = search needs
 
--- src/calls.rt:87:1
 same-length-5 : tie.Need-same-length-5 Inv-loop μ-loop
 same-length-5 c = search needs
 
--- src/calls.rt:87:1
 same-length-6 : tie.Need-same-length-6 Inv-loop μ-loop
 same-length-6 c = search needs
 
--- src/calls.rt:87:1
 returns-2 : tie.Need-returns-2 Inv-loop μ-loop
 returns-2 c = args-end _ _ _ _ _ _ _ _ _ _ (c .loop-test .left) (c .before .loop .inv .3)
 

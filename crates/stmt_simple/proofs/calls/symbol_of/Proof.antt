@@ -5,35 +5,27 @@ use Rattle.stmt_simple.proofs.calls.symbol_of.Reads as reads
 use Rattle.stmt_simple.proofs.calls.symbol_of.Lts as lts
 use Rattle.stmt_simple.proofs.CallLaws.{call-laws}
 
--- src/calls.rt:44:9
 returns : tie.Need-returns
 returns c = search (call-laws, needs)
 
--- src/calls.rt:49:9
 sub-if2 : tie.Need-sub-if2
 sub-if2 c = search needs
 
--- src/calls.rt:52:22
 sub-t5 : tie.Need-sub-t5
 sub-t5 c = search needs
 
--- src/calls.rt:50:9
 returns-2 : tie.Need-returns-2
 returns-2 c = search (call-laws, needs)
 
--- src/calls.rt:55:9
 sub-if3 : tie.Need-sub-if3
 sub-if3 c = search needs
 
--- src/calls.rt:58:22
 sub-t7 : tie.Need-sub-t7
 sub-t7 c = search needs
 
--- src/calls.rt:56:9
 returns-3 : tie.Need-returns-3
 returns-3 c = search (call-laws, needs)
 
--- src/calls.rt:40:1
 returns-4 : tie.Need-returns-4
 returns-4 c = search (call-laws, needs)
 

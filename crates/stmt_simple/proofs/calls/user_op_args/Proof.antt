@@ -7,51 +7,39 @@ use Rattle.stmt_simple.proofs.calls.push_user_op.Reads as push-user-op-
 use Rattle.stmt_simple.proofs.calls.read_args.Reads as read-args-reads
 use Rattle.stmt_simple.proofs.CallLaws.{call-laws}
 
--- src/calls.rt:147:11
 read-args-requires : tie.Need-read-args-requires
 read-args-requires c κs = search needs
 
--- src/calls.rt:148:20
 enum-known-k : tie.Need-enum-known-k
 enum-known-k c = search needs
 
--- src/calls.rt:149:22
 enum-known-st1 : tie.Need-enum-known-st1
 enum-known-st1 c = search needs
 
--- src/calls.rt:149:30
 push-user-op-requires : tie.Need-push-user-op-requires
 push-user-op-requires c κs = search needs
 
--- src/calls.rt:134:1
 same-length : tie.Need-same-length
 same-length c = search needs
 
--- src/calls.rt:134:1
 same-length-2 : tie.Need-same-length-2
 same-length-2 c = search needs
 
--- src/calls.rt:134:1
 same-length-3 : tie.Need-same-length-3
 same-length-3 c = search needs
 
--- src/calls.rt:134:1
 returns : tie.Need-returns
 returns c = search (call-laws, needs)
 
--- src/calls.rt:134:1
 same-length-4 : tie.Need-same-length-4
 same-length-4 c = search needs
 
--- src/calls.rt:134:1
 same-length-5 : tie.Need-same-length-5
 same-length-5 c = search needs
 
--- src/calls.rt:134:1
 same-length-6 : tie.Need-same-length-6
 same-length-6 c = search needs
 
--- src/calls.rt:134:1
 returns-2 : tie.Need-returns-2
 returns-2 c = search (call-laws, needs)
 

@@ -10,63 +10,48 @@ use Rattle.stmt_walk.proofs.walk.pushed_then.Reads as pushed-then-reads
 use Rattle.stmt_walk.proofs.walk.stop.Reads as stop-reads
 use Rattle.stmt_simple.proofs.CallLaws.{call-laws}
 
--- src/calls.rt:168:37
 after-requires : tie.Need-after-requires
 after-requires c κs = search needs
 
--- src/calls.rt:168:64
 slice-aggregate-resolve-args : tie.Need-slice-aggregate-resolve-args
 slice-aggregate-resolve-args c = search needs
 
--- src/calls.rt:168:11
 resolve-args-requires : tie.Need-resolve-args-requires
 resolve-args-requires c κs = search needs
 
--- src/calls.rt:169:18
 enum-known-k : tie.Need-enum-known-k
 enum-known-k c = search needs
 
--- src/calls.rt:169:24
 stop-requires : tie.Need-stop-requires
 stop-requires c κs = search needs
 
--- src/calls.rt:170:22
 enum-known-next : tie.Need-enum-known-next
 enum-known-next c = search needs
 
--- src/calls.rt:171:38
 slice-aggregate-user-op-args : tie.Need-slice-aggregate-user-op-args
 slice-aggregate-user-op-args c = search needs
 
--- src/calls.rt:171:13
 user-op-args-requires : tie.Need-user-op-args-requires
 user-op-args-requires c κs = search needs
 
--- src/calls.rt:170:36
 pushed-then-requires : tie.Need-pushed-then-requires
 pushed-then-requires c κs = search needs
 
--- src/calls.rt:153:1
 same-length : tie.Need-same-length
 same-length c = search needs
 
--- src/calls.rt:153:1
 same-length-2 : tie.Need-same-length-2
 same-length-2 c = search needs
 
--- src/calls.rt:153:1
 returns : tie.Need-returns
 returns c = search (call-laws, needs)
 
--- src/calls.rt:153:1
 same-length-3 : tie.Need-same-length-3
 same-length-3 c = search needs
 
--- src/calls.rt:153:1
 same-length-4 : tie.Need-same-length-4
 same-length-4 c = search needs
 
--- src/calls.rt:153:1
 returns-2 : tie.Need-returns-2
 returns-2 c = search (call-laws, needs)
 

@@ -21,47 +21,36 @@ Inv-loop a₀ at args n i₀ a i = (length a ≡ length a₀) × (run (n - i) i 
 abbrev μ-loop : tie.MeasureT-loop
 μ-loop a₀ at args n i₀ a i = n - i
 
--- src/calls.rt:106:5
 loop-holds : tie.Need-loop-holds Inv-loop μ-loop
 loop-holds c = (refl, run-start _ _ _)
 
--- src/calls.rt:107:32
 param-place-requires : tie.Need-param-place-requires Inv-loop μ-loop
 param-place-requires c κs = search needs
 
--- src/calls.rt:107:13
 value-at-requires : tie.Need-value-at-requires Inv-loop μ-loop
 value-at-requires c κs = search needs
 
--- src/calls.rt:108:30
 mul-put-value : tie.Need-mul-put-value Inv-loop μ-loop
 mul-put-value c = search needs
 
--- src/calls.rt:108:26
 add-put-value : tie.Need-add-put-value Inv-loop μ-loop
 add-put-value c = search needs
 
--- src/calls.rt:108:9
 put-value-requires : tie.Need-put-value-requires Inv-loop μ-loop
 put-value-requires c κs = search needs
 
--- src/calls.rt:106:9
 add-i : tie.Need-add-i Inv-loop μ-loop
 add-i c = omega arith
 
--- src/calls.rt:106:5
 loop-less : tie.Need-loop-less Inv-loop μ-loop
 loop-less c = omega arith
 
--- src/calls.rt:106:5
 loop-again : tie.Need-loop-again Inv-loop μ-loop
 loop-again c = (search needs, run-again _ _ _ _ _ _ (omega arith) (c .before .before .before .before .before .before .before .loop .inv .1) (input-law _ _ _ _ _ _ _ (c .before .before .before .before .before .param-place .ensures) (c .before .before .before .before .value-at .ensures) (c .before .before .put-value .ensures)))
 
--- src/calls.rt:103:1
 same-length : tie.Need-same-length Inv-loop μ-loop
 same-length c = search needs
 
--- src/calls.rt:103:1
 returns : tie.Need-returns Inv-loop μ-loop
 returns c = inputs-law _ _ _ _ _ _ (omega arith) (c .before .loop .inv .1)
 

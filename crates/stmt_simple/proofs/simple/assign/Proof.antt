@@ -9,51 +9,39 @@ use Rattle.stmt_walk.proofs.walk.read_then.Reads as read-then-reads
 use Rattle.stmt_walk.proofs.walk.stop.Reads as stop-reads
 use Rattle.stmt_simple.proofs.SimpleLaws.{simple-laws}
 
--- src/simple.rt:156:11
 resolve-expr-requires : tie.Need-resolve-expr-requires
 resolve-expr-requires c κs = search needs
 
--- src/simple.rt:157:18
 enum-known-n : tie.Need-enum-known-n
 enum-known-n c = search needs
 
--- src/simple.rt:157:24
 stop-requires : tie.Need-stop-requires
 stop-requires c κs = search needs
 
--- src/simple.rt:158:26
 enum-known-next : tie.Need-enum-known-next
 enum-known-next c = search (simple-laws, needs)
 
--- src/simple.rt:159:13
 read-value-requires : tie.Need-read-value-requires
 read-value-requires c κs = search needs
 
--- src/simple.rt:158:45
 read-then-requires : tie.Need-read-then-requires
 read-then-requires c κs = search needs
 
--- src/simple.rt:142:1
 same-length : tie.Need-same-length
 same-length c = search needs
 
--- src/simple.rt:142:1
 same-length-2 : tie.Need-same-length-2
 same-length-2 c = search needs
 
--- src/simple.rt:142:1
 returns : tie.Need-returns
 returns c = search (simple-laws, needs)
 
--- src/simple.rt:142:1
 same-length-3 : tie.Need-same-length-3
 same-length-3 c = search needs
 
--- src/simple.rt:142:1
 same-length-4 : tie.Need-same-length-4
 same-length-4 c = search needs
 
--- src/simple.rt:142:1
 returns-2 : tie.Need-returns-2
 returns-2 c = search (simple-laws, needs)
 

@@ -9,47 +9,36 @@ use Rattle.stmt_simple.proofs.simple.build_table.Reads as build-table-r
 use Rattle.stmt_walk.proofs.walk.stop.Reads as stop-reads
 use Rattle.stmt_simple.proofs.SimpleLaws.{simple-laws}
 
--- src/simple.rt:139:23
 u16-in-requires : tie.Need-u16-in-requires
 u16-in-requires c κs = search needs
 
--- src/simple.rt:139:9
 global-requires : tie.Need-global-requires
 global-requires c κs = search needs
 
--- src/simple.rt:141:9
 stop-requires : tie.Need-stop-requires
 stop-requires c κs = search needs
 
--- src/simple.rt:141:9
 returns : tie.Need-returns
 returns c = search (simple-laws, needs)
 
--- src/simple.rt:143:9
 sub-if2 : tie.Need-sub-if2
 sub-if2 c = search needs
 
--- src/simple.rt:144:9
 stop-requires-2 : tie.Need-stop-requires-2
 stop-requires-2 c κs = search needs
 
--- src/simple.rt:144:9
 returns-2 : tie.Need-returns-2
 returns-2 c = search (simple-laws, needs)
 
--- src/simple.rt:146:27
 sub-build-table : tie.Need-sub-build-table
 sub-build-table c = search needs
 
--- src/simple.rt:146:5
 build-table-requires : tie.Need-build-table-requires
 build-table-requires c κs = search needs
 
--- src/simple.rt:136:1
 same-length : tie.Need-same-length
 same-length c = search needs
 
--- src/simple.rt:136:1
 returns-3 : tie.Need-returns-3
 returns-3 c = search (simple-laws, needs)
 

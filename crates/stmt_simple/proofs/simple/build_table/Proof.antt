@@ -13,51 +13,39 @@ use Rattle.stmt_walk.proofs.walk.stop.Reads as stop-reads
 use Rattle.stmt_simple.proofs.SimpleLaws.{simple-laws}
 use Rattle.stmt_simple.proofs.SimpleLaws.{table-built}
 
--- src/simple.rt:128:9
 u16-at-requires : tie.Need-u16-at-requires
 u16-at-requires c κs = search needs
 
--- src/simple.rt:129:9
 find-subtable-requires : tie.Need-find-subtable-requires
 find-subtable-requires c κs = search needs
 
--- src/simple.rt:131:48
 absent-requires : tie.Need-absent-requires
 absent-requires c κs = search needs
 
--- src/simple.rt:131:58
 absent-requires-2 : tie.Need-absent-requires-2
 absent-requires-2 c κs = search needs
 
--- src/simple.rt:131:68
 absent-requires-3 : tie.Need-absent-requires-3
 absent-requires-3 c κs = search needs
 
--- src/simple.rt:131:28
 push-requires : tie.Need-push-requires
 push-requires c κs = search needs
 
--- src/simple.rt:131:85
 after-requires : tie.Need-after-requires
 after-requires c κs = search needs
 
--- src/simple.rt:131:9
 pushed-then-requires : tie.Need-pushed-then-requires
 pushed-then-requires c κs = search needs
 
--- src/simple.rt:131:9
 same-length : tie.Need-same-length
 same-length c = search needs
 
--- src/simple.rt:131:9
 returns : tie.Need-returns
 returns c = search (table-built, c .before .before .before .before .before .before .before .before .before .before .before .u16-at .ensures, c .before .before .before .before .before .before .before .before .before .before .find-subtable .ensures, c .before .before .before .before .before .before .before .before .before .if1 .taken, c .before .before .before .before .before .before .before .absent .ensures, c .before .before .before .before .before .before .absent2 .ensures, c .before .before .before .before .before .absent3 .ensures, c .before .before .before .before .push .ensures, c .before .after .ensures, c .pushed-then .ensures, needs)
 
--- src/simple.rt:133:5
 stop-requires : tie.Need-stop-requires
 stop-requires c κs = search needs
 
--- src/simple.rt:125:1
 returns-2 : tie.Need-returns-2
 returns-2 c = search (simple-laws, needs)
 

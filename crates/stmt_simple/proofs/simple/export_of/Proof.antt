@@ -8,47 +8,36 @@ use Rattle.stmt_simple.proofs.simple.export_value.Reads as export-value
 use Rattle.stmt_simple.proofs.simple.exported.Reads as exported-reads
 use Rattle.stmt_simple.proofs.SimpleLaws.{simple-laws}
 
--- src/simple.rt:67:29
 enum-known-expr : tie.Need-enum-known-expr
 enum-known-expr c = search needs
 
--- src/simple.rt:67:48
 exported-requires : tie.Need-exported-requires
 exported-requires c κs = search needs
 
--- src/simple.rt:68:34
 enum-known-expr-2 : tie.Need-enum-known-expr-2
 enum-known-expr-2 c = search needs
 
--- src/simple.rt:68:53
 exported-requires-2 : tie.Need-exported-requires-2
 exported-requires-2 c κs = search needs
 
--- src/simple.rt:69:27
 read-operand-requires : tie.Need-read-operand-requires
 read-operand-requires c κs = search needs
 
--- src/simple.rt:69:14
 export-value-requires : tie.Need-export-value-requires
 export-value-requires c κs = search needs
 
--- src/simple.rt:63:1
 returns : tie.Need-returns
 returns c = search (simple-laws, needs)
 
--- src/simple.rt:63:1
 returns-2 : tie.Need-returns-2
 returns-2 c = search (simple-laws, needs)
 
--- src/simple.rt:63:1
 same-length : tie.Need-same-length
 same-length c = search needs
 
--- src/simple.rt:63:1
 same-length-2 : tie.Need-same-length-2
 same-length-2 c = search needs
 
--- src/simple.rt:63:1
 returns-3 : tie.Need-returns-3
 returns-3 c = search (simple-laws, needs)
 

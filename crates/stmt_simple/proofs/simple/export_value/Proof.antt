@@ -7,27 +7,21 @@ use Rattle.stmt_simple.proofs.simple.exported.Reads as exported-reads
 use Rattle.stmt_walk.proofs.walk.stop.Reads as stop-reads
 use Rattle.stmt_simple.proofs.SimpleLaws.{simple-laws}
 
--- src/simple.rt:57:18
 enum-known-answer : tie.Need-enum-known-answer
 enum-known-answer c = search needs
 
--- src/simple.rt:57:24
 stop-requires : tie.Need-stop-requires
 stop-requires c κs = search needs
 
--- src/simple.rt:58:23
 enum-known-answer-2 : tie.Need-enum-known-answer-2
 enum-known-answer-2 c = search needs
 
--- src/simple.rt:58:34
 exported-requires : tie.Need-exported-requires
 exported-requires c κs = search needs
 
--- src/simple.rt:53:1
 returns : tie.Need-returns
 returns c = search (simple-laws, needs)
 
--- src/simple.rt:53:1
 returns-2 : tie.Need-returns-2
 returns-2 c = search (simple-laws, needs)
 

@@ -17,39 +17,30 @@ Inv-loop s t n table i₀ i = findSubtable (n - i) i s t table ≡ findSubtable 
 abbrev μ-loop : tie.MeasureT-loop
 μ-loop s t n table i₀ i = n - i
 
--- src/simple.rt:116:5
 loop-holds : tie.Need-loop-holds Inv-loop μ-loop
 loop-holds c = find-start _ _ _ _
 
--- src/simple.rt:117:34
 mul-entry : tie.Need-mul-entry Inv-loop μ-loop
 mul-entry c = search needs
 
--- src/simple.rt:117:22
 entry-requires : tie.Need-entry-requires Inv-loop μ-loop
 entry-requires c κs = search needs
 
--- src/simple.rt:117:12
 u16-in-requires : tie.Need-u16-in-requires Inv-loop μ-loop
 u16-in-requires c κs = search needs
 
--- src/simple.rt:118:13
 returns : tie.Need-returns Inv-loop μ-loop
 returns c = find-hit _ _ _ _ _ _ _ _ (c .before .before .before .loop-test .taken) (c .before .before .entry .ensures) (c .before .u16-in .ensures) (c .before .before .before .before .loop .inv) (c .if1 .taken)
 
--- src/simple.rt:120:9
 add-i : tie.Need-add-i Inv-loop μ-loop
 add-i c = omega arith
 
--- src/simple.rt:116:5
 loop-less : tie.Need-loop-less Inv-loop μ-loop
 loop-less c = omega arith
 
--- src/simple.rt:116:5
 loop-again : tie.Need-loop-again Inv-loop μ-loop
 loop-again c = find-miss _ _ _ _ _ _ _ _ (c .before .before .before .loop-test .taken) (c .before .before .entry .ensures) (c .before .u16-in .ensures) (c .before .before .before .before .loop .inv) (c .if1 .left)
 
--- src/simple.rt:112:1
 returns-2 : tie.Need-returns-2 Inv-loop μ-loop
 returns-2 c = find-end _ _ _ _ _ _ (c .loop-test .left) (c .before .loop .inv)
 

@@ -10,55 +10,42 @@ use Rattle.stmt_simple.proofs.simple.assign.Reads as assign-reads
 use Rattle.stmt_walk.proofs.walk.stop.Reads as stop-reads
 use Rattle.stmt_simple.proofs.SimpleLaws.{simple-laws}
 
--- src/simple.rt:178:9
 u16-in-requires : tie.Need-u16-in-requires
 u16-in-requires c κs = search needs
 
--- src/simple.rt:179:9
 u16-in-requires-2 : tie.Need-u16-in-requires-2
 u16-in-requires-2 c κs = search needs
 
--- src/simple.rt:180:11
 named-tmp-requires : tie.Need-named-tmp-requires
 named-tmp-requires c κs = search needs
 
--- src/simple.rt:181:18
 enum-known-n : tie.Need-enum-known-n
 enum-known-n c = search needs
 
--- src/simple.rt:181:24
 stop-requires : tie.Need-stop-requires
 stop-requires c κs = search needs
 
--- src/simple.rt:182:23
 enum-known-v : tie.Need-enum-known-v
 enum-known-v c = search needs
 
--- src/simple.rt:182:59
 after-requires : tie.Need-after-requires
 after-requires c κs = search needs
 
--- src/simple.rt:182:34
 assign-requires : tie.Need-assign-requires
 assign-requires c κs = search needs
 
--- src/simple.rt:166:1
 same-length : tie.Need-same-length
 same-length c = search needs
 
--- src/simple.rt:166:1
 returns : tie.Need-returns
 returns c = search (simple-laws, needs)
 
--- src/simple.rt:166:1
 same-length-2 : tie.Need-same-length-2
 same-length-2 c = search needs
 
--- src/simple.rt:166:1
 same-length-3 : tie.Need-same-length-3
 same-length-3 c = search needs
 
--- src/simple.rt:166:1
 returns-2 : tie.Need-returns-2
 returns-2 c = search (simple-laws, needs)
 

@@ -9,31 +9,24 @@ use Rattle.access.proofs.u16_in.Reads as u16-in-reads
 use Rattle.stmt_walk.proofs.walk.read_then.Reads as read-then-reads
 use Rattle.stmt_simple.proofs.SimpleLaws.{simple-laws}
 
--- src/simple.rt:85:9
 u16-in-requires : tie.Need-u16-in-requires
 u16-in-requires c κs = search needs
 
--- src/simple.rt:86:9
 u16-in-requires-2 : tie.Need-u16-in-requires-2
 u16-in-requires-2 c κs = search needs
 
--- src/simple.rt:87:15
 named-tmp-requires : tie.Need-named-tmp-requires
 named-tmp-requires c κs = search needs
 
--- src/simple.rt:87:53
 after-requires : tie.Need-after-requires
 after-requires c κs = search needs
 
--- src/simple.rt:87:5
 read-then-requires : tie.Need-read-then-requires
 read-then-requires c κs = search needs
 
--- src/simple.rt:82:1
 same-length : tie.Need-same-length
 same-length c = search needs
 
--- src/simple.rt:82:1
 returns : tie.Need-returns
 returns c = search (simple-laws, needs)
 

@@ -10,39 +10,30 @@ use Rattle.list_values.proofs.value.no_output.Reads as no-output-reads
 use Rattle.stmt_walk.proofs.walk.pushed_then.Reads as pushed-then-reads
 use Rattle.stmt_simple.proofs.SimpleLaws.{simple-laws}
 
--- src/simple.rt:34:50
 no-output-requires : tie.Need-no-output-requires
 no-output-requires c κs = search needs
 
--- src/simple.rt:34:63
 absent-requires : tie.Need-absent-requires
 absent-requires c κs = search needs
 
--- src/simple.rt:34:73
 absent-requires-2 : tie.Need-absent-requires-2
 absent-requires-2 c κs = search needs
 
--- src/simple.rt:34:17
 push-op-requires : tie.Need-push-op-requires
 push-op-requires c κs = search needs
 
--- src/simple.rt:34:90
 after-requires : tie.Need-after-requires
 after-requires c κs = search needs
 
--- src/simple.rt:34:5
 pushed-then-requires : tie.Need-pushed-then-requires
 pushed-then-requires c κs = search needs
 
--- src/simple.rt:31:1
 same-length : tie.Need-same-length
 same-length c = search needs
 
--- src/simple.rt:31:1
 same-length-2 : tie.Need-same-length-2
 same-length-2 c = search needs
 
--- src/simple.rt:31:1
 returns : tie.Need-returns
 returns c = search (simple-laws, needs)
 

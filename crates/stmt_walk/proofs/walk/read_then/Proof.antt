@@ -7,27 +7,21 @@ use Rattle.stmt_walk.proofs.walk.stop.Reads as stop-reads
 use Rattle.stmt_walk.proofs.walk.with_state.Reads as with-state-reads
 use Rattle.stmt_walk.proofs.WalkLaws.{walk-laws}
 
--- src/walk.rt:50:18
 enum-known-answer : tie.Need-enum-known-answer
 enum-known-answer c = search needs
 
--- src/walk.rt:50:24
 stop-requires : tie.Need-stop-requires
 stop-requires c κs = search needs
 
--- src/walk.rt:51:29
 enum-known-answer-2 : tie.Need-enum-known-answer-2
 enum-known-answer-2 c = search needs
 
--- src/walk.rt:53:16
 with-state-requires : tie.Need-with-state-requires
 with-state-requires c κs = search needs
 
--- src/walk.rt:46:1
 returns : tie.Need-returns
 returns c = search (walk-laws, needs)
 
--- src/walk.rt:46:1
 returns-2 : tie.Need-returns-2
 returns-2 c = search (walk-laws, needs)
 
