@@ -1,1 +1,2 @@
+pub mod LoopLaws
 mod Laws

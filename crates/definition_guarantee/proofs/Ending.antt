@@ -20,8 +20,7 @@ use Rattle.definition_guarantee.proofs.Growth.{grown-trans}
 use Rattle.definition_guarantee.proofs.Forward.{forward-grown, backward-grown, forward-obeys}
 use Rattle.definition_guarantee.proofs.Finish.{end-done, inferred}
 use Rattle.definition_guarantee.proofs.FinalSizes.{sizes-hold}
-use Rattle.definition_guarantee.proofs.Layouts.{backward-rough, forward-rough, finished-fits}
-use Rattle.definition_guarantee.proofs.Layouts.{SmallSizes, SmallSection, Rough}
+use Rattle.definition_guarantee.proofs.Layouts.{backward-rough, forward-rough, finished-fits, SmallSizes, SmallSection, Rough}
 use Rattle.definition_guarantee.proofs.WholeList.{Distinct, labelNumbers, same-labels, same-length, backward-heads, forward-heads, finished-heads, all-built, labels-once, builds-fit, builds-hold, builds-length}
 
 module _ (e : Env) where

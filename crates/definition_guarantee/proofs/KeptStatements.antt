@@ -26,8 +26,7 @@ use Rattle.definition_guarantee.specs.Limits.{SizeWithin, ExprWithin, Ar
 use Rattle.definition_guarantee.proofs.Kept.{small-section, fits-more, ValueFits, ExprFits, expr-more, later-refl, Keeps, keep-bind, keep-then, keep-pure, keep-refuse, keep-require, keep-expect, keep-if, keep-test, keep-section, keep-known, keep-sliced, exprs-more, keep-untouched}
 use Rattle.definition_guarantee.proofs.Pushes.{keep-addTmp, keep-push, keep-op, keep-opNoOutput}
 use Rattle.definition_guarantee.proofs.Shapes.{constant-fits, left-applies, and-applies, or-applies, extend-applies, store-applies, branch-applies, goto-applies, invalid-applies, call-applies, store-laid, delay-laid}
-use Rattle.definition_guarantee.proofs.KeptExpressions.{keep-expr, keep-args}
-use Rattle.definition_guarantee.proofs.KeptExpressions.{OptionSymbolFits, as-local, keep-lookup, keep-lookupKind, keep-meaning, keep-ident, keep-setStated, keep-takeStated, keep-read, keep-valueOf, keep-readAll, keep-address}
+use Rattle.definition_guarantee.proofs.KeptExpressions.{keep-expr, keep-args, OptionSymbolFits, as-local, keep-lookup, keep-lookupKind, keep-meaning, keep-ident, keep-setStated, keep-takeStated, keep-read, keep-valueOf, keep-readAll, keep-address}
 use Rattle.definition_guarantee.proofs.KeptLabels.{keep-label, keep-placed, keep-namedTmp, keep-macro}
 
 -- nothing more is known of a statement

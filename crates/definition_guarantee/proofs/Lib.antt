@@ -14,6 +14,7 @@ pub mod Layouts
 pub mod WholeList
 pub mod Ending
 -- the section that is read, and the walk over it
+pub mod Readings
 pub mod Limits
 pub mod Kept
 pub mod Pushes

@@ -5,67 +5,16 @@ use mathlib.Core.Bool.{Bool, true, false}
 use mathlib.Core.List.{List, [], _∷_, map}
 use mathlib.Core.Option.{none, some}
 use native.Mathlib.Omega.{arith}
-use lib.Dec.{eqb, leb}
+use lib.Dec.{eqb}
 use lib.ListN.{length, getElem?}
 use Rattle.definition.specs.Base.{if_then_else_, orElse}
-use Rattle.definition.specs.Refusals.{Refusal, malformed, outsideLimit}
+use Rattle.definition.specs.Refusals.{malformed, outsideLimit}
 use Rattle.definition.specs.Ast.{PcodeExpr, Args, noArgs, arg, Statement, Space, Register, BitRange, Table, Macro, Field, Section}
 use Rattle.definition.specs.Expressions.{argCount}
-use Rattle.definition.specs.SectionFile.{Parsed, parsed, refused, Read, on, _>>=_, _>>_, pure, refuse, require, upTo, orAbsent, size, sizeOr, bitNumber, choose, code, smallCount, listOf, argsOf, call, exprs, exprWithin, jumpLabel, branchDst, statement, entries, space, register, bitRange, table, macro, field, Header, header, lists, section, streamOf, read}
+use Rattle.definition.specs.SectionFile.{Parsed, parsed, refused, Read, on, _>>=_, _>>_, pure, refuse, upTo, orAbsent, size, sizeOr, choose, code, smallCount, listOf, argsOf, call, exprs, exprWithin, jumpLabel, branchDst, statement, entries, space, register, bitRange, table, macro, field, Header, header, lists, section, streamOf, read}
 use Rattle.definition_guarantee.specs.Tests.{Each}
-use Rattle.definition_guarantee.proofs.Tests.{le-of}
 use Rattle.definition_guarantee.specs.Limits.{SizeWithin, ExprWithin, ArgsWithin, JumpWithin, DestinationWithin, StatementWithin, WithinLimits}
-
--- reading
-
-abbrev Holds : {A : Type 0} → (A → Type 0) → Parsed A → Type 0
-Holds P (parsed a s) = P a
-Holds P (refused r) = Unit {0}
-
-record Reads {A : Type 0} (P : A → Type 0) (m : Read A) : Type 0 where
-  reads : (s : List ℕ) → Holds P (m s)
-
-holds-on : {A B : Type 0} (P : A → Type 0) (Q : B → Type 0) (x : Parsed A) (f : A → Read B) → Holds P x → ((a : A) → P a → Reads Q (f a))
-    → Holds Q (on x f)
-unfolding on
-holds-on P Q (parsed a s) f h k = k a h .reads s
-holds-on P Q (refused r) f h k = tt
-
-bind : {A B : Type 0} {P : A → Type 0} {Q : B → Type 0} (m : Read A) (f : A → Read B) → Reads P m → ((a : A) → P a → Reads Q (f a))
-    → Reads Q (m >>= f)
-bind {A} {B} {P} {Q} m f h k = record { reads = λ s. holds-on P Q (m s) f (h .reads s) k }
-
-returns : {A : Type 0} {P : A → Type 0} (a : A) → P a → Reads P (pure a)
-returns a h = record { reads = λ s. h }
-
-refuses : {A : Type 0} {P : A → Type 0} (r : Refusal) → Reads P (refuse {A = A} r)
-refuses r = record { reads = λ s. tt }
-
-holds-any : {A : Type 0} (x : Parsed A) → Holds (λ _. Unit {0}) x
-holds-any (parsed a s) = tt
-holds-any (refused r) = tt
-
-anything : {A : Type 0} (m : Read A) → Reads (λ _. Unit {0}) m
-anything m = record { reads = λ s. holds-any (m s) }
-
--- what is read and then passed over
-passed : {A B : Type 0} {Q : B → Type 0} (m : Read A) (f : A → Read B) → ((a : A) → Reads Q (f a)) → Reads Q (m >>= f)
-passed m f k = bind m f (anything m) (λ a h. k a)
-
-passes : {B : Type 0} {Q : B → Type 0} (m : Read (Unit {0})) (r : Read B) → Reads Q r → Reads Q (m >> r)
-passes {B} {Q} m r k = record { reads = λ s. holds-on (λ _. Unit {0}) Q (m s) (λ _. r) (holds-any (m s)) (λ _ _. k) }
-
-reads-require : (b : Bool) (r : Refusal) → Reads (λ _. b ≡ true) (require b r)
-unfolding require
-reads-require true r = record { reads = λ s. refl }
-reads-require false r = record { reads = λ s. tt }
-
-reads-upTo : (limit v : ℕ) → Reads (λ n. n ≤ limit) (upTo limit v)
-unfolding upTo
-reads-upTo limit v = record {
-  reads = λ s. holds-on (λ _. leb v limit ≡ true) (λ n. n ≤ limit) (require (leb v limit) outsideLimit s)
-      (λ _. pure v) (reads-require (leb v limit) outsideLimit .reads s) (λ _ h. returns v (le-of v limit h));
-}
+use Rattle.definition_guarantee.proofs.Readings.{Reading, Reads, bind, returns, refuses, passed, passes, reads-upTo, reads-bits}
 
 reads-absent : (limit v : ℕ) (b : Bool) → Reads (λ z. orElse 0 z ≤ limit) (if b then pure none else (upTo limit v >>= λ w. pure (some w)))
 unfolding if_then_else_ orElse
@@ -78,9 +27,6 @@ reads-size = passed _ _ (λ v. reads-upTo 1024 v)
 reads-sizeOr : Reads SizeWithin sizeOr
 unfolding orAbsent
 reads-sizeOr = passed _ _ (λ v. reads-absent 1024 v (eqb v 65535))
-
-reads-bits : Reads (λ n. n ≤ 8192) bitNumber
-reads-bits = passed _ _ (λ v. reads-upTo 8192 v)
 
 reads-count : Reads (λ n. n ≤ 8) smallCount
 reads-count = passed _ _ (λ v. reads-upTo 8 v)
@@ -274,7 +220,7 @@ pub read-within : (bytes rest : List ℕ) (sec : Section) → read bytes ≡ par
 unfolding read on
 read-within bytes rest sec h = go (streamOf bytes) h
   where
-    held : (x : Parsed Section) → Holds WithinLimits x → x ≡ parsed sec rest → WithinLimits sec
+    held : (x : Parsed Section) → Reading WithinLimits x → x ≡ parsed sec rest → WithinLimits sec
     held (parsed a s) w e = let d : a ≡ sec = cc in subst WithinLimits d w
     held (refused r) w e = let z : _≡_ {A = ℕ} 0 1 = cc in absurd (omega arith)
 

@@ -21,8 +21,7 @@ use Rattle.definition_guarantee.proofs.Tests.{never, le-of, lt-of, of-l
 use Rattle.definition_guarantee.proofs.Growth.{tmpSize}
 use Rattle.definition_guarantee.proofs.Rules.{Alike, steps-alike, steps-grown}
 use Rattle.definition_guarantee.proofs.Words.{Fits, fits-parts, parts-fit, Laid}
-use Rattle.definition_guarantee.proofs.Layouts.{update-rough}
-use Rattle.definition_guarantee.proofs.Layouts.{Rough, laidOut, subpiece}
+use Rattle.definition_guarantee.proofs.Layouts.{update-rough, Rough, laidOut, subpiece}
 use Rattle.definition_guarantee.proofs.WholeList.{placing, place, labelNumbers, numbers-append}
 use Rattle.definition_guarantee.specs.Limits.{WithinLimits}
 use Rattle.definition_guarantee.proofs.Kept.{small-section, fits-more, rough-more, applies, Applicable, plain, part, ValueFits, Small, OptionFits, ExprFits, values-more, expr-more, count, ScopeFits, Kept, Later, Ends, Keeps, keep-bind, keep-then, keep-pure, same-count, sized-later}

@@ -17,10 +17,10 @@ use Rattle.definition_guarantee.proofs.Tests.{clash, eq-of, differ, le-
 
 -- the second word of a value: its kind, offset and size
 
-word-kind : (k off z : ℕ) → k < 8 → (k + 256 * off + 2 ^ 24 * z) % 256 ≡ k
+pub word-kind : (k off z : ℕ) → k < 8 → (k + 256 * off + 2 ^ 24 * z) % 256 ≡ k
 word-kind k off z h = omega arith
 
-word-offset : (k off z : ℕ) → k < 8 → off ≤ 65535 → (k + 256 * off + 2 ^ 24 * z) / 256 % 65536 ≡ off
+pub word-offset : (k off z : ℕ) → k < 8 → off ≤ 65535 → (k + 256 * off + 2 ^ 24 * z) / 256 % 65536 ≡ off
 word-offset k off z h j = omega arith
 
 word-size : (k off z : ℕ) → k < 8 → off ≤ 65535 → (k + 256 * off + 2 ^ 24 * z) / 2 ^ 24 ≡ z

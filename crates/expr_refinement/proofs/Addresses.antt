@@ -10,7 +10,7 @@ use lib.Dec.{eqb}
 use borrow.Author.Tests.{ne-eqb}
 use Rattle.access.specs.Le.{le16}
 use Rattle.definition.specs.Base as definition
-use Rattle.definition.specs.Base.{_or_, orElse, andThen, base-opens}
+use Rattle.definition.specs.Base.{_or_, orElse, andThen, base-opens, if_then_else_}
 use Rattle.definition.specs.Refusals.{Refusal, refusalNumber, undefined, wrongKind, noDefaultSpace}
 use Rattle.definition.specs.Value.{Value}
 use Rattle.definition.specs.Ast.{SpaceKind}
@@ -22,7 +22,6 @@ use Rattle.list_values.specs.declared.value.Value.{Value as WordValue}
 use Rattle.list_pushes.specs.declared.push.State.{State as WordState}
 use Rattle.list_pushes.specs.declared.push.Env.{Env as WordEnv}
 use Rattle.list_pushes.specs.declared.push.Read.{Read}
-use Rattle.list_values.specs.Base.{if_then_else_}
 use Rattle.list_values.specs.Sizes.{entry}
 use Rattle.list_pushes.specs.Pushes.{ReadOut, read}
 use Rattle.file_refinement.specs.Holds.{Holds, spaceAt, spaceKind, symbolWord, absentAt}
@@ -34,8 +33,7 @@ use Rattle.expr_terms.specs.Answers.{ExprOut, resolved, exprOf}
 use Rattle.expr_reading.specs.Reading.{readOperand}
 use Rattle.expr_terms.specs.Addresses.{orSize, inConstSpace, kindOfSpace, spaceOf, namedSpace, defaultSpace, resolveSpace, referenceTo, reference, inSpace, addressIn, resolveAddress}
 use Rattle.expr_refinement.proofs.Encodings.{encX, Small, SoundX, count, Stood}
-use Rattle.expr_refinement.proofs.Answers.{bind}
-use Rattle.expr_refinement.proofs.Answers.{acts, temps, word, seenExpr, refines-stopped}
+use Rattle.expr_refinement.proofs.Answers.{bind, acts, temps, word, seenExpr, refines-stopped}
 use Rattle.expr_refinement.proofs.Below.{Spare, Below}
 use Rattle.expr_refinement.proofs.Scopes.{eqb-swap, global-is, symbol-placed, Placed, word-nonzero, word-kind, word-place}
 use Rattle.expr_refinement.proofs.Reading.{read-operand}

@@ -9,7 +9,7 @@ use native.Mathlib.Omega.{arith}
 use lib.ListN.{length, getElem?, set}
 use lib.Dec.{eqb}
 use Rattle.definition.specs.Base as definition
-use Rattle.definition.specs.Base.{orElse, andThen, base-opens}
+use Rattle.definition.specs.Base.{orElse, andThen, base-opens, if_then_else_}
 use Rattle.definition.specs.Operations.{Operation, operationNumber}
 use Rattle.definition.specs.Value.{Kind, kindNumber, Value, truncate, isKind, SemanticAction, operationOf, Temporary}
 use Rattle.definition.specs.Ast.{Section}
@@ -20,12 +20,11 @@ use Rattle.definition.specs.Walk.{State, Env, done, withSizing}
 use Rattle.definition.specs.ActionList.{orNone, actionKindNumber, operationWord, placesLabel}
 use Rattle.list_values.specs.declared.value.Value.{Value as WordValue}
 use Rattle.list_pushes.specs.declared.push.Env.{Env as WordEnv}
-use Rattle.list_values.specs.Base.{if_then_else_, Listed, listed, thenL}
+use Rattle.list_values.specs.Base.{Listed, listed, thenL}
 use Rattle.list_values.specs.Values.{absent, noOutput}
 use Rattle.list_pushes.specs.Pushes.{addTmp, push, pushOp, opTo}
 use Rattle.list_refinement.specs.Encoding.{encV, temporariesIn, encZ, Sound, Each, SoundAction, SizesHold}
-use Rattle.list_refinement.proofs.Settled.{size-is, known-small, settled-is}
-use Rattle.list_refinement.proofs.Settled.{settled-sets}
+use Rattle.list_refinement.proofs.Settled.{size-is, known-small, settled-is, settled-sets}
 use Rattle.list_refinement.proofs.Lists.{firstOf, secondOf, outputOf}
 use Rattle.list_refinement.proofs.Seen.{Seen, yes, seenRead, seenPushed, seenTmp, seenPush}
 use Rattle.expr_reading.specs.declared.read.Stated.{Stated}

@@ -21,7 +21,7 @@ use Rattle.list_values.specs.declared.value.Value.{Value as WordValue}
 use Rattle.list_pushes.specs.declared.push.State.{State as WordState}
 use Rattle.list_pushes.specs.declared.push.Env.{Env as WordEnv}
 use Rattle.list_pushes.specs.declared.push.Read.{Read}
-use Rattle.list_values.specs.Base.{if_then_else_}
+use Rattle.definition.specs.Base.{if_then_else_}
 use Rattle.list_values.specs.Values.{absent}
 use Rattle.list_pushes.specs.Pushes.{ReadOut, read, PushedOut}
 use Rattle.file_refinement.specs.Holds.{Holds, spelledAt, symbolWord}
@@ -37,11 +37,9 @@ use Rattle.expr_terms.specs.Answers.{ExprOut, resolved, exprOf, after}
 use Rattle.expr_reading.specs.Reading.{readOperand}
 use Rattle.expr_terms.specs.Calls.{callee, symbolOf, inbuiltOr, calleeOf, passArg, passFrom, passArgs, applied, userOpTwo, userOpSome, callUserOp, onlyInteger, subpieceFrom, subpieceOf, subpieceMeant, subpiece}
 use Rattle.expr_refinement.proofs.Encodings.{encX, SoundX, Applies, sound-more, x-more, each-more, count, Stood}
-use Rattle.expr_refinement.proofs.Answers.{bind, bind-read, bind-pushed, bind-unless}
-use Rattle.expr_refinement.proofs.Answers.{acts, temps, word, seenExpr, Refines, refines-done, refines-stopped}
+use Rattle.expr_refinement.proofs.Answers.{bind, bind-read, bind-pushed, bind-unless, acts, temps, word, seenExpr, Refines, refines-done, refines-stopped}
 use Rattle.expr_refinement.proofs.Below.{Spare, Below}
-use Rattle.expr_refinement.proofs.Scopes.{meaning-sound}
-use Rattle.expr_refinement.proofs.Scopes.{encM, Scoped, BitRangesFit, SoundM, ident-is, global-is, word-nonzero, word-kind, word-place}
+use Rattle.expr_refinement.proofs.Scopes.{meaning-sound, encM, Scoped, BitRangesFit, SoundM, ident-is, global-is, word-nonzero, word-kind, word-place}
 use Rattle.expr_refinement.proofs.Reading.{read-operand}
 use Rattle.expr_refinement.proofs.Slices.{not-less, less, Means, means-done}
 

@@ -11,7 +11,7 @@ use lib.Dec.{eqb, ltb}
 use borrow.Author.Tests.{eqb-true, ne-eqb, lt-ltb, le-ltb, ltb-false}
 use Rattle.access.specs.Le.{le16, le64}
 use Rattle.definition.specs.Base as definition
-use Rattle.definition.specs.Base.{orElse, base-opens}
+use Rattle.definition.specs.Base.{orElse, base-opens, if_then_else_}
 use Rattle.definition.specs.Refusals.{Refusal, refusalNumber, addressOfNonLocal, constantPool, argumentCount, macroInExpression}
 use Rattle.definition.specs.Operations.{Operation, operationNumber}
 use Rattle.definition.specs.Value.{Value}
@@ -29,7 +29,6 @@ use Rattle.list_values.specs.declared.value.Value.{Value as WordValue}
 use Rattle.list_pushes.specs.declared.push.State.{State as WordState}
 use Rattle.list_pushes.specs.declared.push.Env.{Env as WordEnv}
 use Rattle.list_pushes.specs.declared.push.Read.{Read as WordRead}
-use Rattle.list_values.specs.Base.{if_then_else_}
 use Rattle.list_values.specs.Values.{absent}
 use Rattle.list_pushes.specs.Pushes.{ReadOut, read}
 use Rattle.file_syntax.specs.declared.cursor.Cursor.{Cursor}
@@ -52,20 +51,16 @@ use Rattle.expr_terms.specs.Addresses.{resolveAddress}
 use Rattle.expr_resolver.specs.Expressions as words
 use Rattle.expr_resolver.specs.Expressions.{valueThen, localAddress, addressMeant, addressOf, atom, later, skipExpr, order, orderOf, operandsAround, operandsOf, apply1, apply2, partAt, withPart, exprValue, part, binary, byCode, resolveExpr}
 use Rattle.expr_refinement.proofs.Encodings.{encX, SoundX, Applies, sound-more, x-more, count, Stood}
-use Rattle.expr_refinement.proofs.Answers.{bind, bind-expr, bind-operand, bind-args}
-use Rattle.expr_refinement.proofs.Answers.{acts, temps, word, seenExpr, seenOperand, seenArgs, Refines, refines-done, refines-stopped, refines-map, weaken}
+use Rattle.expr_refinement.proofs.Answers.{bind, bind-expr, bind-operand, bind-args, acts, temps, word, seenExpr, seenOperand, seenArgs, Refines, refines-done, refines-stopped, refines-map, weaken}
 use Rattle.expr_refinement.proofs.Below.{Spare, Below}
-use Rattle.expr_refinement.proofs.Scopes.{meaning-sound, ident}
-use Rattle.expr_refinement.proofs.Scopes.{eqb-swap, encM, Scoped, scoped-later, BitRangesFit, SoundM, ident-is}
+use Rattle.expr_refinement.proofs.Scopes.{meaning-sound, ident, eqb-swap, encM, Scoped, scoped-later, BitRangesFit, SoundM, ident-is}
 use Rattle.expr_refinement.proofs.Reading.{read-operand}
 use Rattle.expr_refinement.proofs.Slices.{means-done, slice-bits}
 use Rattle.expr_refinement.proofs.Addresses.{address}
 use Rattle.expr_refinement.proofs.Operators.{Applies2, OrderIs, order-is, Taking, one, two, inbuilt-takes}
 use Rattle.expr_refinement.proofs.Slots.{arg-length, arg-again, arg-other}
-use Rattle.expr_refinement.proofs.Calls.{user-op}
-use Rattle.expr_refinement.proofs.Calls.{ArgsIn, on-assoc, symbolCallee, callee-is, callee-symbol, Only, sub-piece}
-use Rattle.expr_refinement.proofs.Positions.{starts, ident-ends, integer-ends, address-of-ends, truncate-ends, slice-ends, call-inside}
-use Rattle.expr_refinement.proofs.Positions.{drop-same, ends, end-behind, deeper, begins}
+use Rattle.expr_refinement.proofs.Calls.{user-op, ArgsIn, on-assoc, symbolCallee, callee-is, callee-symbol, Only, sub-piece}
+use Rattle.expr_refinement.proofs.Positions.{starts, ident-ends, integer-ends, address-of-ends, truncate-ends, slice-ends, call-inside, drop-same, ends, end-behind, deeper, begins}
 
 pub after-is : (pos n : ℕ) → pos < 65536 → n < 65536 → after pos n ≡ pos + n
 unfolding after if_then_else_

@@ -2,6 +2,7 @@
 pub mod Encodings
 pub mod Answers
 pub mod Below
+pub mod Stated
 pub mod Reading
 pub mod Slots
 pub mod Tree

@@ -8,7 +8,7 @@ use native.Mathlib.Omega.{arith}
 use lib.ListN.{getElem?}
 use lib.Dec.{ltb}
 use Rattle.definition.specs.Base as definition
-use Rattle.definition.specs.Base.{_or_, isSome, first, sameBytes, base-opens}
+use Rattle.definition.specs.Base.{_or_, isSome, first, sameBytes, base-opens, if_then_else_}
 use Rattle.definition.specs.Operations.{Operation, operationNumber}
 use Rattle.definition.specs.Value.{Value}
 use Rattle.definition.specs.Ast.{PcodeOp}
@@ -16,7 +16,6 @@ use Rattle.definition.specs.Sizes.{at}
 use Rattle.definition.specs.SectionFile.{pcodeOps}
 use Rattle.definition.specs.Spellings.{Inbuilt, inbuilt, inbuilts, translateInbuiltFunc}
 use Rattle.definition.specs.Expressions.{Order, asWritten, swapped, translatePcodeOp}
-use Rattle.list_values.specs.Base.{if_then_else_}
 use Rattle.list_refinement.specs.Encoding.{Each}
 use Rattle.list_refinement.proofs.RuleKinds.{kindOf}
 use Rattle.expr_resolver.specs.Expressions.{operationOf}

@@ -13,7 +13,8 @@ use Rattle.definition.specs.Ast.{PcodeExpr}
 use Rattle.definition.specs.SectionFile.{Parsed, parsed, refused, on, Read, choose, argsOf, exprWithin}
 use Rattle.definition.specs.SectionFile as d
 use Rattle.file_syntax.specs.declared.cursor.Cursor.{Cursor}
-use Rattle.file_syntax.specs.Cursors.{cursor, refuse, number, u8, u16, u16or, skip, run}
+use Rattle.file_syntax.specs.Cursors.{cursor, refuse, number, u8, u16, u16or, skip}
+use Rattle.access.specs.Loops.{run}
 use Rattle.file_syntax.specs.Expressions.{Kind, kindOf, afterCode, counted}
 use Rattle.file_syntax.specs.Expressions as section
 use Rattle.file_refinement.proofs.Agree.{Agrees, went, stopped, Stuck, Any}

@@ -28,8 +28,7 @@ use Rattle.list_refinement.proofs.Lists.{firstOf, secondOf, outputOf}
 use Rattle.list_refinement.specs.Encoding.{encV, Sound, SoundTmp, Each, EachOption, SoundAction, SizesHold}
 use Rattle.list_refinement.proofs.After.{After}
 use Rattle.list_refinement.proofs.RuleKinds.{kindOf, Operands}
-use Rattle.list_refinement.proofs.Pushes.{update-after, push-op-is, push-op-done, op-to-is}
-use Rattle.list_refinement.proofs.Pushes.{Lent, Stands, unnamed-is, push-is, add-done}
+use Rattle.list_refinement.proofs.Pushes.{update-after, push-op-is, push-op-done, op-to-is, Lent, Stands, unnamed-is, push-is, add-done}
 use Rattle.expr_refinement.proofs.Encodings.{Small, Applies, sound-more, nameAt, tmps, count, Stood, stood-more, params-more, mapping-more, actions-more, each-last, placed-last}
 use Rattle.expr_refinement.proofs.Answers.{acts, temps, word, Halts, halts-done, halts-here, Reached, Refines, refines-map}
 use Rattle.expr_refinement.proofs.Below.{Spare, Below, settled-kept}
@@ -201,7 +200,7 @@ module _ (s t : List ℕ) (e : Env) (front tail marks rest : List ℕ) (we : Wor
   }
 
   -- an action pushed behind a sizing that an operation's rule left
-  pushed-state : (spare more : ℕ) (st : State) → Stood (e .section) tail marks rest spare st → (x : SemanticAction) (z : Sizing) → SoundAction (e .section) (length (z .temporaries)) x → placesLabel x ≡ false → length (z .temporaries) ≡ count st → Each SoundTmp (z .temporaries) → Names (st .sizing) z → length (z .errors) ≤ more + 4 * length (st .actions) + 4
+  pub pushed-state : (spare more : ℕ) (st : State) → Stood (e .section) tail marks rest spare st → (x : SemanticAction) (z : Sizing) → SoundAction (e .section) (length (z .temporaries)) x → placesLabel x ≡ false → length (z .temporaries) ≡ count st → Each SoundTmp (z .temporaries) → Names (st .sizing) z → length (z .errors) ≤ more + 4 * length (st .actions) + 4
       → (u : State) → u ≡ withAction x (withSizing z st) → 24 * length (u .actions) ≤ length tail → Reached (e .section) front tail marks rest more st u
   pushed-state spare more st f x z sound plain same fit names few u q long =
       let n : length (st .actions ++ (x ∷ [])) ≡ length (st .actions) + 1 = length-append (st .actions) (x ∷ []) in

@@ -7,9 +7,9 @@ use mathlib.Core.Option.{Option, none, some}
 use native.Mathlib.Omega.{arith}
 use lib.ListN.{length}
 use lib.Dec.{eqb, leb}
-use borrow.Author.Tests.{leb-true, ne-eqb}
+use borrow.Author.Tests.{leb-true}
 use Rattle.definition.specs.Base as definition
-use Rattle.definition.specs.Base.{orElse, andThen, isSome, base-opens}
+use Rattle.definition.specs.Base.{orElse, andThen, isSome, base-opens, if_then_else_}
 use Rattle.definition.specs.Refusals.{refusalNumber, addressOfOffset, offsetTooFar}
 use Rattle.definition.specs.Operations.{Operation, operationNumber}
 use Rattle.definition.specs.Value.{kindNumber, Value, local, constant, withSize, sliceBytes, truncate, ActionKind, SemanticAction, operationOf}
@@ -25,7 +25,7 @@ use Rattle.list_pushes.specs.declared.push.State.{State as WordState}
 use Rattle.list_pushes.specs.declared.push.Env.{Env as WordEnv}
 use Rattle.list_pushes.specs.declared.push.Read.{Read}
 use Rattle.list_pushes.specs.declared.push.Pushed.{Pushed}
-use Rattle.list_values.specs.Base.{if_then_else_, Listed, listed}
+use Rattle.list_values.specs.Base.{Listed, listed}
 use Rattle.list_values.specs.Values.{absent}
 use Rattle.list_values.specs.Sizes.{sizeOf}
 use Rattle.list_pushes.specs.Pushes.{ReadOut, read, onRead, outputOr, push, opTo, op}
@@ -35,11 +35,11 @@ use Rattle.list_refinement.proofs.RuleKinds.{kindOf}
 use Rattle.list_refinement.proofs.Lists.{firstOf, secondOf, outputOf}
 use Rattle.list_refinement.proofs.Seen.{yes, no, seenRead, seenTmp, seenPush}
 use Rattle.expr_reading.specs.declared.read.Stated.{Stated}
-use Rattle.expr_reading.specs.Reading.{neededBytes, stated, setSize, setStated, takeStated, copyTo, byteAligned, sliced, shiftTo, shiftAndMask, partOf, readSlice, pushedTo, pushedOut, readAddress, loadTo, load, loadRegisterTo, loadRegister, readValue, readOperand}
+use Rattle.expr_reading.specs.Reading.{neededBytes, setStated, takeStated, copyTo, byteAligned, sliced, shiftTo, shiftAndMask, partOf, readSlice, pushedTo, pushedOut, readAddress, loadTo, load, loadRegisterTo, loadRegister, readValue, readOperand}
 use Rattle.expr_refinement.proofs.Encodings.{encX, Applies, Small, SoundX, sound-more, each-more, tmps, count, Stood, stood-more}
-use Rattle.expr_refinement.proofs.Answers.{bind, bind-read, bind-tmp, bind-require}
-use Rattle.expr_refinement.proofs.Answers.{acts, temps, word, Refines, refines-done}
-use Rattle.expr_refinement.proofs.Below.{Spare, Below, seenStated, set-size}
+use Rattle.expr_refinement.proofs.Answers.{bind, bind-read, bind-tmp, bind-require, acts, temps, word, Refines, refines-done}
+use Rattle.expr_refinement.proofs.Below.{Spare, Below, seenStated}
+use Rattle.expr_refinement.proofs.Stated.{set-stated, take-stated}
 
 -- the value that stands for an output that may be given
 unfoldable pub toOf : Option Value → WordValue
@@ -217,39 +217,6 @@ module _ (s t : List ℕ) (e : Env) (front tail marks rest : List ℕ) (we : Wor
       (below .pushes spare st1 room (stood-more (4 + spare) (omega arith) (r .stood)) (record { kind = ActionKind.AddressOf; number = 0; inputs = local (base .kind) (base .number) ∷ []; output = some v }) (omega arith)
       (record { inputs = (record { number = b .number; offset = omega arith; size = unfold orElse in omega arith }, tt); output = p }) (unfold placesLabel andThen in refl))) p
 
-  -- an answer with a value that only changed sizes; it may have made an error
-  abbrev Sets : State → Listed Stated → Outcome Value → Type 0
-  Sets st x o = Refines (e .section) front tail marks rest (suc spare) st encV (Sound (e .section)) (seenStated (A st) x) o
-
-  same-stated : (st : State) → Stands st → (v : Value) → Sound (e .section) (count st) v → Sets st (listed (stated (encV v) (W st)) (M st)) (done v st)
-  unfolding seenStated
-  same-stated st f v h = refines-done (e .section) front tail marks rest (suc spare) st encV (Sound (e .section)) v (encV v) (stood-more (suc spare) (omega arith) f) h refl
-
-  set-stated : (st : State) → Stands st → (size : ℕ) (v : Value) → size < 65535 → Sound (e .section) (count st) v → Sets st (setStated s t (M st) (encV v) size (W st)) (d.setStated size v e st)
-  unfolding setStated d.setStated
-  set-stated st f size v l h = go (eqb size 0)
-    where
-      go : (b : Bool) → Sets st (if b then listed (stated (encV v) (W st)) (M st) else setSize s t (M st) (encV v) size (W st)) ((definition.if_then_else_ b (w.pure v) (w.sizing λ sec. sizes.setSize sec size v)) e st)
-      go true = unfold if_then_else_ base-opens in same-stated st f v h
-      go false = unfold if_then_else_ base-opens in set-size s t e front tail marks rest (below .sizes) spare st room f v size l h
-
-  take-stated : (st : State) → Stands st → (size : ℕ) (v : Value) → size < 65535 → Sound (e .section) (count st) v → Sets st (takeStated s t (M st) (encV v) size (W st)) (d.takeStated size v e st)
-  unfolding takeStated d.takeStated
-  take-stated st f size v l h =
-      rw (size-is s t (e .section) (below .sizes) marks rest (tmps st) (f .sizes) v h)
-      (go (eqb size 0) (sizes.sizeOf (e .section) (tmps st) v) refl (known-small s t (e .section) (below .sizes) marks rest (tmps st) (f .sizes) v h))
-    where
-      known : (z : Option ℕ) → Small z → Sets st (if eqb (orNone z) 65535 then setSize s t (M st) (encV v) size (W st) else listed (stated (record { kind = kindNumber (v .kind); number = v .number; offset = v .offset; size = size }) (W st)) (M st)) (d.takeKnown z size v e st)
-      known none k = unfold orNone orElse if_then_else_ d.takeKnown in set-size s t e front tail marks rest (below .sizes) spare st room f v size l h
-      known (some n) k = unfold orNone orElse if_then_else_ d.takeKnown in rw (ne-eqb n 65535 (λ q. omega arith))
-          (unfold seenStated in refines-done (e .section) front tail marks rest (suc spare) st encV (Sound (e .section)) (truncate size v) _ (stood-more (suc spare) (omega arith) f) (record { number = h .number; offset = h .offset; size = l }) refl)
-
-      go : (b : Bool) (z : Option ℕ) → sizes.sizeOf (e .section) (tmps st) v ≡ z → Small z
-          → Sets st (if b then listed (stated (encV v) (W st)) (M st) else if eqb (orNone z) 65535 then setSize s t (M st) (encV v) size (W st) else listed (stated (record { kind = kindNumber (v .kind); number = v .number; offset = v .offset; size = size }) (W st)) (M st))
-          ((definition.if_then_else_ b (w.pure v) (λ e st. on e (w.knownSize v e st) λ known. d.takeKnown known size v)) e st)
-      go true z q k = unfold if_then_else_ base-opens in same-stated st f v h
-      go false z q k = unfold if_then_else_ base-opens on in rw q (known z k)
-
   pub read-ram : (st : State) → Stands st → (pointer : Value) (size : ℕ) (to : Option Value) → Sound (e .section) (count st) pointer → size < 65535 → EachOption (Sound (e .section) (count st)) to
       → Reads st (load s t (A st) (M st) we (encV pointer) size (isSome to) (toOf to) (W st)) (d.readValue (ExprValue.RamRef pointer size) to e st)
   unfolding load d.readValue
@@ -261,7 +228,7 @@ module _ (s t : List ℕ) (e : Env) (front tail marks rest : List ℕ) (we : Wor
       bind (e .section) front tail marks rest (suc spare) spare e st1 encV (Sound (e .section)) seenRead encV (Sound (e .section)) (λ out. w.op Operation.Load 0 (pointer ∷ []) (some out))
       (seenStated (A st1) (takeStated s t (M st1) (encV v) size (W st1))) (d.takeStated size v e st1) (loadTo s t (A st1) we (encV pointer) (takeStated s t (M st1) (encV v) size (W st1)))
       (λ u st2 a m. opTo s t a m we 58 0 1 u (encV pointer) absent st2)
-      (take-stated st1 (r .stood) size v l p)
+      (take-stated s t e front tail marks rest (below .sizes) spare room st1 (r .stood) size v l p)
       (λ u st2 q k. let j = sound-more (e .section) (count st) (count st2) (omega (arith, r .later .temporaries, q .later .temporaries)) pointer h in
       unfold operationNumber firstOf secondOf in below .ops spare st2 room (q .stood) Operation.Load 0 (pointer ∷ []) u (omega arith) (load-applies pointer) (j, tt) k)
       (go (A st1) (takeStated s t (M st1) (encV v) size (W st1))) (stop (A st1) (takeStated s t (M st1) (encV v) size (W st1)))
@@ -286,7 +253,7 @@ module _ (s t : List ℕ) (e : Env) (front tail marks rest : List ℕ) (we : Wor
       bind (e .section) front tail marks rest (suc spare) spare e st1 encV (Sound (e .section)) seenRead encV (Sound (e .section)) (λ out. λ e2 st2. on e2 (w.push (loading pointer size out) e2 st2) (λ _. λ e3 st3. done out st3))
       (seenStated (A st1) (setStated s t (M st1) (encV v) size (W st1))) (d.setStated size v e st1) (loadRegisterTo (A st1) (encV pointer) size (setStated s t (M st1) (encV v) size (W st1)))
       (λ u st2 a m. pushedOut (push a 2 0 size 1 u (encV pointer) absent st2) u m)
-      (set-stated st1 (r .stood) size v l p)
+      (set-stated s t e front tail marks rest (below .sizes) spare room st1 (r .stood) size v l p)
       (λ u st2 q k. let j = sound-more (e .section) (count st) (count st2) (omega (arith, r .later .temporaries, q .later .temporaries)) pointer h in
       pushed-out st2 (A st2) (M st2) 2 size (encV pointer) (W st2) (w.push (loading pointer size u) e st2) u
       (unfold actionKindNumber operationWord operationOf outputOf firstOf secondOf in

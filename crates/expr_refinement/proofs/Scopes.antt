@@ -11,7 +11,7 @@ use lib.ListN.{length, getD, getElem?, length-map}
 use lib.Dec.{eqb, ltb}
 use borrow.Author.Tests.{eqb-true, eqb-false, ne-eqb, eq-eqb, lt-ltb}
 use Rattle.definition.specs.Base as definition
-use Rattle.definition.specs.Base.{_or_, andThen, orElse, first, base-opens}
+use Rattle.definition.specs.Base.{_or_, andThen, orElse, first, base-opens, if_then_else_}
 use Rattle.definition.specs.Refusals.{refusalNumber}
 use Rattle.definition.specs.Value.{Kind, kindNumber, Value, local, Temporary}
 use Rattle.definition.specs.Ast.{Space as SpaceEntry, Register as RegisterEntry, BitRange as BitRangeEntry, Table as TableEntry, Macro as MacroEntry, Section}
@@ -20,7 +20,6 @@ use Rattle.definition.specs.Scope as d
 use Rattle.definition.specs.Scope.{find, SymbolKind, symbolNumber, Symbol, isSymbol, symbols, globals, Meaning, means, wrong, registerBits, globalMeaning, innerMeaning, meaningOf}
 use Rattle.definition.specs.ActionList.{orNone}
 use Rattle.list_pushes.specs.declared.push.Env.{Env as WordEnv}
-use Rattle.list_values.specs.Base.{if_then_else_}
 use Rattle.list_values.specs.Sizes.{entry}
 use Rattle.file_refinement.specs.Holds.{Holds, bitRangeAt, symbolWord}
 use Rattle.list_refinement.specs.Encoding.{encV, temporariesIn, Sound, SoundTmp, Each}

@@ -7,7 +7,7 @@ use mathlib.Core.Option.{Option, none, some}
 use native.Mathlib.Omega.{arith}
 use lib.Dec.{leb, ltb}
 use borrow.Author.Tests.{ltb-true, ltb-false, leb-true, leb-false, le-leb, lt-leb, lt-ltb, le-ltb, ne-eqb}
-use Rattle.definition.specs.Base.{orElse, isSome}
+use Rattle.definition.specs.Base.{orElse, isSome, if_then_else_}
 use Rattle.definition.specs.Refusals.{refusalNumber, slicePastEnd, shiftTooFar}
 use Rattle.definition.specs.Value.{Value}
 use Rattle.definition.specs.Walk.{ExprValue, State, Env, Outcome, done}
@@ -17,7 +17,6 @@ use Rattle.list_values.specs.declared.value.Value.{Value as WordValue}
 use Rattle.list_pushes.specs.declared.push.State.{State as WordState}
 use Rattle.list_pushes.specs.declared.push.Env.{Env as WordEnv}
 use Rattle.list_pushes.specs.declared.push.Read.{Read}
-use Rattle.list_values.specs.Base.{if_then_else_}
 use Rattle.list_values.specs.Values.{absent}
 use Rattle.list_pushes.specs.Pushes.{ReadOut, read}
 use Rattle.list_refinement.specs.Encoding.{encV, Sound}
@@ -28,8 +27,7 @@ use Rattle.expr_terms.specs.Answers.{ExprOut, resolved, exprOf}
 use Rattle.expr_reading.specs.Reading.{neededBytes, readSlice}
 use Rattle.expr_terms.specs.Slices.{lowBits, unboundThen, sliceRead, constBytes, sliceConst, sliceRange, sliceBits}
 use Rattle.expr_refinement.proofs.Encodings.{encX, Small, SoundX, count, Stood}
-use Rattle.expr_refinement.proofs.Answers.{bind, bind-read, bind-unless}
-use Rattle.expr_refinement.proofs.Answers.{acts, temps, word, seenExpr, Refines, refines-done}
+use Rattle.expr_refinement.proofs.Answers.{bind, bind-read, bind-unless, acts, temps, word, seenExpr, Refines, refines-done}
 use Rattle.expr_refinement.proofs.Below.{Spare, Below}
 use Rattle.expr_refinement.proofs.Reading.{toOf, read-operand, read-slice}
 

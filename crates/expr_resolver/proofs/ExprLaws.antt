@@ -17,7 +17,7 @@ use Rattle.list_values.specs.declared.value.Value.{Value}
 use Rattle.list_pushes.specs.declared.push.State.{State}
 use Rattle.list_pushes.specs.declared.push.Env.{Env}
 use Rattle.list_pushes.specs.declared.push.Read.{Read}
-use Rattle.list_values.specs.Base.{if_then_else_}
+use Rattle.definition.specs.Base.{if_then_else_}
 use Rattle.list_values.specs.Values.{absent, local}
 use Rattle.list_pushes.specs.Pushes.{read}
 use Rattle.expr_scope.specs.declared.scope.ExprValue.{ExprValue}
@@ -37,6 +37,7 @@ use Rattle.expr_terms.specs.Slices.{sliceBits}
 use Rattle.expr_terms.specs.Addresses.{resolveAddress}
 use Rattle.expr_terms.specs.Calls.{calleeOf, applied, callUserOp, subpiece}
 use Rattle.expr_resolver.specs.Expressions.{valueThen, meansAt, localAddress, addressMeant, addressOf, atom, plainAt, plainOperand, operationOf, later, skipExpr, order, orderOf, operandsAround, operandsOf, apply1, apply2, partAt, withPart, Walk, exprValue, part, binary, resolveOp, secondOf, callInbuilt, resolveArgs, userOp, callNamed, resolveCall, byCode, resolveExpr}
+use Rattle.access.proofs.LoopLaws.{one-less}
 
 -- ---- positions
 pub later-second : (x y : ℕ) → x < y → y ≡ later x y
@@ -273,9 +274,6 @@ module _ (walk : Walk) (s t : List ℕ) (e : Env) (pos op count : ℕ) (a m : Li
   unfolding callInbuilt if_then_else_ secondOf onOperand appliedTo
   inbuilt-two v next st1 r2 a2 m2 z k q g h = rw (eq-eqb count 2 k, ← ea, ← f, q, ← g, h)
 
-less : (n i : ℕ) → i < n → n - i ≡ suc (n - (i + 1))
-less n i h = omega arith
-
 pub args-start : (walk : Walk) (n pos : ℕ) (a m args : List ℕ) (st : State) → resolveArgs walk (n - 0) 0 pos a m args st ≡ resolveArgs walk n 0 pos a m args st
 args-start walk n pos a m args st = let z : n - 0 ≡ n = omega arith in rw z
 
@@ -283,14 +281,14 @@ module _ (walk : Walk) (n i pos : ℕ) (a m args : List ℕ) (st : State) (w : A
     (r : Expr) (a1 m1 : List ℕ) (f : resolved r a1 m1 ≡ walk pos a m st) where
   pub args-no : (k : ℕ) → r ≡ Expr.No k → passed (Args.No k) a1 m1 args ≡ w
   unfolding resolveArgs onExpr
-  args-no k q = rw (less n i h, ← f, q) at inv
+  args-no k q = rw (one-less n i h, ← f, q) at inv
 
   pub args-more : (x : ExprValue) (next : ℕ) (st1 : State) (args1 : List ℕ) → r ≡ Expr.Value next x st1 → args1 ≡ putArg args i x →
       resolveArgs walk (n - (i + 1)) (i + 1) next a1 m1 args1 st1 ≡ w
   unfolding resolveArgs onExpr
   args-more x next st1 args1 q g =
       let o : i + 1 ≡ suc i = omega arith in
-      rw (o, g) (rw (less n i h, ← f, q, o) at inv)
+      rw (o, g) (rw (one-less n i h, ← f, q, o) at inv)
 
 pub args-done : (walk : Walk) (n i pos : ℕ) (a m args : List ℕ) (st : State) (w : ArgsOut) → n ≤ i → resolveArgs walk (n - i) i pos a m args st ≡ w → passed (Args.Done pos st) a m args ≡ w
 unfolding resolveArgs

@@ -13,7 +13,7 @@ use Rattle.list_pushes.specs.declared.push.State.{State}
 use Rattle.list_pushes.specs.declared.push.Env.{Env}
 use Rattle.list_pushes.specs.declared.push.Read.{Read}
 use Rattle.list_pushes.specs.declared.push.Pushed.{Pushed}
-use Rattle.list_values.specs.Base.{if_then_else_}
+use Rattle.definition.specs.Base.{if_then_else_}
 use Rattle.list_values.specs.Values.{absent, noOutput}
 use Rattle.list_pushes.specs.Pushes.{PushedOut, pushed, pushOp, read, onRead, onPushed}
 use Rattle.expr_scope.specs.declared.scope.ExprValue.{ExprValue}
@@ -25,6 +25,7 @@ use Rattle.expr_scope.specs.Scopes.{global, resolveIdent}
 use Rattle.expr_reading.specs.Reading.{readOperand}
 use Rattle.expr_terms.specs.Answers.{resolved, exprOf, after}
 use Rattle.expr_terms.specs.Calls.{callee, symbolOf, inbuiltOr, calleeOf, passArg, passFrom, passArgs, applied, userOpTwo, userOpSome, callUserOp, onlyInteger, subpieceFrom, subpieceOf, subpieceMeant, subpiece}
+use Rattle.access.proofs.LoopLaws.{one-less}
 
 -- ---- what a call's name is
 pub symbol-none : (g : ℕ) → g ≡ 0 → callee 3 0 ≡ symbolOf g
@@ -76,20 +77,17 @@ pub args-start : (s t a m args : List ℕ) (n : ℕ) (e : Env) (st : State) → 
 unfolding passArgs
 args-start s t a m args n e st = refl
 
-less : (n i : ℕ) → i < n → n - i ≡ suc (n - (i + 1))
-less n i h = omega arith
-
 module _ (s t a m args : List ℕ) (n i : ℕ) (e : Env) (st : State) (w : PushedOut) (h : i < n) (inv : passFrom (n - i) i s t a m args e st ≡ w)
     (x : ExprValue) (r : Pushed) (a1 m1 : List ℕ) (ex : x ≡ argAt args i) (f : pushed r a1 m1 ≡ passArg s t a m x (i - 2) e st) where
   pub args-no : (k : ℕ) → r ≡ Pushed.No k → pushed (Pushed.No k) a1 m1 ≡ w
   unfolding passFrom onPushed
-  args-no k q = rw (less n i h, ← ex, ← f, q) at inv
+  args-no k q = rw (one-less n i h, ← ex, ← f, q) at inv
 
   pub args-more : (st1 : State) → r ≡ Pushed.Done st1 → passFrom (n - (i + 1)) (i + 1) s t a1 m1 args e st1 ≡ w
   unfolding passFrom onPushed
   args-more st1 q =
       let o : i + 1 ≡ suc i = omega arith in
-      rw o (rw (less n i h, ← ex, ← f, q, o) at inv)
+      rw o (rw (one-less n i h, ← ex, ← f, q, o) at inv)
 
 pub args-done : (s t a m args : List ℕ) (n i : ℕ) (e : Env) (st : State) (w : PushedOut) → n ≤ i → passFrom (n - i) i s t a m args e st ≡ w → pushed (Pushed.Done st) a m ≡ w
 unfolding passFrom

@@ -14,7 +14,8 @@ use Rattle.definition.specs.Ast.{PcodeExpr, Args, noArgs, arg, JumpLabel, Branc
 use Rattle.definition.specs.SectionFile.{parsed, refused, on, Read, pure, refuse, choose, littleEndian, upTo, naming, argsOf, listOf}
 use Rattle.definition.specs.SectionFile as d
 use Rattle.file_syntax.specs.declared.cursor.Cursor.{Cursor}
-use Rattle.file_syntax.specs.Cursors.{cursor, number, u8, u16, skip, run}
+use Rattle.file_syntax.specs.Cursors.{cursor, number, u8, u16, skip}
+use Rattle.access.specs.Loops.{run}
 use Rattle.file_syntax.specs.Cursors as w
 use Rattle.file_syntax.specs.Expressions.{counted, Kind, kindOf, afterCode}
 use Rattle.file_syntax.specs.Expressions as e

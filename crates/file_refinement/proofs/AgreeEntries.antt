@@ -14,7 +14,8 @@ use Rattle.definition.specs.Ast.{SpaceKind, Macro, Statement}
 use Rattle.definition.specs.SectionFile.{Parsed, parsed, refused, on, Read, pure, listOf, upTo, naming, littleEndian}
 use Rattle.definition.specs.SectionFile as d
 use Rattle.access.specs.Le.{le16}
-use Rattle.file_syntax.specs.Cursors.{cursor, u8, u16, run}
+use Rattle.file_syntax.specs.Cursors.{cursor, u8, u16}
+use Rattle.access.specs.Loops.{run}
 use Rattle.file_syntax.specs.Cursors as w
 use Rattle.file_syntax.specs.Expressions.{counted}
 use Rattle.file_syntax.specs.Statements.{body}

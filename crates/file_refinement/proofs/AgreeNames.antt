@@ -16,7 +16,8 @@ use Rattle.definition.specs.SectionFile.{Parsed, parsed, refused, on, Read, pur
 use Rattle.definition.specs.SectionFile as d
 use Rattle.access.specs.Le.{le16}
 use Rattle.file_syntax.specs.declared.cursor.Cursor.{Cursor}
-use Rattle.file_syntax.specs.Cursors.{cursor, number, u8, u16, u16or, skip, run}
+use Rattle.file_syntax.specs.Cursors.{cursor, number, u8, u16, u16or, skip}
+use Rattle.access.specs.Loops.{run}
 use Rattle.file_syntax.specs.Cursors as w
 use Rattle.file_section.specs.Headers.{globalCounts, counts, roles, header}
 use Rattle.file_section.specs.Names.{Reading, reading, agree, restAlike, alike, known, letters, spelling, nameAt, names}

@@ -15,7 +15,8 @@ use Rattle.definition.specs.SectionFile.{on, pure, require, listOf, nothingLeft
 use Rattle.definition.specs.SectionFile as d
 use Rattle.access.specs.Le.{le16}
 use Rattle.file_syntax.specs.declared.cursor.Cursor.{Cursor}
-use Rattle.file_syntax.specs.Cursors.{cursor, refuse, run}
+use Rattle.file_syntax.specs.Cursors.{cursor, refuse}
+use Rattle.access.specs.Loops.{run}
 use Rattle.file_syntax.specs.Statements.{body}
 use Rattle.file_section.specs.Names.{reading, nameAt, names}
 use Rattle.file_section.specs.Lists.{entry, list, lists}

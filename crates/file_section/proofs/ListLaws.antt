@@ -10,14 +10,15 @@ use borrow.Author.Tests.{eq-eqb, ne-eqb, lt-ltb, le-ltb}
 use Rattle.definition.specs.Base.{if_then_else_}
 use Rattle.access.specs.Le.{le16, le32, le64}
 use Rattle.file_syntax.specs.declared.cursor.Cursor.{Cursor}
-use Rattle.file_syntax.specs.Cursors.{refuse, u16, code, name, size, sizeOr, bits, smallCount, run}
+use Rattle.file_syntax.specs.Cursors.{refuse, u16, code, name, size, sizeOr, bits, smallCount}
+use Rattle.access.specs.Loops.{run}
 use Rattle.file_syntax.specs.Expressions.{counted}
 use Rattle.file_syntax.specs.Statements.{body}
 use Rattle.file_section.specs.Names.{Reading, reading, names}
 use Rattle.file_section.specs.Headers.{header}
 use Rattle.file_section.specs.Lists.{slot, stamp, mark, Which, whichOf, afterName, after, params, macroHead, noted, macro, named, restOf, entry, list, lists}
 use Rattle.file_section.specs.Stream.{Answer, answer, answerOf, zeros, tail, statements, readStream}
-use Rattle.file_syntax.proofs.CursorLaws.{run-end}
+use Rattle.access.proofs.LoopLaws.{run-end}
 use Rattle.file_syntax.proofs.CodeLaws.{counted-law}
 use Rattle.file_section.proofs.HeaderLaws.{header-short}
 

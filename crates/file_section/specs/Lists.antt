@@ -7,7 +7,8 @@ use lib.Dec.{eqb, ltb}
 use Rattle.definition.specs.Base.{if_then_else_}
 use Rattle.access.specs.Le.{le16}
 use Rattle.file_syntax.specs.declared.cursor.Cursor.{Cursor}
-use Rattle.file_syntax.specs.Cursors.{refuse, u16, code, smallCount, name, size, sizeOr, bits, run}
+use Rattle.file_syntax.specs.Cursors.{refuse, u16, code, smallCount, name, size, sizeOr, bits}
+use Rattle.access.specs.Loops.{run}
 use Rattle.file_syntax.specs.Expressions.{counted}
 use Rattle.file_syntax.specs.Statements.{body}
 use Rattle.file_section.specs.Names.{Reading, reading}

@@ -7,7 +7,8 @@ use lib.Dec.{eqb}
 use Rattle.definition.specs.Base.{if_then_else_}
 use Rattle.access.specs.Le.{le16}
 use Rattle.file_syntax.specs.declared.cursor.Cursor.{Cursor}
-use Rattle.file_syntax.specs.Cursors.{refuse, u8, skip, run}
+use Rattle.file_syntax.specs.Cursors.{refuse, u8, skip}
+use Rattle.access.specs.Loops.{run}
 
 -- a cursor, and the table
 pub record Reading : Type 0 where

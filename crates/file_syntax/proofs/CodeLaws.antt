@@ -9,11 +9,13 @@ use lib.ListN.{length, getD}
 use lib.Dec.{eqb}
 use borrow.Author.Tests.{eqb-true, eqb-false, not-true}
 use Rattle.file_syntax.specs.declared.cursor.Cursor.{Cursor}
-use Rattle.file_syntax.specs.Cursors.{cursor, refuse, u8, code, name, nameOr, size, sizeOr, bits, skip, smallCount, run}
+use Rattle.file_syntax.specs.Cursors.{cursor, refuse, u8, code, name, nameOr, size, sizeOr, bits, skip, smallCount}
+use Rattle.access.specs.Loops.{run}
 use Rattle.file_syntax.specs.Expressions.{addressOf, space, call, counted, Kind, kindOf, afterCode, expr, exprs}
 use Rattle.file_syntax.specs.Expressions as e
 use Rattle.file_syntax.specs.Statements.{Jump, jumpOf, afterJump, jumpLabel, Target, targetOf, afterTarget, branchDst, Form, formOf, afterForm, statement, body}
-use Rattle.file_syntax.proofs.CursorLaws.{both-true, refuse-new, number-short, number-got, run-end}
+use Rattle.file_syntax.proofs.CursorLaws.{both-true, refuse-new, number-short, number-got}
+use Rattle.access.proofs.LoopLaws.{run-end}
 
 pub deepest : (d : ℕ) (s : List ℕ) (m : ℕ) (c k r : Cursor) → d ≡ 0 → k ≡ code s 9 c → r ≡ refuse 4 k → r ≡ expr d s m c
 unfolding expr

@@ -11,7 +11,8 @@ use borrow.Author.Tests.{eq-eqb, ne-eqb, le-leb, lt-leb, lt-ltb, le-ltb, eqb-tru
 use Rattle.definition.specs.Base.{if_then_else_}
 use Rattle.access.specs.Le.{le16}
 use Rattle.file_syntax.specs.declared.cursor.Cursor.{Cursor}
-use Rattle.file_syntax.specs.Cursors.{cursor, refuse, number, u8, u16, u16or, skip, run}
+use Rattle.file_syntax.specs.Cursors.{cursor, refuse, number, u8, u16, u16or, skip}
+use Rattle.access.specs.Loops.{run}
 
 pub both-true : (a b : Bool) → (a && b) ≡ true → (a ≡ true) × (b ≡ true)
 both-true true b e = (refl, e)
@@ -134,20 +135,5 @@ u16-rest s lim k c r t e = e ∙ number-any 0 (le16 s (c .at)) 2 (length s) lim 
 
 pub chain : {A : Type 0} (f g : A → A) (x y z : A) → y ≡ f x → z ≡ g y → z ≡ g (f x)
 chain f g x y z p q = rw (← p) q
-
-pub run-start : {A : Type 0} (n : ℕ) (f : ℕ → A → A) (x : A) → run (n - 0) 0 f x ≡ run n 0 f x
-run-start n f x = let z : n - 0 ≡ n = omega arith in rw z
-
--- one more turn
-pub run-again : {A : Type 0} (n i : ℕ) (f : ℕ → A → A) (x y w : A) → i < n → run (n - i) i f x ≡ w → y ≡ f i x → run (n - (i + 1)) (i + 1) f y ≡ w
-unfolding run
-run-again n i f x y w h e p =
-    let z : n - i ≡ suc (n - (i + 1)) = omega arith in
-    let o : i + 1 ≡ suc i = omega arith in
-    rw (p, o) (rw (z, o) at e)
-
-pub run-end : {A : Type 0} (n i : ℕ) (f : ℕ → A → A) (x w : A) → n ≤ i → run (n - i) i f x ≡ w → x ≡ w
-unfolding run
-run-end n i f x w h e = let z : n - i ≡ 0 = omega arith in rw z at e
 
 pub ruleset cursor-laws = (refuse-kept, refuse-new, number-kept, number-past, number-short, number-got, number-out, u8-law, inside, u16-cut, u16-got, u16-out, u16-rest, u16-none, u16-some, skip-law)

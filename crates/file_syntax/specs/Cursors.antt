@@ -61,8 +61,3 @@ sizeOr s c = u16or s 1025 4 c
 -- a first bit and a bit count
 abbrev pub bits : List ℕ → Cursor → Cursor
 bits s c = u16 s 8193 4 (u16 s 8193 4 c)
-
--- n turns of f from x, the first with the number i
-unfoldable pub run : {A : Type 0} → ℕ → ℕ → (ℕ → A → A) → A → A
-run zero i f x = x
-run (suc n) i f x = run n (suc i) f (f i x)

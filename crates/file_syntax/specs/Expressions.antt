@@ -3,7 +3,8 @@ use Prim.Native.Nat.{ℕ, zero, suc}
 use mathlib.Core.List.{List, [], _∷_}
 use lib.ListN.{getD}
 use Rattle.file_syntax.specs.declared.cursor.Cursor.{Cursor}
-use Rattle.file_syntax.specs.Cursors.{refuse, skip, code, smallCount, name, nameOr, size, sizeOr, bits, run}
+use Rattle.file_syntax.specs.Cursors.{refuse, skip, code, smallCount, name, nameOr, size, sizeOr, bits}
+use Rattle.access.specs.Loops.{run}
 
 abbrev pub addressOf : List ℕ → ℕ → Cursor → Cursor
 addressOf s m c = name s m (sizeOr s c)

@@ -3,7 +3,8 @@ use Prim.Native.Nat.{ℕ}
 use mathlib.Core.List.{List, [], _∷_}
 use lib.ListN.{getD}
 use Rattle.file_syntax.specs.declared.cursor.Cursor.{Cursor}
-use Rattle.file_syntax.specs.Cursors.{skip, code, name, size, sizeOr, run}
+use Rattle.file_syntax.specs.Cursors.{skip, code, name, size, sizeOr}
+use Rattle.access.specs.Loops.{run}
 use Rattle.file_syntax.specs.Expressions.{space, call, expr, exprs}
 
 pub data Jump : Type 0 where

@@ -11,11 +11,13 @@ use Rattle.list_values.specs.declared.value.Value.{Value}
 use Rattle.list_values.specs.declared.sizes.Sizing.{Sizing}
 use Rattle.list_end.specs.declared.end.Fixed.{Fixed}
 use Rattle.list_end.specs.declared.end.Finished.{Finished}
-use Rattle.list_values.specs.Base.{if_then_else_, run, Listed, listed, thenL}
+use Rattle.list_values.specs.Base.{Listed, listed, thenL}
+use Rattle.definition.specs.Base.{if_then_else_}
+use Rattle.access.specs.Loops.{run}
 use Rattle.list_values.specs.Values.{withSize, word, valueOf, valueAt, putValue, place, zeroWord}
 use Rattle.list_values.specs.Sizes.{sizeOf, recorded, error, fallsBack}
 use Rattle.list_end.specs.End.{fixed, finished, fixSize, putFixed, fixOperand, fixInput, fixInputs, fixOutput, fixOperands, writeCopy, copyOf, subpieceCopy, finishFixed, finishOp, thenF, finishFrom, finishActions, markBuild, markAction, markBuilt, zeroAction, writeBuild, implicitBuild, implicitBuilds, moveWord, moveAction, moveTo, moveDown, zeroFrom, assemble}
-use Rattle.list_values.proofs.LoopLaws.{run-end}
+use Rattle.access.proofs.LoopLaws.{run-end}
 
 module _ (s t m : List ℕ) (v : Value) (ptr : ℕ) (z : Sizing) (known : ℕ) (p : known ≡ sizeOf s t m v) where
   pub fix-known : (w : Value) → (known ≡ 65535 → ⊥) → w ≡ withSize known v → fixed w z ≡ fixSize s t m v ptr z

@@ -3,7 +3,7 @@ use Prim.Native.Nat.{ℕ}
 use mathlib.Core.Bool.{true, false}
 use mathlib.Core.List.{List}
 use Rattle.list_values.specs.declared.sizes.Sizing.{Sizing}
-use Rattle.list_values.specs.Base.{run, runDown}
+use Rattle.access.specs.Loops.{run, runDown}
 use Rattle.list_values.specs.Sizes.{Sized, sized}
 use Rattle.list_pushes.specs.Passes.{updateAction}
 

@@ -6,11 +6,12 @@ use Prim.Native.Nat.{ℕ, _+_, _-_, _≤_, _<_}
 use native.Mathlib.Omega.{arith}
 use borrow.Author.Tests.{eq-eqb, ne-eqb}
 use Rattle.list_values.specs.declared.sizes.Sizing.{Sizing}
-use Rattle.list_values.specs.Base.{if_then_else_, run, runDown}
+use Rattle.definition.specs.Base.{if_then_else_}
+use Rattle.access.specs.Loops.{run, runDown}
 use Rattle.list_values.specs.Values.{place}
 use Rattle.list_values.specs.Sizes.{sized, thenS, sumOfErrors, recorded, Counted}
 use Rattle.list_values.proofs.SizeLaws.{record-sum}
-use Rattle.list_values.proofs.LoopLaws.{run-again, run-end, down-again, down-end}
+use Rattle.access.proofs.LoopLaws.{run-again, run-end, down-again, down-end}
 use Rattle.list_pushes.specs.Rules.{updateOperandSizes}
 use Rattle.list_pushes.specs.Passes.{actionPlace, updateAction, turn, turns, pass}
 

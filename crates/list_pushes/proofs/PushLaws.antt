@@ -13,13 +13,15 @@ use Rattle.list_pushes.specs.declared.push.State.{State}
 use Rattle.list_pushes.specs.declared.push.Env.{Env}
 use Rattle.list_pushes.specs.declared.push.Read.{Read}
 use Rattle.list_pushes.specs.declared.push.Pushed.{Pushed}
-use Rattle.list_values.specs.Base.{if_then_else_, run, listed}
+use Rattle.list_values.specs.Base.{listed}
+use Rattle.definition.specs.Base.{if_then_else_}
+use Rattle.access.specs.Loops.{run}
 use Rattle.list_values.specs.Values.{local, valueAt, putValue, zeroWord}
 use Rattle.list_values.specs.Sizes.{thenS, recorded, Counted}
 use Rattle.list_pushes.specs.Passes.{pass}
 use Rattle.list_pushes.proofs.PassLaws.{pass-one}
 use Rattle.list_pushes.specs.Pushes.{read, pushed, state, onPushed, onTmp, onPush, onState, withEnd, withTemporaries, withSizing, tmpWord, addTmp, outputOr, writeOperands, writeZeros, writeHead, write, push, updateLast, pushOp, opTo, op}
-use Rattle.list_values.proofs.LoopLaws.{run-end}
+use Rattle.access.proofs.LoopLaws.{run-end}
 
 module _ (m : List ℕ) (name size scope : ℕ) (st : State) where
   pub tmp-added : (v : Value) → st .temporaries < length m → st .temporaries < 512 → v ≡ local 6 (st .temporaries) → listed (Read.Value v (withTemporaries (st .temporaries + 1) st)) (set m (st .temporaries) (name % 65536 + size % 65536 * 65536 + scope % 8192 * 1125899906842624)) ≡ addTmp m name size scope st

@@ -13,8 +13,7 @@ use Rattle.definition.specs.Ast.{Section}
 use Rattle.definition.specs.Sizes as d
 use Rattle.definition.specs.Sizes.{Operand, in0, in1, out, FixedSize, one, pointer, Step, equal, sized, unsized, at, put, Sizing, isSize, butFirst, knownAt, setSize, setGiven, setOperand, setOperands, shareSize, setSizeOfAll, fallbackSize, pointerSize, fixedSize, setUnsized, applyStep, applySteps}
 use Rattle.list_refinement.specs.Encoding.{SoundTmp, Each, SoundAction, SizesHold}
-use Rattle.list_refinement.proofs.Settled.{known-small}
-use Rattle.list_refinement.proofs.Settled.{settled-sets, Ready, operand-sound, has, put-sound, put-has}
+use Rattle.list_refinement.proofs.Settled.{known-small, settled-sets, Ready, operand-sound, has, put-sound, put-has}
 use Rattle.list_refinement.proofs.Focus.{truncate-sound}
 
 -- at most so many errors were added

@@ -11,12 +11,13 @@ use lib.Seq.{getD-set-same, getD-set-other, getD-at, set-at, take-at, drop-appen
 use lib.Dec.{eqb}
 use borrow.Author.Tests.{eqb-true, eqb-false}
 use Rattle.definition.specs.Base as definition
-use Rattle.definition.specs.Base.{any, base-opens}
+use Rattle.definition.specs.Base.{any, base-opens, if_then_else_}
 use Rattle.definition.specs.Value.{ActionKind, SemanticAction, operationOf}
 use Rattle.definition.specs.End as d
 use Rattle.definition.specs.End.{isBuild, builds}
 use Rattle.definition.specs.ActionList.{inputWords, actionKindNumber, operationWord, filled, actionWords, listWords}
-use Rattle.list_values.specs.Base.{if_then_else_, run, Listed, listed, thenL}
+use Rattle.list_values.specs.Base.{Listed, listed, thenL}
+use Rattle.access.specs.Loops.{run}
 use Rattle.list_values.specs.Values.{place}
 use Rattle.list_end.specs.End.{markBuild, markAction, markBuilt, zeroAction, writeBuild, implicitBuild, implicitBuilds, moveWord, moveAction, moveTo, moveDown, zeroFrom, assemble}
 use Rattle.list_refinement.specs.Encoding.{actionsIn}

@@ -9,7 +9,7 @@ use lib.ListN.{length, getD, set, drop, length-append, length-set}
 use lib.Dec.{eqb, leb, ltb}
 use borrow.Author.Tests.{ne-eqb, eq-eqb, eqb-true, eqb-false, leb-true, leb-false, lt-ltb, le-ltb}
 use Rattle.definition.specs.Base as definition
-use Rattle.definition.specs.Base.{orElse, andThen, any, base-opens}
+use Rattle.definition.specs.Base.{orElse, andThen, any, base-opens, if_then_else_}
 use Rattle.definition.specs.Refusals.{refusalNumber, subpieceSize, offsetTooFar}
 use Rattle.definition.specs.Operations.{Operation, operationNumber, isOp}
 use Rattle.definition.specs.Value.{kindNumber, Value, sliceBytes, ActionKind, SemanticAction, operationOf, Temporary}
@@ -23,7 +23,7 @@ use Rattle.definition.specs.ActionList.{orNone, inputWords, valueWords, actionK
 use Rattle.list_values.specs.declared.value.Value.{Value as WordValue}
 use Rattle.list_values.specs.declared.sizes.Sizing.{Sizing as WordSizing}
 use Rattle.list_end.specs.declared.end.Finished.{Finished}
-use Rattle.list_values.specs.Base.{if_then_else_, Listed, listed, thenL}
+use Rattle.list_values.specs.Base.{Listed, listed, thenL}
 use Rattle.list_values.specs.Values.{word, valueAt, putValue, place}
 use Rattle.list_end.specs.End.{finished, writeCopy, copyOf, subpieceCopy, finishFixed, finishOp, thenF, finishFrom, finishActions, fixOperands}
 use Rattle.list_refinement.specs.Encoding.{encV, packed, actionsIn, temporariesIn, encZ, Sound, SoundTmp, Each, EachOption, SoundAction, SizesHold}
@@ -32,8 +32,7 @@ use Rattle.list_refinement.proofs.Operands.{word-is, words-of, outNumbe
 use Rattle.list_refinement.proofs.Focus.{wordsOf}
 use Rattle.list_refinement.proofs.Lists.{list-between, focus-at}
 use Rattle.list_refinement.proofs.Passes.{place-is}
-use Rattle.list_refinement.proofs.Fixing.{operands-fixed, inputs-after, inputs-sound, output-after, output-sound}
-use Rattle.list_refinement.proofs.Fixing.{AfterFix}
+use Rattle.list_refinement.proofs.Fixing.{operands-fixed, inputs-after, inputs-sound, output-after, output-sound, AfterFix}
 
 -- Answers compared: a refusal by its number, anything else with the sizing and the actions.
 

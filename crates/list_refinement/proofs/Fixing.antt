@@ -10,7 +10,7 @@ use lib.Seq.{set-at, getD-at}
 use lib.Dec.{eqb}
 use borrow.Author.Tests.{ne-eqb}
 use Rattle.definition.specs.Base as definition
-use Rattle.definition.specs.Base.{_or_, orElse, base-opens}
+use Rattle.definition.specs.Base.{_or_, orElse, base-opens, if_then_else_}
 use Rattle.definition.specs.Operations.{Operation}
 use Rattle.definition.specs.Value.{kindNumber, Value, ActionKind, SemanticAction, operationOf, Temporary}
 use Rattle.definition.specs.Ast.{Section}
@@ -18,17 +18,18 @@ use Rattle.definition.specs.Sizes as d
 use Rattle.definition.specs.Sizes.{Sizing, pointerSize, fallbackSize}
 use Rattle.definition.specs.ActionList.{orNone, valueWords, inputWords, actionKindNumber, operationWord, filled, actionWords}
 use Rattle.list_end.specs.declared.end.Fixed.{Fixed}
-use Rattle.list_values.specs.Base.{if_then_else_, run, listed, thenL}
+use Rattle.list_values.specs.Base.{listed, thenL}
+use Rattle.access.specs.Loops.{run}
 use Rattle.list_values.specs.Values.{valueAt, putValue, withSize}
 use Rattle.list_values.specs.Sizes.{sizeOf, error, fallsBack}
 use Rattle.list_end.specs.End.{fixed, fixSize, putFixed, fixOperand, fixInput, fixInputs, fixOutput, fixOperands}
 use Rattle.list_refinement.specs.Encoding.{encV, packed, temporariesIn, encZ, Sound, SoundTmp, Each, EachOption, SoundAction, SizesHold}
 use Rattle.list_refinement.proofs.Framing.{get-in}
-use Rattle.list_refinement.proofs.Operands.{kind-small, word-is, value-back, words-of, outNumber, outWord, action-length}
-use Rattle.list_refinement.proofs.Settled.{size-is, known-small}
-use Rattle.list_refinement.proofs.Settled.{error-is}
+use Rattle.list_refinement.proofs.Operands.{word-is, value-back, words-of, outNumber, outWord, action-length}
+use Rattle.list_refinement.proofs.Settled.{size-is, known-small, error-is}
 use Rattle.list_refinement.proofs.Focus.{wordsOf}
 use Rattle.list_refinement.proofs.Shares.{falls-is}
+use Rattle.definition_guarantee.proofs.Words.{kind-small}
 
 -- what fixing leaves: the temporaries as they were, and an error more at most
 pub record AfterFix (cost : ℕ) (z y : Sizing) : Type 0 where

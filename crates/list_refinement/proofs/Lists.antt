@@ -11,7 +11,7 @@ use Rattle.definition.specs.Value.{Value, SemanticAction, operationOf}
 use Rattle.definition.specs.Ast.{Section}
 use Rattle.definition.specs.ActionList.{inputWords, valueWords, actionKindNumber, operationWord, filled, actionWords, listWords}
 use Rattle.list_values.specs.declared.value.Value.{Value as WordValue}
-use Rattle.list_values.specs.Base.{run}
+use Rattle.access.specs.Loops.{run}
 use Rattle.list_values.specs.Values.{absent, noOutput, word, putValue}
 use Rattle.list_pushes.specs.Pushes.{writeOperands, writeZeros, writeHead, write}
 use Rattle.list_refinement.specs.Encoding.{encV, packed, actionsIn, Sound, Each, EachOption, SoundAction}

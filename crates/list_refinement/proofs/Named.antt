@@ -1,58 +1,22 @@
 -- In a section that was read, a subtable names one of the tables and a bit range one of the registers.
 use Prim.Native.Nat.{ℕ, zero, suc, _<_}
 use mathlib.Core.Path.{_≡_, refl, ap, subst}
-use mathlib.Core.Bool.{Bool, true, false}
+use mathlib.Core.Bool.{true}
 use mathlib.Core.List.{List, [], _∷_}
 use native.Mathlib.Omega.{arith}
 use lib.ListN.{length}
 use lib.Dec.{ltb}
 use borrow.Author.Tests.{ltb-true}
-use Rattle.definition.specs.Refusals.{Refusal}
 use Rattle.definition.specs.Ast.{BitRange, Subtable, Section}
-use Rattle.definition.specs.SectionFile.{Parsed, parsed, refused, Read, on, _>>=_, _>>_, pure, require, naming, index, entries, register, bitRange, table, subtable, Header, header, lists, section, streamOf, read}
+use Rattle.definition.specs.SectionFile.{Parsed, parsed, refused, Read, on, naming, index, entries, register, bitRange, table, subtable, Header, header, lists, section, streamOf, read}
 use Rattle.list_refinement.specs.Encoding.{Each}
 use Rattle.list_refinement.proofs.Settled.{each-at}
 use Rattle.list_refinement.proofs.FromSection.{TablesNamed}
-
-abbrev Reading : {A : Type 0} → (A → Type 0) → Parsed A → Type 0
-Reading P (parsed a s) = P a
-Reading P (refused r) = Unit {0}
-
--- whatever is read has P
-record Reads {A : Type 0} (P : A → Type 0) (m : Read A) : Type 0 where
-  reads : (s : List ℕ) → Reading P (m s)
-
-then-reads : {A B : Type 0} (P : A → Type 0) (Q : B → Type 0) (x : Parsed A) (f : A → Read B) → Reading P x → ((a : A) → P a → Reads Q (f a))
-    → Reading Q (on x f)
-unfolding on
-then-reads P Q (parsed a s) f h k = k a h .reads s
-then-reads P Q (refused r) f h k = tt
-
-bind : {A B : Type 0} {P : A → Type 0} {Q : B → Type 0} (m : Read A) (f : A → Read B) → Reads P m → ((a : A) → P a → Reads Q (f a))
-    → Reads Q (m >>= f)
-bind {A} {B} {P} {Q} m f h k = record { reads = λ s. then-reads P Q (m s) f (h .reads s) k }
-
-returns : {A : Type 0} {P : A → Type 0} (a : A) → P a → Reads P (pure a)
-returns a h = record { reads = λ s. h }
-
-any-reading : {A : Type 0} (x : Parsed A) → Reading (λ _. Unit {0}) x
-any-reading (parsed a s) = tt
-any-reading (refused r) = tt
-
-passed : {A B : Type 0} {Q : B → Type 0} (m : Read A) (f : A → Read B) → ((a : A) → Reads Q (f a)) → Reads Q (m >>= f)
-passed m f k = bind m f (record { reads = λ s. any-reading (m s) }) (λ a h. k a)
-
-passes : {B : Type 0} {Q : B → Type 0} (m : Read (Unit {0})) (r : Read B) → Reads Q r → Reads Q (m >> r)
-passes {B} {Q} m r k = record { reads = λ s. then-reads (λ _. Unit {0}) Q (m s) (λ _. r) (any-reading (m s)) (λ _ _. k) }
-
-required : (b : Bool) (r : Refusal) → Reads (λ _. b ≡ true) (require b r)
-unfolding require
-required true r = record { reads = λ s. refl }
-required false r = record { reads = λ s. tt }
+use Rattle.definition_guarantee.proofs.Readings.{Reading, Reads, then-reads, bind, returns, anything, passed, passes, reads-require}
 
 reads-naming : (count v : ℕ) → Reads (λ n. n < count) (naming count v)
 unfolding naming
-reads-naming count v = record { reads = λ s. then-reads (λ _. ltb v count ≡ true) (λ n. n < count) _ _ (required (ltb v count) _ .reads s) (λ _ h. returns v (ltb-true v count h)) }
+reads-naming count v = record { reads = λ s. then-reads (λ _. ltb v count ≡ true) (λ n. n < count) _ _ (reads-require (ltb v count) _ .reads s) (λ _ h. returns v (ltb-true v count h)) }
 
 reads-index : (count : ℕ) → Reads (λ n. n < count) (index count)
 reads-index count = passed _ _ (λ v. reads-naming count v)
@@ -68,7 +32,7 @@ module _ (names : ℕ) where
 
   -- so many of anything
   counted : {A : Type 0} (entry : ℕ → Read A) (taken : List ℕ) (n : ℕ) → Reads (λ xs. Each (λ _. Unit {0}) xs × (length xs ≡ n)) (entries names entry taken n)
-  counted entry taken n = reads-entries (λ _. Unit {0}) entry taken n (λ own. record { reads = λ s. any-reading (entry own s) })
+  counted entry taken n = reads-entries (λ _. Unit {0}) entry taken n (λ own. anything (entry own))
 
   reads-bitRange : (count own : ℕ) → Reads (λ (x : BitRange). x .register < count) (bitRange names count own)
   unfolding bitRange

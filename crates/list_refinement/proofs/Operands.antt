@@ -7,36 +7,20 @@ use native.Mathlib.Omega.{arith}
 use lib.ListN.{length, getD, set, getElem?, length-set}
 use Rattle.definition.specs.Base.{orElse}
 use Rattle.definition.specs.Operations.{Operation}
-use Rattle.definition.specs.Value.{Kind, kindNumber, Value, truncate, SemanticAction, operationOf}
+use Rattle.definition.specs.Value.{kindNumber, Value, truncate, SemanticAction, operationOf}
 use Rattle.definition.specs.Sizes.{Operand, in0, in1, out, at, put}
 use Rattle.definition.specs.ActionList.{orNone, valueWords, inputWords, actionKindNumber, outputWords, operationWord, filled, actionWords}
 use Rattle.list_values.specs.Values.{valueOf, word, valueAt, putSize}
 use Rattle.list_refinement.specs.Encoding.{encV, packed}
 use Rattle.list_refinement.proofs.Framing.{value-in, size-in}
+use Rattle.definition_guarantee.proofs.Words.{kind-small, word-kind, word-offset}
 
 -- values
-
-pub kind-small : (k : Kind) → kindNumber k < 8
-unfolding kindNumber
-kind-small Kind.InstStart = omega arith
-kind-small Kind.InstNext = omega arith
-kind-small Kind.Register = omega arith
-kind-small Kind.Field = omega arith
-kind-small Kind.Subtable = omega arith
-kind-small Kind.SubtableRef = omega arith
-kind-small Kind.PcodeTmp = omega arith
-kind-small Kind.Constant = omega arith
 
 pub size-word : (z : Option ℕ) → orElse 0 z < 65535 → orNone z ≤ 65535
 unfolding orNone orElse
 size-word none h = omega arith
 size-word (some n) h = omega arith
-
-word-kind : (k off z : ℕ) → k < 8 → (k + 256 * off + 2 ^ 24 * z) % 256 ≡ k
-word-kind k off z h = omega arith
-
-word-offset : (k off z : ℕ) → k < 8 → off ≤ 65535 → (k + 256 * off + 2 ^ 24 * z) / 256 % 65536 ≡ off
-word-offset k off z h j = omega arith
 
 word-top : (k off z : ℕ) → k < 8 → off ≤ 65535 → (k + 256 * off + 2 ^ 24 * z) / 16777216 ≡ z
 word-top k off z h j = omega arith

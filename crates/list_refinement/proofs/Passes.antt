@@ -12,15 +12,15 @@ use Rattle.definition.specs.Ast.{Section}
 use Rattle.definition.specs.Sizes as d
 use Rattle.definition.specs.Sizes.{Sizing, pointerSize}
 use Rattle.definition.specs.ActionList.{listWords}
-use Rattle.list_values.specs.Base.{if_then_else_, run, runDown}
+use Rattle.definition.specs.Base.{if_then_else_}
+use Rattle.access.specs.Loops.{run, runDown}
 use Rattle.list_values.specs.Values.{place}
 use Rattle.list_values.specs.Sizes.{Sized, sized, thenS}
 use Rattle.list_pushes.specs.Rules.{updateOperandSizes}
 use Rattle.list_pushes.specs.Passes.{actionPlace, updateAction}
 use Rattle.list_end.specs.Passes.{backwardPass, forwardPass}
 use Rattle.list_refinement.specs.Encoding.{actionsIn, temporariesIn, encZ, SoundTmp, Each, SoundAction, SizesHold}
-use Rattle.list_refinement.proofs.Rules.{update-is}
-use Rattle.list_refinement.proofs.Rules.{Ruled, ruled-after, updated-after}
+use Rattle.list_refinement.proofs.Rules.{update-is, Ruled, ruled-after, updated-after}
 use Rattle.list_refinement.proofs.Lists.{list-between, focus-at}
 
 -- where an action stands

@@ -9,7 +9,7 @@ use lib.ListN.{length, getD, set, drop, length-append, length-drop}
 use lib.Seq.{set-at, drop-cons}
 use lib.Dec.{leb, ltb}
 use borrow.Author.Tests.{le-leb, lt-leb, ltb-true, ltb-false, leb-true, leb-false}
-use Rattle.definition.specs.Base.{orElse, isSome}
+use Rattle.definition.specs.Base.{orElse, isSome, if_then_else_}
 use Rattle.definition.specs.Refusals.{refusalNumber, listFull, tooManyTemporaries}
 use Rattle.definition.specs.Operations.{Operation, operationNumber}
 use Rattle.definition.specs.Value.{Kind, kindNumber, Value, local, ActionKind, SemanticAction, operationOf, Temporary}
@@ -23,7 +23,7 @@ use Rattle.list_values.specs.declared.value.Value.{Value as WordValue}
 use Rattle.list_pushes.specs.declared.push.Env.{Env as WordEnv}
 use Rattle.list_pushes.specs.declared.push.Read.{Read}
 use Rattle.list_pushes.specs.declared.push.Pushed.{Pushed}
-use Rattle.list_values.specs.Base.{if_then_else_, listed}
+use Rattle.list_values.specs.Base.{listed}
 use Rattle.list_values.specs.Values.{valueAt}
 use Rattle.list_values.specs.Sizes.{sized, thenS}
 use Rattle.list_pushes.specs.Rules.{updateOperandSizes}
@@ -31,15 +31,12 @@ use Rattle.list_pushes.specs.Pushes.{read, pushed, onPush, onState, tmpWord, ad
 use Rattle.list_refinement.specs.Encoding.{encV, actionsIn, markedWord, temporaryWords, temporariesIn, encZ, encS, Within, Sound, SoundTmp, Each, EachOption, SoundAction, SizesHold}
 use Rattle.list_refinement.proofs.Operands.{size-word}
 use Rattle.list_refinement.proofs.Settled.{Ready, present}
-use Rattle.list_refinement.proofs.Focus.{value-of}
-use Rattle.list_refinement.proofs.Focus.{wordsOf}
+use Rattle.list_refinement.proofs.Focus.{value-of, wordsOf}
 use Rattle.list_refinement.proofs.RuleKinds.{kindOf, Operands}
 use Rattle.list_refinement.proofs.After.{After, after-ready}
-use Rattle.list_refinement.proofs.Rules.{update-is}
-use Rattle.list_refinement.proofs.Rules.{Ruled, ruled-after, updated-after}
+use Rattle.list_refinement.proofs.Rules.{update-is, Ruled, ruled-after, updated-after}
 use Rattle.list_refinement.proofs.Lists.{list-length, list-focus, focus-at, firstOf, secondOf, outputOf, write-action}
-use Rattle.list_refinement.proofs.Seen.{bind-tmp, bind-pushed}
-use Rattle.list_refinement.proofs.Seen.{yes, seenRead, seenPushed, seenTmp, seenPush, outcome, outcome-map}
+use Rattle.list_refinement.proofs.Seen.{bind-tmp, bind-pushed, yes, seenRead, seenPushed, seenTmp, seenPush, outcome, outcome-map}
 
 -- marks
 

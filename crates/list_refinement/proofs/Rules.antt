@@ -7,24 +7,21 @@ use mathlib.Core.Option.{Option, none, some}
 use native.Mathlib.Omega.{arith}
 use lib.ListN.{length, getD}
 use lib.Dec.{eqb}
-use Rattle.definition.specs.Base.{isSome}
+use Rattle.definition.specs.Base.{isSome, if_then_else_}
 use Rattle.definition.specs.Value.{Value, ActionKind, SemanticAction, operationOf}
 use Rattle.definition.specs.Ast.{Section}
 use Rattle.definition.specs.Sizes as d
 use Rattle.definition.specs.Sizes.{Operand, in0, in1, out, at, Sizing, setGiven, setOperands, setSizeOfAll, pointerSize, fixedSize, stepsOf, applyStep, applySteps}
 use Rattle.definition.specs.ActionList.{actionWords, actionKindNumber, operationWord}
-use Rattle.list_values.specs.Base.{if_then_else_}
 use Rattle.list_values.specs.Sizes.{thenS, setOperand}
 use Rattle.list_pushes.specs.Rules.{ruleOf, shift, comparison, boolNot, branch, fewOperands, applyRule, updateOperandSizes}
 use Rattle.list_refinement.specs.Encoding.{encZ, SizesHold}
 use Rattle.list_refinement.proofs.Framing.{get-in}
 use Rattle.list_refinement.proofs.Operands.{words-of, action-length}
 use Rattle.list_refinement.proofs.Settled.{Ready, has}
-use Rattle.list_refinement.proofs.Focus.{set-is}
-use Rattle.list_refinement.proofs.Focus.{wordsOf, temporariesOf, held}
+use Rattle.list_refinement.proofs.Focus.{set-is, wordsOf, temporariesOf, held}
 use Rattle.list_refinement.proofs.After.{After, after-ready, after-more, stepCost, stepsCost, Fit, Gives, set-after, all-after, steps-after}
-use Rattle.list_refinement.proofs.Shares.{pair-is, triple-is}
-use Rattle.list_refinement.proofs.Shares.{three-is, unsized-is}
+use Rattle.list_refinement.proofs.Shares.{pair-is, triple-is, three-is, unsized-is}
 use Rattle.list_refinement.proofs.RuleKinds.{RuleKind, ruleNumber, ruleSteps, kindOf, Operands, ruled}
 
 -- the operands that the action's rule needs

@@ -9,20 +9,18 @@ use lib.ListN.{length}
 use lib.Dec.{eqb}
 use borrow.Author.Tests.{ne-eqb, eq-eqb, eqb-true}
 use Rattle.definition.specs.Base as definition
-use Rattle.definition.specs.Base.{_or_, orElse, andThen, first, base-opens}
+use Rattle.definition.specs.Base.{_or_, orElse, andThen, first, base-opens, if_then_else_}
 use Rattle.definition.specs.Value.{Kind, Value, SemanticAction, value-opens}
 use Rattle.definition.specs.Ast.{Section}
 use Rattle.definition.specs.Sizes as d
 use Rattle.definition.specs.Sizes.{Operand, in0, in1, out, at, Sizing, isSize, butFirst, knownAt, setOperands, setSizeOfAll, fallbackSize, pointerSize}
 use Rattle.definition.specs.ActionList.{orNone}
-use Rattle.list_values.specs.Base.{if_then_else_}
 use Rattle.list_values.specs.Values.{valueAt}
 use Rattle.list_values.specs.Sizes.{Sized, thenS, setOperand, setTwo, setThree, fallsBack, pairFallback, sharePair, setSizeOfPair, tripleFallsBack, tripleFallback, shareSize, allEqual, shareTriple, setSizeOfTriple, setUnsized}
 use Rattle.list_refinement.specs.Encoding.{encV, encZ, SizesHold}
 use Rattle.list_refinement.proofs.Operands.{operandAt}
 use Rattle.list_refinement.proofs.Settled.{Ready, has, present}
-use Rattle.list_refinement.proofs.Focus.{value-of, known-is, known-fits, set-is}
-use Rattle.list_refinement.proofs.Focus.{set-ready, set-has, wordsOf, temporariesOf, held}
+use Rattle.list_refinement.proofs.Focus.{value-of, known-is, known-fits, set-is, set-ready, set-has, wordsOf, temporariesOf, held}
 
 -- the fallback
 falls-kind : (sec : Section) (k : Kind) (number offset : ℕ) (own : Option ℕ)

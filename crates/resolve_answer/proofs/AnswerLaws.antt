@@ -4,10 +4,12 @@ use mathlib.Core.List.{List, _++_}
 use Prim.Native.Nat.{ℕ, _+_, _-_, _*_, _/_, _%_, _≤_, _<_}
 use lib.ListN.{length, getD, set, take, replicate}
 use borrow.Author.Tests.{eq-eqb, ne-eqb, lt-ltb, le-ltb}
-use Rattle.list_values.specs.Base.{if_then_else_, run, listed, thenL}
+use Rattle.list_values.specs.Base.{listed, thenL}
+use Rattle.definition.specs.Base.{if_then_else_}
+use Rattle.access.specs.Loops.{run}
 use Rattle.list_values.specs.Values.{word}
 use Rattle.list_end.specs.End.{zeroFrom, assemble}
-use Rattle.list_values.proofs.LoopLaws.{run-end}
+use Rattle.access.proofs.LoopLaws.{run-end}
 use Rattle.stmt_walk.specs.declared.walk.Walk.{Walk}
 use Rattle.stmt_walk.specs.declared.walk.Export.{Export}
 use Rattle.resolve_answer.specs.declared.answer.Words.{Words}

@@ -3,7 +3,9 @@ use Prim.Native.Nat.{ℕ, _+_, _*_, _/_, _%_}
 use mathlib.Core.List.{List}
 use lib.ListN.{getD, set}
 use lib.Dec.{eqb, ltb}
-use Rattle.list_values.specs.Base.{if_then_else_, run, thenL}
+use Rattle.list_values.specs.Base.{thenL}
+use Rattle.definition.specs.Base.{if_then_else_}
+use Rattle.access.specs.Loops.{run}
 use Rattle.list_values.specs.Values.{word}
 use Rattle.list_end.specs.End.{zeroFrom, assemble}
 use Rattle.stmt_walk.specs.declared.walk.Walk.{Walk}

@@ -7,14 +7,14 @@ use native.Mathlib.Omega.{arith}
 use lib.ListN.{length, length-append}
 use lib.Dec.{eqb}
 use borrow.Author.Tests.{lt-ltb, eq-eqb}
-use Rattle.definition.specs.Base.{any}
+use Rattle.definition.specs.Base.{any, if_then_else_}
 use Rattle.definition.specs.Value.{SemanticAction, ExportKind, Export}
 use Rattle.definition.specs.Ast.{Section}
 use Rattle.definition.specs.Walk.{State}
 use Rattle.definition.specs.End.{builds, implicitBuilds}
 use Rattle.definition.specs.ActionList as d
 use Rattle.definition.specs.ActionList.{labelsPlaced, points, valueWords, Answer}
-use Rattle.list_values.specs.Base.{if_then_else_, thenL}
+use Rattle.list_values.specs.Base.{thenL}
 use Rattle.list_values.specs.Values.{word}
 use Rattle.stmt_walk.specs.declared.walk.Walk.{Walk}
 use Rattle.stmt_walk.specs.declared.walk.Export.{Export as WordExport}

@@ -1,60 +1,16 @@
 -- In a section that was read, a bit range names one of the registers and ends within 16,384 bits.
 use Prim.Native.Nat.{ℕ, zero, suc, _+_, _≤_, _<_}
-use mathlib.Core.Path.{_≡_, refl, subst}
-use mathlib.Core.Bool.{Bool, true, false}
+use mathlib.Core.Path.{_≡_, subst}
 use mathlib.Core.List.{List, [], _∷_}
 use native.Mathlib.Omega.{arith}
 use lib.ListN.{length}
-use lib.Dec.{leb}
-use borrow.Author.Tests.{leb-true}
-use Rattle.definition.specs.Refusals.{Refusal}
 use Rattle.definition.specs.Ast.{BitRange, Section}
-use Rattle.definition.specs.SectionFile.{Parsed, parsed, refused, Read, on, _>>=_, _>>_, pure, require, upTo, bitNumber, entries, bitRange, Header, header, lists, section, streamOf, read}
+use Rattle.definition.specs.SectionFile.{Parsed, parsed, refused, Read, on, entries, bitRange, Header, header, lists, section, streamOf, read}
 use Rattle.list_refinement.specs.Encoding.{Each}
 use Rattle.list_refinement.proofs.Settled.{each-at}
 use Rattle.list_refinement.proofs.Named.{section-named}
 use Rattle.expr_refinement.proofs.Scopes.{BitRangesFit}
-
-abbrev Reading : {A : Type 0} → (A → Type 0) → Parsed A → Type 0
-Reading P (parsed a s) = P a
-Reading P (refused r) = Unit {0}
-
--- whatever is read has P
-record Reads {A : Type 0} (P : A → Type 0) (m : Read A) : Type 0 where
-  reads : (s : List ℕ) → Reading P (m s)
-
-then-reads : {A B : Type 0} (P : A → Type 0) (Q : B → Type 0) (x : Parsed A) (f : A → Read B) → Reading P x → ((a : A) → P a → Reads Q (f a)) → Reading Q (on x f)
-unfolding on
-then-reads P Q (parsed a s) f h k = k a h .reads s
-then-reads P Q (refused r) f h k = tt
-
-bind : {A B : Type 0} {P : A → Type 0} {Q : B → Type 0} (m : Read A) (f : A → Read B) → Reads P m → ((a : A) → P a → Reads Q (f a)) → Reads Q (m >>= f)
-bind {A} {B} {P} {Q} m f h k = record { reads = λ s. then-reads P Q (m s) f (h .reads s) k }
-
-returns : {A : Type 0} {P : A → Type 0} (a : A) → P a → Reads P (pure a)
-returns a h = record { reads = λ s. h }
-
-any-reading : {A : Type 0} (x : Parsed A) → Reading (λ _. Unit {0}) x
-any-reading (parsed a s) = tt
-any-reading (refused r) = tt
-
-passed : {A B : Type 0} {Q : B → Type 0} (m : Read A) (f : A → Read B) → ((a : A) → Reads Q (f a)) → Reads Q (m >>= f)
-passed m f k = bind m f (record { reads = λ s. any-reading (m s) }) (λ a h. k a)
-
-passes : {B : Type 0} {Q : B → Type 0} (m : Read (Unit {0})) (r : Read B) → Reads Q r → Reads Q (m >> r)
-passes {B} {Q} m r k = record { reads = λ s. then-reads (λ _. Unit {0}) Q (m s) (λ _. r) (any-reading (m s)) (λ _ _. k) }
-
-required : (b : Bool) (r : Refusal) → Reads (λ _. b ≡ true) (require b r)
-unfolding require
-required true r = record { reads = λ s. refl }
-required false r = record { reads = λ s. tt }
-
-reads-limit : (limit v : ℕ) → Reads (λ n. n ≤ limit) (upTo limit v)
-unfolding upTo
-reads-limit limit v = record { reads = λ s. then-reads (λ _. leb v limit ≡ true) (λ n. n ≤ limit) _ _ (required (leb v limit) _ .reads s) (λ _ h. returns v (leb-true v limit h)) }
-
-reads-bits : Reads (λ n. n ≤ 8192) bitNumber
-reads-bits = passed _ _ (λ v. reads-limit 8192 v)
+use Rattle.definition_guarantee.proofs.Readings.{Reading, Reads, bind, returns, passed, passes, reads-bits}
 
 abbrev Fits : BitRange → Type 0
 Fits x = x .firstBit + x .bitCount ≤ 16384

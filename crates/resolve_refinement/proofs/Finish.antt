@@ -21,12 +21,12 @@ use Rattle.definition.specs.End.{Semantics}
 use Rattle.definition.specs.ActionList.{orNone, labelsPlaced, refusal, answered}
 use Rattle.definition_guarantee.specs.Tests as tests
 use Rattle.definition_guarantee.proofs.Finish as ends
-use Rattle.definition_guarantee.proofs.Layouts.{backward-rough, forward-rough}
-use Rattle.definition_guarantee.proofs.Layouts.{SmallSection, Rough}
+use Rattle.definition_guarantee.proofs.Layouts.{backward-rough, forward-rough, SmallSection, Rough}
 use Rattle.definition_guarantee.proofs.Kept.{Kept}
 use Rattle.list_values.specs.declared.sizes.Sizing.{Sizing as WordSizing}
 use Rattle.list_end.specs.declared.end.Finished.{Finished}
-use Rattle.list_values.specs.Base.{if_then_else_, Listed, listed, thenL}
+use Rattle.list_values.specs.Base.{Listed, listed, thenL}
+use Rattle.definition.specs.Base.{if_then_else_}
 use Rattle.list_values.specs.Values.{place}
 use Rattle.list_values.specs.Sizes.{thenS}
 use Rattle.list_end.specs.Passes.{backwardPass, forwardPass}
@@ -38,11 +38,9 @@ use Rattle.resolve_answer.specs.Ends.{judged, exportFixed, judgedFixed, finishE
 use Rattle.list_refinement.specs.Encoding.{actionsIn, temporariesIn, firstError, encZ, encS, SoundTmp, Each, SoundAction, SizesHold}
 use Rattle.list_refinement.proofs.Lists.{list-length}
 use Rattle.list_refinement.proofs.Pushes.{tmps-length}
-use Rattle.list_refinement.proofs.Passes.{inference-is}
-use Rattle.list_refinement.proofs.Passes.{place-is, RuledAction, backward-after, forward-after}
+use Rattle.list_refinement.proofs.Passes.{inference-is, place-is, RuledAction, backward-after, forward-after}
 use Rattle.list_refinement.proofs.Fixing.{fix-is, fix-sound}
-use Rattle.list_refinement.proofs.Finishing.{finish-is, finish-done}
-use Rattle.list_refinement.proofs.Finishing.{refusedEnd, ended, seenEnd, ending, Finishable, AfterFinish}
+use Rattle.list_refinement.proofs.Finishing.{finish-is, finish-done, refusedEnd, ended, seenEnd, ending, Finishable, AfterFinish}
 use Rattle.list_refinement.proofs.FromWalk.{rough-ruled, sound-finishable}
 use Rattle.expr_refinement.proofs.Encodings.{tmps, count, Stood}
 use Rattle.expr_refinement.proofs.Below.{Spare}

@@ -8,7 +8,7 @@ use mathlib.Core.Option.{Option, none, some}
 use lib.ListN.{length, getD, length-set}
 use lib.Dec.{eqb, leb, ltb}
 use Rattle.definition.specs.Base as definition
-use Rattle.definition.specs.Base.{andThen, base-opens}
+use Rattle.definition.specs.Base.{andThen, base-opens, if_then_else_}
 use Rattle.definition.specs.Refusals.{Refusal, subpieceSize, offsetTooFar}
 use Rattle.definition.specs.Operations.{Operation, isOp}
 use Rattle.definition.specs.Value.{Value, SemanticAction, operationOf}
@@ -19,7 +19,8 @@ use Rattle.list_values.specs.declared.value.Value.{Value as WordValue}
 use Rattle.list_values.specs.declared.sizes.Sizing.{Sizing as WordSizing}
 use Rattle.list_end.specs.declared.end.Fixed.{Fixed}
 use Rattle.list_end.specs.declared.end.Finished.{Finished}
-use Rattle.list_values.specs.Base.{if_then_else_, run, Listed, listed, thenL}
+use Rattle.list_values.specs.Base.{Listed, listed, thenL}
+use Rattle.access.specs.Loops.{run}
 use Rattle.list_values.specs.Values.{withSize, valueAt, putValue, place}
 use Rattle.list_values.specs.Sizes.{sizeOf, recorded, error, fallsBack}
 use Rattle.list_end.specs.End.{fixed, finished, fixSize, putFixed, fixOperand, fixInput, fixInputs, fixOutput, fixOperands, writeCopy, copyOf, subpieceCopy, finishFixed, finishOp, thenF, finishFrom, finishActions}

@@ -9,7 +9,7 @@ use lib.ListN.{length, getD, replicate, length-replicate}
 use lib.Dec.{leb, ltb}
 use borrow.Author.Tests.{ltb-true, ltb-false, le-leb, lt-leb}
 use Rattle.access.specs.Le.{le16}
-use Rattle.definition.specs.Base.{orElse}
+use Rattle.definition.specs.Base.{orElse, if_then_else_}
 use Rattle.definition.specs.Refusals.{refusalNumber, listFull}
 use Rattle.definition.specs.Ast.{Section}
 use Rattle.definition.specs.Walk.{State, Env, Outcome, on, require}
@@ -19,7 +19,6 @@ use Rattle.definition.specs.End.{atStart}
 use Rattle.definition.specs.ActionList.{orNone, labelsPlaced, answered, roomFor}
 use Rattle.definition_guarantee.specs.Limits.{WithinLimits}
 use Rattle.definition_guarantee.proofs.Kept.{Kept, small-section}
-use Rattle.list_values.specs.Base.{if_then_else_}
 use Rattle.list_values.specs.Values.{place}
 use Rattle.list_end.specs.End.{zeroFrom}
 use Rattle.stmt_walk.specs.Walks.{Stepped, Walked}

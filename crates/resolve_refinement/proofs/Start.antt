@@ -10,7 +10,7 @@ use lib.Seq.{length-take-le}
 use lib.Dec.{eqb}
 use Rattle.access.specs.Le.{le16}
 use Rattle.definition.specs.Base as definition
-use Rattle.definition.specs.Base.{orElse, andThen, first, base-opens}
+use Rattle.definition.specs.Base.{orElse, andThen, first, base-opens, if_then_else_}
 use Rattle.definition.specs.Value.{Kind, Value, local}
 use Rattle.definition.specs.Ast.{Space, Field, Subtable, Section}
 use Rattle.definition.specs.Sizes as d
@@ -20,7 +20,6 @@ use Rattle.definition.specs.End.{atStart}
 use Rattle.definition_guarantee.specs.Limits.{WithinLimits}
 use Rattle.definition_guarantee.proofs.Kept.{small-section}
 use Rattle.definition_guarantee.proofs.KeptLabels.{no-label}
-use Rattle.list_values.specs.Base.{if_then_else_}
 use Rattle.list_values.specs.Sizes.{entry}
 use Rattle.file_refinement.specs.Holds.{absentAt, spaceAt, Holds}
 use Rattle.list_refinement.specs.Encoding.{temporaryWords, Sound, Each}

@@ -7,7 +7,7 @@ use lib.ListN.{length, getD, drop, replicate, length-append, length-drop, length
 use lib.Seq.{getD-at, set-at, take-at}
 use Rattle.definition.specs.Value.{Temporary}
 use Rattle.definition.specs.ActionList.{filled, temporaryWord}
-use Rattle.list_values.specs.Base.{run}
+use Rattle.access.specs.Loops.{run}
 use Rattle.list_end.specs.End.{zeroFrom}
 use Rattle.resolve_answer.specs.Answers.{clearMark, clearMarks}
 use Rattle.list_refinement.specs.Encoding.{markedWord, temporaryWords, temporariesIn, SoundTmp, Each}

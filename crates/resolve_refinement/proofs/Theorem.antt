@@ -8,14 +8,13 @@ use native.Mathlib.Omega.{arith}
 use lib.ListN.{length, replicate}
 use lib.Dec.{eqb}
 use borrow.Author.Tests.{eq-eqb}
-use Rattle.definition.specs.Base.{orElse}
+use Rattle.definition.specs.Base.{orElse, if_then_else_}
 use Rattle.definition.specs.Refusals.{Refusal, refusalNumber}
 use Rattle.definition.specs.Ast.{Section}
 use Rattle.definition.specs.SectionFile.{Parsed, parsed, refused, on, streamOf, section, read}
 use Rattle.definition.specs.ActionList as d
 use Rattle.definition.specs.ActionList.{orNone}
 use Rattle.definition_guarantee.proofs.Limits.{read-within}
-use Rattle.list_values.specs.Base.{if_then_else_}
 use Rattle.file_blocks.specs.Blocks.{refusalOf, joined}
 use Rattle.file_section.specs.Stream.{readStream}
 use Rattle.file_refinement.proofs.Agree.{refusal-bad}

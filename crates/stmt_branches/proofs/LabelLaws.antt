@@ -6,27 +6,26 @@ use native.Mathlib.Omega.{arith}
 use lib.ListN.{getD, set}
 use borrow.Author.Tests.{eq-eqb, ne-eqb, lt-ltb, le-ltb, le-leb, lt-leb}
 use Rattle.list_pushes.specs.declared.push.State.{State}
-use Rattle.list_values.specs.Base.{if_then_else_, listed}
+use Rattle.list_values.specs.Base.{listed}
+use Rattle.definition.specs.Base.{if_then_else_}
 use Rattle.stmt_walk.specs.declared.walk.Walk.{Walk}
 use Rattle.stmt_branches.specs.declared.labels.Label.{Label}
 use Rattle.stmt_branches.specs.Labels.{findLabel, labelKey, labelOr, getOrInsertLabel, onLabel, placeLabel, resolveLabel, labelsAfter, labelled}
-
-less : (n i : ℕ) → i < n → n - i ≡ suc (n - (i + 1))
-less n i h = omega arith
+use Rattle.access.proofs.LoopLaws.{one-less}
 
 pub find-start : (n : ℕ) (l : List ℕ) (key : ℕ) → findLabel (n - 0) 0 l key ≡ findLabel n 0 l key
 find-start n l key = let z : n - 0 ≡ n = omega arith in rw z
 
 pub find-hit : (n i : ℕ) (l : List ℕ) (key w r : ℕ) → i < n → w ≡ getD l i 0 → w % 4294967296 ≡ key → findLabel (n - i) i l key ≡ r → i ≡ r
 unfolding findLabel if_then_else_
-find-hit n i l key w r h g q e = rw (less n i h, ← g, eq-eqb (w % 4294967296) key q) at e
+find-hit n i l key w r h g q e = rw (one-less n i h, ← g, eq-eqb (w % 4294967296) key q) at e
 
 pub find-miss : (n i : ℕ) (l : List ℕ) (key w r : ℕ) → i < n → w ≡ getD l i 0 → (w % 4294967296 ≡ key → ⊥) →
     findLabel (n - i) i l key ≡ r → findLabel (n - (i + 1)) (i + 1) l key ≡ r
 unfolding findLabel if_then_else_
 find-miss n i l key w r h g q e =
     let o : i + 1 ≡ suc i = omega arith in
-    rw o (rw (less n i h, ← g, ne-eqb (w % 4294967296) key q, o) at e)
+    rw o (rw (one-less n i h, ← g, ne-eqb (w % 4294967296) key q, o) at e)
 
 pub find-end : (n i : ℕ) (l : List ℕ) (key r : ℕ) → n ≤ i → findLabel (n - i) i l key ≡ r → i ≡ r
 unfolding findLabel

@@ -6,13 +6,12 @@ use mathlib.Core.Option.{Option, none, some}
 use native.Mathlib.Omega.{arith}
 use lib.Dec.{eqb, leb}
 use borrow.Author.Tests.{leb-true, leb-false, eq-eqb}
-use Rattle.definition.specs.Base.{isSome, orElse}
+use Rattle.definition.specs.Base.{isSome, orElse, if_then_else_}
 use Rattle.definition.specs.Refusals.{Refusal, refusalNumber, afterExport, tooManyStatements}
 use Rattle.definition.specs.Value.{ExportKind, Export}
 use Rattle.definition.specs.Walk.{State, Env, Outcome, done, stopped, on, require}
 use Rattle.definition.specs.Statements as d
 use Rattle.definition.specs.ActionList.{orNone}
-use Rattle.list_values.specs.Base.{if_then_else_}
 use Rattle.list_refinement.specs.Encoding.{encS}
 use Rattle.stmt_walk.specs.declared.walk.Step.{Step}
 use Rattle.stmt_bodies.specs.Statements.{begun, begin}

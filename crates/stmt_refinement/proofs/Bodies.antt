@@ -9,7 +9,7 @@ use native.Mathlib.Nat.{add-zero}
 use native.Mathlib.Omega.{arith}
 use lib.ListN.{length, getD, take, drop, getElem?}
 use borrow.Author.Tests.{lt-ltb, le-leb}
-use Rattle.list_values.specs.Base.{if_then_else_}
+use Rattle.definition.specs.Base.{if_then_else_}
 use Rattle.access.specs.Le.{le16}
 use Rattle.definition.specs.Refusals.{refusalNumber, macroTooDeep}
 use Rattle.definition.specs.Ast.{Statement, Macro}
@@ -46,10 +46,8 @@ use Rattle.stmt_refinement.proofs.Given.{Given, walkOf}
 use Rattle.stmt_refinement.proofs.Begin.{oneMore, started, Begins, begins, refuses, begin-is}
 use Rattle.stmt_refinement.proofs.Standing.{Standing, Framed, Follows}
 use Rattle.stmt_refinement.proofs.Frames.{framed-refl, framed-trans, framed-begun, standing-begun}
-use Rattle.stmt_refinement.proofs.MacroPlaces.{macro-place, first-ordinal}
-use Rattle.stmt_refinement.proofs.MacroPlaces.{parts, ordinal-small}
-use Rattle.stmt_refinement.proofs.Macros.{entered-standing, returned-standing, returned-framed}
-use Rattle.stmt_refinement.proofs.Macros.{opening, bound-count, bound-each}
+use Rattle.stmt_refinement.proofs.MacroPlaces.{macro-place, first-ordinal, parts, ordinal-small}
+use Rattle.stmt_refinement.proofs.Macros.{entered-standing, returned-standing, returned-framed, opening, bound-count, bound-each}
 
 -- what enters a macro in the definition, with so many levels left
 unfoldable pub enterOf : ℕ → ℕ → Macro → List ExprValue → walks.Walk (Unit {0})

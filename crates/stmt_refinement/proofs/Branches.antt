@@ -9,7 +9,7 @@ use native.Mathlib.Omega.{arith}
 use lib.ListN.{length, getD, getElem?, drop, length-append}
 use lib.Dec.{eqb}
 use Rattle.access.specs.Le.{le16, le64}
-use Rattle.definition.specs.Base.{base-opens, orElse, isSome}
+use Rattle.definition.specs.Base.{base-opens, orElse, isSome, if_then_else_}
 use Rattle.definition.specs.Refusals.{refusalNumber, tooManyLabels}
 use Rattle.definition.specs.Operations.{Operation, operationNumber, operations-opens}
 use Rattle.definition.specs.Value.{kindNumber, Value, constant, SemanticAction, operationOf}
@@ -26,7 +26,6 @@ use Rattle.definition.specs.Statements as d
 use Rattle.definition.specs.ActionList.{orNone, placesLabel, labelsPlaced}
 use Rattle.list_pushes.specs.declared.push.State.{State as WordState}
 use Rattle.list_pushes.specs.declared.push.Env.{Env as WordEnv}
-use Rattle.list_values.specs.Base.{if_then_else_}
 use Rattle.list_values.specs.Values.{absent, noOutput}
 use Rattle.list_pushes.specs.Pushes.{PushedOut, pushOp}
 use Rattle.file_refinement.proofs.Inversion.{Begun, jump-begun, jump-name-at, jump-integer-at, hints, direct-at, indirect-at, branch-label-at, branch-dst-begun, branch-at, cond-branch-at, label-at}
@@ -34,8 +33,7 @@ use Rattle.list_refinement.specs.Encoding.{encV, Sound, SoundAction}
 use Rattle.list_refinement.proofs.Lists.{firstOf, secondOf, outputOf}
 use Rattle.list_refinement.proofs.RuleKinds.{kindOf}
 use Rattle.list_refinement.proofs.Seen.{seenPushed, outcome}
-use Rattle.list_refinement.proofs.Pushes.{push-op-is, push-op-done}
-use Rattle.list_refinement.proofs.Pushes.{Stands}
+use Rattle.list_refinement.proofs.Pushes.{push-op-is, push-op-done, Stands}
 use Rattle.stmt_walk.specs.declared.walk.Walk.{Walk}
 use Rattle.stmt_walk.specs.Walks.{stepPushed, Walked, walked, besideL, stop, pushedThen}
 use Rattle.stmt_branches.specs.Labels.{getOrInsertLabel, onLabel, resolveLabel, labelsAfter}
@@ -45,8 +43,7 @@ use Rattle.expr_resolver.specs.Expressions.{exprValue, resolveExpr}
 use Rattle.expr_refinement.proofs.Encodings.{encX, SoundX, opAction, each-last, placed-last, count, stood-more}
 use Rattle.expr_refinement.proofs.Answers.{acts, temps, word}
 use Rattle.expr_refinement.proofs.Below.{Spare}
-use Rattle.expr_refinement.proofs.Scopes.{meaning-sound}
-use Rattle.expr_refinement.proofs.Scopes.{encM, SoundM, ident-is}
+use Rattle.expr_refinement.proofs.Scopes.{meaning-sound, encM, SoundM, ident-is}
 use Rattle.expr_refinement.proofs.Positions.{drop-same}
 use Rattle.expr_refinement.proofs.Expressions.{after-is}
 use Rattle.expr_refinement.proofs.Pushing.{push-op-halts, last-halts}
@@ -58,10 +55,8 @@ use Rattle.stmt_refinement.proofs.Given.{Given, walkOf, operand-of}
 use Rattle.stmt_refinement.proofs.Ends.{jump-name-ends, jump-integer-ends, label-dst-ends, starts, branch-ends, cond-branch-ends, label-ends}
 use Rattle.stmt_refinement.proofs.Standing.{Standing, Framed, Steps}
 use Rattle.stmt_refinement.proofs.Frames.{framed-refl}
-use Rattle.stmt_refinement.proofs.Stepping.{steps-seen, steps-operand}
-use Rattle.stmt_refinement.proofs.Stepping.{steps-goes, steps-then}
-use Rattle.stmt_refinement.proofs.Labelling.{Labelled, get-or-insert, Placed, resolve-label}
-use Rattle.stmt_refinement.proofs.Labelling.{Relabels, labelsBeside, relabelled, relabels-stand, relabels-framed}
+use Rattle.stmt_refinement.proofs.Stepping.{steps-seen, steps-operand, steps-goes, steps-then}
+use Rattle.stmt_refinement.proofs.Labelling.{Labelled, get-or-insert, Placed, resolve-label, Relabels, labelsBeside, relabelled, relabels-stand, relabels-framed}
 
 -- a label has no rule for sizes
 label-unsized : (sec : Section) (n : ℕ) (z : Sizing) → sizes.updateOperandSizes sec false (opAction Operation.PcodeLabel n [] none) z ≡ (opAction Operation.PcodeLabel n [] none, z)

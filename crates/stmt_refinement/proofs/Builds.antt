@@ -10,7 +10,7 @@ use lib.Dec.{eqb, ltb}
 use borrow.Author.Tests.{lt-ltb, le-ltb, ltb-true, ltb-false}
 use Rattle.access.specs.Le.{le16}
 use Rattle.definition.specs.Base as definition
-use Rattle.definition.specs.Base.{orElse, position, base-opens}
+use Rattle.definition.specs.Base.{orElse, position, base-opens, if_then_else_}
 use Rattle.definition.specs.Refusals.{Refusal, refusalNumber, undefined, wrongKind, absentTable}
 use Rattle.definition.specs.Value.{ActionKind, SemanticAction, operationOf}
 use Rattle.definition.specs.Ast.{Subtable}
@@ -20,7 +20,7 @@ use Rattle.definition.specs.Scope.{find, SymbolKind, symbolNumber, Symbol, isSy
 use Rattle.definition.specs.Statements as d
 use Rattle.definition.specs.ActionList.{orNone, actionKindNumber, operationWord}
 use Rattle.list_pushes.specs.declared.push.Env.{Env as WordEnv}
-use Rattle.list_values.specs.Base.{if_then_else_, Listed, listed, thenL}
+use Rattle.list_values.specs.Base.{Listed, listed, thenL}
 use Rattle.list_values.specs.Sizes.{entry}
 use Rattle.file_refinement.specs.Holds.{subtableAt, symbolWord}
 use Rattle.list_refinement.proofs.Lists.{firstOf, secondOf, outputOf}

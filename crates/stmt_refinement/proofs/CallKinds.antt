@@ -10,7 +10,7 @@ use lib.Dec.{eqb}
 use borrow.Author.Tests.{ne-eqb}
 use Rattle.access.specs.Le.{le16}
 use Rattle.definition.specs.Base as definition
-use Rattle.definition.specs.Base.{base-opens}
+use Rattle.definition.specs.Base.{base-opens, if_then_else_}
 use Rattle.definition.specs.Refusals.{Refusal, refusalNumber, undefined, wrongKind, delaySlotArgument}
 use Rattle.definition.specs.Value.{ActionKind, SemanticAction, operationOf}
 use Rattle.definition.specs.Ast.{Args, Statement, Macro}
@@ -22,7 +22,7 @@ use Rattle.definition.specs.Expressions as expressions
 use Rattle.definition.specs.Statements as d
 use Rattle.definition.specs.ActionList.{orNone, actionKindNumber, operationWord}
 use Rattle.list_pushes.specs.declared.push.Env.{Env as WordEnv}
-use Rattle.list_values.specs.Base.{if_then_else_, Listed, listed, thenL}
+use Rattle.list_values.specs.Base.{Listed, listed, thenL}
 use Rattle.list_pushes.specs.Pushes.{push}
 use Rattle.list_values.specs.Values.{absent}
 use Rattle.file_refinement.specs.Holds.{symbolWord}
@@ -135,7 +135,7 @@ module _ (s t : List ℕ) (e : Env) (p front tail marks rest : List ℕ) (we : W
       by-name : (a : Bool) → eqb ((if a then called 0 0 else symbolOf (symbolWord (find name (globals (e .section))))) .kind) 2 ≡ false
           → Ends (otherCall (if a then called 0 0 else symbolOf (symbolWord (find name (globals (e .section))))) s t p A M we pos n w)
           ((definition.if_then_else_ a (d.delaySlot (expressions.onlyInteger args)) (λ e1 st1. on e1 (lookup name e1 st1) (d.symbolStatement enter args))) e from)
-      unfolding if_then_else_ definition.if_then_else_ lookup on
+      unfolding if_then_else_ lookup on
       by-name true c = unfold otherCall in delay-steps
       by-name false c = by-symbol (find name (globals (e .section))) c
 

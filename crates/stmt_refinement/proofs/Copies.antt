@@ -8,7 +8,7 @@ use native.Mathlib.Omega.{arith}
 use lib.Dec.{eqb, leb, ltb}
 use borrow.Author.Tests.{leb-true, leb-false, lt-ltb, le-ltb}
 use Rattle.definition.specs.Base as definition
-use Rattle.definition.specs.Base.{orElse, isSome, base-opens}
+use Rattle.definition.specs.Base.{orElse, isSome, base-opens, if_then_else_}
 use Rattle.definition.specs.Refusals.{refusalNumber, shiftTooFar, offsetTooFar, notAssignable}
 use Rattle.definition.specs.Operations.{Operation, operationNumber}
 use Rattle.definition.specs.Value.{kindNumber, Value, constant, sliceBytes}
@@ -22,7 +22,6 @@ use Rattle.definition.specs.ActionList.{orNone}
 use Rattle.list_pushes.specs.declared.push.State.{State as WordState}
 use Rattle.list_pushes.specs.declared.push.Env.{Env as WordEnv}
 use Rattle.list_pushes.specs.declared.push.Read.{Read}
-use Rattle.list_values.specs.Base.{if_then_else_}
 use Rattle.list_pushes.specs.Pushes.{ReadOut, read}
 use Rattle.list_refinement.specs.Encoding.{encV, Sound}
 use Rattle.list_refinement.proofs.Settled.{size-is, known-small}
@@ -34,8 +33,7 @@ use Rattle.stmt_walk.specs.declared.walk.Walk.{Walk}
 use Rattle.stmt_walk.specs.Walks.{Stepped, stepped, stepRead, stop, readThen}
 use Rattle.stmt_assignments.specs.Copies.{mergeBits, extendBits, insertIn, insertBits, keepBits, writeBits, copyBits, readSliced, copyBytes, copyRange, copyRam, copyInto}
 use Rattle.expr_refinement.proofs.Encodings.{encX, SoundX, Applies, sound-more, tmps, count, Stood, stood-more}
-use Rattle.expr_refinement.proofs.Answers.{bind-read, bind-tmp, bind-unless}
-use Rattle.expr_refinement.proofs.Answers.{acts, temps, word, Refines, refines-map, refines-stopped}
+use Rattle.expr_refinement.proofs.Answers.{bind-read, bind-tmp, bind-unless, acts, temps, word, Refines, refines-map, refines-stopped}
 use Rattle.expr_refinement.proofs.Below.{Spare}
 use Rattle.expr_refinement.proofs.Reading.{toOf, and-applies, constant-sound, read-value, read-operand}
 use Rattle.stmt_refinement.proofs.Views.{Beside, beside, seenStep, begunIn, stop-seen, mapSeen, read-seen, refines-as, step-stops, Goes, on-assoc}

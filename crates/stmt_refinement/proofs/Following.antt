@@ -14,8 +14,7 @@ use Rattle.definition_guarantee.specs.Tests as tests
 use Rattle.definition_guarantee.specs.Limits.{StatementWithin, WithinLimits}
 use Rattle.definition_guarantee.proofs.Kept.{Kept, ExprFits, Ends, Keeps, count, keep-refuse}
 use Rattle.definition_guarantee.proofs.KeptLabels.{keep-macro}
-use Rattle.definition_guarantee.proofs.KeptStatements.{keep-statement}
-use Rattle.definition_guarantee.proofs.KeptStatements.{Nothing, keep-body}
+use Rattle.definition_guarantee.proofs.KeptStatements.{keep-statement, Nothing, keep-body}
 use Rattle.list_pushes.specs.declared.push.Env.{Env as WordEnv}
 use Rattle.stmt_walk.specs.declared.walk.Step.{Step}
 use Rattle.stmt_walk.specs.Walks.{Walked, walked}

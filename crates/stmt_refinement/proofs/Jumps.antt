@@ -7,7 +7,7 @@ use native.Mathlib.Omega.{arith}
 use lib.ListN.{getD}
 use lib.Dec.{eqb}
 use Rattle.definition.specs.Base as definition
-use Rattle.definition.specs.Base.{orElse, isSome, base-opens}
+use Rattle.definition.specs.Base.{orElse, isSome, base-opens, if_then_else_}
 use Rattle.definition.specs.Refusals.{refusalNumber, jumpToNonLocal}
 use Rattle.definition.specs.Operations.{Operation, operationNumber}
 use Rattle.definition.specs.Value.{Kind, kindNumber, Value, isKind}
@@ -20,7 +20,6 @@ use Rattle.definition.specs.Statements as d
 use Rattle.definition.specs.ActionList.{orNone}
 use Rattle.list_pushes.specs.declared.push.State.{State as WordState}
 use Rattle.list_pushes.specs.declared.push.Env.{Env as WordEnv}
-use Rattle.list_values.specs.Base.{if_then_else_}
 use Rattle.list_refinement.specs.Encoding.{encV, Within, Sound}
 use Rattle.list_refinement.proofs.Lists.{firstOf, secondOf}
 use Rattle.list_refinement.proofs.RuleKinds.{kindOf}
@@ -29,8 +28,7 @@ use Rattle.stmt_walk.specs.declared.walk.Walk.{Walk}
 use Rattle.stmt_walk.specs.Walks.{Stepped, stepped, stop}
 use Rattle.stmt_branches.specs.Branches.{branchTo, directAddress, direct, indirect}
 use Rattle.expr_refinement.proofs.Encodings.{encX, SoundX, sound-more, count, Stood, stood-more}
-use Rattle.expr_refinement.proofs.Answers.{bind-read}
-use Rattle.expr_refinement.proofs.Answers.{acts, temps, word}
+use Rattle.expr_refinement.proofs.Answers.{bind-read, acts, temps, word}
 use Rattle.expr_refinement.proofs.Below.{Spare}
 use Rattle.expr_refinement.proofs.Reading.{read-operand}
 use Rattle.stmt_refinement.proofs.Views.{beside, seenStep, begunIn, stop-seen, step-stops, Goes, step-pushed}

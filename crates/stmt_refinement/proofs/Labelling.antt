@@ -10,13 +10,13 @@ use lib.ListN.{length, getD, set, length-set}
 use lib.Seq.{getD-set-same, getD-set-other}
 use lib.Dec.{ltb, leb}
 use borrow.Author.Tests.{eq-eqb, lt-ltb, le-ltb, ltb-true, ltb-false, leb-true, leb-false}
-use Rattle.definition.specs.Base.{first, base-opens}
+use Rattle.definition.specs.Base.{first, base-opens, if_then_else_}
 use Rattle.definition.specs.Refusals.{Refusal, refusalNumber, tooManyLabels, labelTwice}
 use Rattle.definition.specs.Walk.{Label, State, Env, Outcome, done, stopped, on, require, withScope, withLabel}
 use Rattle.definition.specs.Scope as scope
 use Rattle.definition.specs.Scope.{find, withEntry}
 use Rattle.list_pushes.specs.declared.push.Env.{Env as WordEnv}
-use Rattle.list_values.specs.Base.{if_then_else_, Listed, listed}
+use Rattle.list_values.specs.Base.{Listed, listed}
 use Rattle.stmt_branches.specs.declared.labels.Label.{Label as WordLabel}
 use Rattle.stmt_branches.specs.Labels.{labelKey, getOrInsertLabel, onLabel, placeLabel, resolveLabel, labelsAfter}
 use Rattle.stmt_refinement.proofs.Views.{Beside}

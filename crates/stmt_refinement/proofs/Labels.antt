@@ -10,10 +10,10 @@ use lib.Seq.{getD-set-same, getD-set-other}
 use lib.Dec.{eqb, ltb, leb}
 use borrow.Author.Tests.{eqb-true, eqb-false, eq-eqb, ne-eqb, lt-ltb, le-ltb, le-leb, lt-leb}
 use Rattle.definition.specs.Base as definition
-use Rattle.definition.specs.Base.{_or_, first, base-opens}
+use Rattle.definition.specs.Base.{_or_, first, base-opens, if_then_else_}
 use Rattle.definition.specs.Walk.{Label}
 use Rattle.definition.specs.Scope.{find}
-use Rattle.list_values.specs.Base.{if_then_else_, listed}
+use Rattle.list_values.specs.Base.{listed}
 use Rattle.stmt_branches.specs.declared.labels.Label.{Label as WordLabel}
 use Rattle.stmt_branches.specs.Labels.{findLabel, labelKey, labelOr, getOrInsertLabel, placeLabel}
 use Rattle.expr_refinement.proofs.Scopes.{eqb-swap}

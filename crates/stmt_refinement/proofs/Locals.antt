@@ -10,7 +10,7 @@ use lib.ListN.{length, getD, drop, getElem?, length-append, List·getD-append}
 use lib.Dec.{eqb, ltb, leb}
 use borrow.Author.Tests.{eqb-true, eqb-false, eq-eqb, ne-eqb, ltb-true, ltb-false, lt-ltb, leb-true}
 use Rattle.definition.specs.Base as definition
-use Rattle.definition.specs.Base.{_or_, andThen, orElse, isSome, first, base-opens}
+use Rattle.definition.specs.Base.{_or_, andThen, orElse, isSome, first, base-opens, if_then_else_}
 use Rattle.definition.specs.Refusals.{refusalNumber, redeclared, tooManyTemporaries}
 use Rattle.definition.specs.Value.{Kind, kindNumber, Value, local, Temporary}
 use Rattle.definition.specs.Sizes.{withTemporaries}
@@ -21,7 +21,7 @@ use Rattle.definition.specs.Scope.{find}
 use Rattle.definition.specs.ActionList.{orNone}
 use Rattle.list_pushes.specs.declared.push.Env.{Env as WordEnv}
 use Rattle.list_pushes.specs.declared.push.Read.{Read}
-use Rattle.list_values.specs.Base.{if_then_else_, Listed, listed}
+use Rattle.list_values.specs.Base.{Listed, listed}
 use Rattle.list_pushes.specs.Pushes.{addTmp, onTmp}
 use Rattle.list_refinement.specs.Encoding.{encV, markedWord, temporaryWords, temporariesIn, SoundTmp, Each}
 use Rattle.list_refinement.proofs.Marks.{marked-same, marked-other, uppers, uppers-length, uppers-at, words-again}
@@ -31,8 +31,7 @@ use Rattle.expr_scope.specs.Scopes.{Found, isLocal, path, attach, ownLocal, tmp
 use Rattle.expr_refinement.proofs.Encodings.{Small, nameAt, tmps, count, Stood, params-more, mapping-more, actions-more}
 use Rattle.expr_refinement.proofs.Answers.{acts, temps, word, Halts, halts-done, halts-here, halts-on}
 use Rattle.expr_refinement.proofs.Pushing.{add-halts}
-use Rattle.expr_refinement.proofs.Tree.{attached-own}
-use Rattle.expr_refinement.proofs.Tree.{grown-plain, attach-length, Hung, hung, attached-others}
+use Rattle.expr_refinement.proofs.Tree.{attached-own, grown-plain, attach-length, Hung, hung, attached-others}
 use Rattle.expr_refinement.proofs.Scopes.{encF, eqb-swap, name-at, mark-at, past-end, lookup-as, Scoped}
 use Rattle.stmt_refinement.proofs.Given.{Given}
 

@@ -11,7 +11,7 @@ use lib.Dec.{eqb}
 use borrow.Author.Tests.{eqb-true}
 use Rattle.access.specs.Le.{le16}
 use Rattle.definition.specs.Base as definition
-use Rattle.definition.specs.Base.{orElse, base-opens}
+use Rattle.definition.specs.Base.{orElse, base-opens, if_then_else_}
 use Rattle.definition.specs.Refusals.{refusalNumber, macroArguments}
 use Rattle.definition.specs.Ast.{Args, Statement, Space as SpaceEntry, Register as RegisterEntry, BitRange as BitRangeEntry, Table as TableEntry, Macro, Section}
 use Rattle.definition.specs.SectionFile.{parsed, exprWithin, argsOf, statement}
@@ -26,7 +26,6 @@ use Rattle.definition_guarantee.proofs.Kept.{Kept, ExprFits, Ends}
 use Rattle.definition_guarantee.proofs.KeptExpressions.{keep-args}
 use Rattle.list_pushes.specs.declared.push.Env.{Env as WordEnv}
 use Rattle.list_pushes.specs.declared.push.State.{State as WordState}
-use Rattle.list_values.specs.Base.{if_then_else_}
 use Rattle.file_refinement.specs.Holds.{Holds, symbolWord}
 use Rattle.file_refinement.proofs.Inversion.{CallStatementAt, call-statement-at}
 use Rattle.list_refinement.specs.Encoding.{Each}
@@ -49,12 +48,10 @@ use Rattle.stmt_refinement.proofs.Views.{Beside}
 use Rattle.stmt_refinement.proofs.Given.{Given, walkOf, below}
 use Rattle.stmt_refinement.proofs.Standing.{Follows}
 use Rattle.stmt_refinement.proofs.Stepping.{standing-later, framed-later}
-use Rattle.stmt_refinement.proofs.MacroPlaces.{macro-place}
-use Rattle.stmt_refinement.proofs.MacroPlaces.{parts}
+use Rattle.stmt_refinement.proofs.MacroPlaces.{macro-place, parts}
 use Rattle.stmt_refinement.proofs.Macros.{bound-in}
 use Rattle.stmt_refinement.proofs.UserOps.{filled-long}
-use Rattle.stmt_refinement.proofs.Bodies.{follows-after}
-use Rattle.stmt_refinement.proofs.Bodies.{enterOf, Begun, EnterFollows}
+use Rattle.stmt_refinement.proofs.Bodies.{follows-after, enterOf, Begun, EnterFollows}
 
 module _ (s t : List ℕ) (e : Env) (front tail rest : List ℕ) (spare : ℕ) (room : Spare spare tail) (limits : WithinLimits (e .section)) (deep : ℕ) (enters : EnterFollows s t e front tail rest spare deep)
     (we : WordEnv) (p ls marks : List ℕ) (b : Beside) (st : State) (ordinal : ℕ) (h : Begun s t e front tail rest spare we p ls marks b st ordinal) (id : ℕ) (m : Macro) (is : getElem? (e .section .macros) id ≡ some m)
@@ -261,7 +258,7 @@ module _ (s t : List ℕ) (e : Env) (front tail rest : List ℕ) (spare : ℕ) (
 
   by-name : (a : Bool) → eqb ((if a then called 0 0 else symbolOf (symbolWord (find name (globals (e .section))))) .kind) 2 ≡ true
       → Calls (if a then called 0 0 else symbolOf (symbolWord (find name (globals (e .section))))) ((definition.if_then_else_ a (d.delaySlot (expressions.onlyInteger args)) (λ e1 st1. on e1 (lookup name e1 st1) (d.symbolStatement (enterOf deep) args))) e st)
-  unfolding if_then_else_ definition.if_then_else_ lookup on
+  unfolding if_then_else_ lookup on
   by-name true c = let y : _≡_ {A = ℕ} 0 1 = cc in absurd (omega arith)
   by-name false c = by-symbol (find name (globals (e .section))) refl c
 

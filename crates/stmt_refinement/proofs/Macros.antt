@@ -14,7 +14,7 @@ use Rattle.definition.specs.Walk.{ExprValue, Scope, State, Env, withScope}
 use Rattle.definition.specs.Scope as scope
 use Rattle.definition.specs.Scope.{find}
 use Rattle.list_pushes.specs.declared.push.Env.{Env as WordEnv}
-use Rattle.list_values.specs.Base.{run}
+use Rattle.access.specs.Loops.{run}
 use Rattle.list_values.specs.Values.{valueAt}
 use Rattle.list_refinement.specs.Encoding.{Each}
 use Rattle.expr_scope.specs.Scopes.{tmpLocal}

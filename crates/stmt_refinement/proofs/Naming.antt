@@ -25,11 +25,9 @@ use Rattle.expr_refinement.proofs.Encodings.{Small, tmps, count}
 use Rattle.expr_refinement.proofs.Answers.{acts, temps, word, Halts}
 use Rattle.stmt_refinement.proofs.Views.{Beside}
 use Rattle.stmt_refinement.proofs.Given.{Given, walkOf}
-use Rattle.stmt_refinement.proofs.Locals.{declared-stood, declared-others, declared-below, declared-scoped}
-use Rattle.stmt_refinement.proofs.Locals.{hungMarks, declared, Declared, named-same, named-goes, named-halts}
+use Rattle.stmt_refinement.proofs.Locals.{declared-stood, declared-others, declared-below, declared-scoped, hungMarks, declared, Declared, named-same, named-goes, named-halts}
 use Rattle.stmt_refinement.proofs.Standing.{Standing, Framed, Steps}
-use Rattle.stmt_refinement.proofs.Stepping.{steps-stop}
-use Rattle.stmt_refinement.proofs.Stepping.{export-more, steps-then}
+use Rattle.stmt_refinement.proofs.Stepping.{steps-stop, export-more, steps-then}
 
 module _ (s t : List ℕ) (e : Env) (p front tail marks rest : List ℕ) (we : WordEnv) (given : Given s t e front tail rest we) (spare : ℕ) (b : Beside) (ls : List ℕ)
     (from : State) (stand : Standing s t e front tail rest we spare p ls marks b from) (name : ℕ) (known : name < 1024) (size : Option ℕ) (small : Small size) where

@@ -22,39 +22,15 @@ use Rattle.list_refinement.proofs.Lists.{firstOf, secondOf, outputOf}
 use Rattle.list_refinement.specs.Encoding.{SoundTmp, Sound, Each, SoundAction, SizesHold}
 use Rattle.list_refinement.proofs.After.{After}
 use Rattle.list_refinement.proofs.RuleKinds.{kindOf, Operands}
-use Rattle.list_refinement.proofs.Pushes.{update-after, push-op-is, push-op-done}
-use Rattle.list_refinement.proofs.Pushes.{Lent, Stands}
+use Rattle.list_refinement.proofs.Pushes.{update-after, push-op-is, push-op-done, Lent, Stands}
 use Rattle.expr_refinement.proofs.Encodings.{count, Stood, params-more, mapping-more, actions-more, each-last, placed-last, opAction}
 use Rattle.expr_refinement.proofs.Answers.{acts, temps, word, Reached, Refines, refines-map}
 use Rattle.expr_refinement.proofs.Below.{Spare}
-use Rattle.expr_refinement.proofs.Pushing.{Names, update-keeps, push-op-halts, no-label}
+use Rattle.expr_refinement.proofs.Pushing.{pushed-state, update-keeps, push-op-halts, no-label}
 
 module _ (s t : List ℕ) (e : Env) (front tail marks rest : List ℕ) (we : WordEnv) (lent : Lent e front tail rest) (holds : SizesHold s t (e .section)) (pointer-is : we .pointer ≡ pointerSize (e .section)) where
   stands : (spare : ℕ) (st : State) → Stood (e .section) tail marks rest spare st → Stands tail marks rest st
   stands spare st f = record { actions = f .actions; temporaries = f .temporaries; marked = f .marked; sizes = f .sizes }
-
-  -- an action pushed behind a sizing that an operation's rule left
-  pushed-state : (spare : ℕ) (st : State) → Stood (e .section) tail marks rest (suc spare) st → (x : SemanticAction) (z : Sizing) → SoundAction (e .section) (length (z .temporaries)) x → placesLabel x ≡ false → length (z .temporaries) ≡ count st → Each SoundTmp (z .temporaries) → Names (st .sizing) z → length (z .errors) ≤ spare + 4 * length (st .actions) + 4
-      → (u : State) → u ≡ withAction x (withSizing z st) → 24 * length (u .actions) ≤ length tail → Reached (e .section) front tail marks rest spare st u
-  pushed-state spare st f x z sound plain same fit names few u q long =
-      let n : length (st .actions ++ (x ∷ [])) ≡ length (st .actions) + 1 = length-append (st .actions) (x ∷ []) in
-      let c : 24 * length (st .actions ++ (x ∷ [])) ≤ length tail = subst (λ (u : State). 24 * length (u .actions) ≤ length tail) q long in
-      subst (λ (w : State). Reached (e .section) front tail marks rest spare st w) (sym q) (record {
-        stood = record {
-          actions = c;
-          temporaries = rw same (f .temporaries);
-          marked = rw same (f .marked);
-          sizes = fit;
-          errors = omega arith;
-          sound = each-last _ (st .actions) x (actions-more (e .section) (count st) (length (z .temporaries)) (omega arith) (st .actions) (f .sound)) sound;
-          params = params-more (e .section) (count st) (length (z .temporaries)) (omega arith) (st .scope .params) (f .params);
-          mapping = mapping-more (e .section) (count st) (length (z .temporaries)) (omega arith) (st .scope .mapping) (f .mapping);
-        };
-        later = record { temporaries = omega arith; names = names .names; statements = refl; scope = refl; nextLabel = refl; export = refl; begun = names .begun; actions = omega arith; placed = placed-last (st .actions) x ∙ unlabelled };
-      })
-    where
-      unlabelled : labelsPlaced (st .actions) + (if placesLabel x then 1 else 0) ≡ labelsPlaced (st .actions)
-      unlabelled = rw plain (unfold base-opens in omega arith)
 
   pub no-output : (spare : ℕ) (st : State) → Spare spare tail → Stood (e .section) tail marks rest (suc spare) st → (op : Operation) (n : ℕ) (vs : List Value) → length vs ≤ 2 → Each (Sound (e .section) (count st)) vs → Operands (kindOf op) (opAction op n vs none) → isOp Operation.PcodeLabel op ≡ false
       → Refines (e .section) front tail marks rest spare st (λ _. tt {0}) (λ n (_ : Unit {0}). Unit {0})
@@ -69,6 +45,6 @@ module _ (s t : List ℕ) (e : Env) (front tail marks rest : List ℕ) (we : Wor
         same = push-op-is e st front tail marks rest lent (stands (suc spare) st f) s t holds we pointer-is op n vs few none k operands l;
         goes = λ a u q.
             let j = push-op-done e st front tail marks rest lent (stands (suc spare) st f) s t holds we pointer-is op n vs few none k operands l a u q in
-            (pushed-state spare st f (sizes.updateOperandSizes (e .section) false (opAction op n vs none) (st .sizing) .0) (sizes.updateOperandSizes (e .section) false (opAction op n vs none) (st .sizing) .1) (after .action) (no-label _ op (after .kind) plain) (after .count) (after .temporaries) (update-keeps (e .section) false (opAction op n vs none) (st .sizing)) (omega (arith, f .errors, after .errors)) u (j .1) (j .2 .actions), tt);
+            (pushed-state s t e front tail marks rest we lent holds pointer-is (suc spare) spare st f (sizes.updateOperandSizes (e .section) false (opAction op n vs none) (st .sizing) .0) (sizes.updateOperandSizes (e .section) false (opAction op n vs none) (st .sizing) .1) (after .action) (no-label _ op (after .kind) plain) (after .count) (after .temporaries) (update-keeps (e .section) false (opAction op n vs none) (st .sizing)) (omega (arith, f .errors, after .errors)) u (j .1) (j .2 .actions), tt);
         stops = push-op-halts e st op n vs none;
       }) (λ a. refl) (λ m a h. tt)

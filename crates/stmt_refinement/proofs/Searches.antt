@@ -10,10 +10,9 @@ use native.Mathlib.Omega.{arith}
 use lib.ListN.{length, getD}
 use lib.Dec.{eqb, ltb}
 use borrow.Author.Tests.{ne-eqb, lt-ltb, le-ltb}
-use Rattle.definition.specs.Base.{first}
+use Rattle.definition.specs.Base.{first, if_then_else_}
 use Rattle.definition.specs.Walk.{ExprValue, Label}
 use Rattle.definition.specs.Scope.{find}
-use Rattle.list_values.specs.Base.{if_then_else_}
 use Rattle.list_values.specs.Values.{valueAt}
 use Rattle.expr_scope.specs.Slots.{slotAt, paramPlace}
 use Rattle.expr_scope.specs.Scopes.{Found, isLocal, lookupLocal}

@@ -9,8 +9,7 @@ use borrow.Author.Tests.{eq-eqb}
 use Rattle.access.specs.Le.{le16}
 use Rattle.definition.specs.Operations.{Operation, operationNumber}
 use Rattle.definition.specs.Value.{Value, ExportKind, Export}
-use Rattle.definition.specs.Ast.{Section}
-use Rattle.definition.specs.Ast.{Statement}
+use Rattle.definition.specs.Ast.{Section, Statement}
 use Rattle.definition.specs.Walk.{ExprValue, State, Env, Outcome, done, on}
 use Rattle.definition.specs.Walk as walks
 use Rattle.definition.specs.Expressions as expressions
@@ -20,7 +19,7 @@ use Rattle.list_values.specs.declared.value.Value.{Value as WordValue}
 use Rattle.list_pushes.specs.declared.push.State.{State as WordState}
 use Rattle.list_pushes.specs.declared.push.Env.{Env as WordEnv}
 use Rattle.list_pushes.specs.declared.push.Read.{Read}
-use Rattle.list_values.specs.Base.{if_then_else_}
+use Rattle.definition.specs.Base.{if_then_else_}
 use Rattle.list_pushes.specs.Pushes.{ReadOut, read}
 use Rattle.file_refinement.proofs.Inversion.{ExportAt}
 use Rattle.list_refinement.specs.Encoding.{encV, Sound}
@@ -33,8 +32,7 @@ use Rattle.stmt_walk.specs.declared.walk.Walk.{Walk}
 use Rattle.stmt_walk.specs.Walks.{Stepped, stepRead}
 use Rattle.stmt_simple.specs.Simple.{unimplemented, exportValue, exportRead, exportOf, exportStatement}
 use Rattle.expr_refinement.proofs.Encodings.{encX, SoundX, count, Stood, stood-more}
-use Rattle.expr_refinement.proofs.Answers.{bind-expr}
-use Rattle.expr_refinement.proofs.Answers.{acts, temps, word, Refines, refines-done, refines-map}
+use Rattle.expr_refinement.proofs.Answers.{bind-expr, acts, temps, word, Refines, refines-done, refines-map}
 use Rattle.expr_refinement.proofs.Below.{Spare}
 use Rattle.expr_refinement.proofs.Scopes.{Scoped}
 use Rattle.expr_refinement.proofs.Reading.{read-operand}

@@ -18,7 +18,8 @@ use Rattle.definition.specs.ActionList.{orNone}
 use Rattle.definition_guarantee.proofs.Outcomes.{positive}
 use Rattle.list_pushes.specs.declared.push.State.{State as WordState}
 use Rattle.list_pushes.specs.declared.push.Env.{Env as WordEnv}
-use Rattle.list_values.specs.Base.{if_then_else_, listed, thenL}
+use Rattle.list_values.specs.Base.{listed, thenL}
+use Rattle.definition.specs.Base.{if_then_else_}
 use Rattle.file_refinement.specs.Holds.{absentAt}
 use Rattle.file_refinement.proofs.Inversion.{unimplemented-at, export-at, local-at, local-assignment-at, build-at, copy-at, store-at}
 use Rattle.list_refinement.proofs.Seen.{outcome}
@@ -40,11 +41,9 @@ use Rattle.stmt_refinement.proofs.Simple.{SoundExport, unimplemented-is
 use Rattle.stmt_refinement.proofs.Builds.{build-is}
 use Rattle.stmt_refinement.proofs.Stores.{store-statement-is}
 use Rattle.stmt_refinement.proofs.Standing.{Standing, Framed, Steps}
-use Rattle.stmt_refinement.proofs.Stepping.{steps-stop}
-use Rattle.stmt_refinement.proofs.Stepping.{seen-next, seen-stop, standing-later, framed-later, steps-goes}
+use Rattle.stmt_refinement.proofs.Stepping.{steps-stop, seen-next, seen-stop, standing-later, framed-later, steps-goes}
 use Rattle.stmt_refinement.proofs.Naming.{steps-local}
-use Rattle.stmt_refinement.proofs.Targets.{assignment-steps}
-use Rattle.stmt_refinement.proofs.Targets.{copy-steps}
+use Rattle.stmt_refinement.proofs.Targets.{assignment-steps, copy-steps}
 use Rattle.stmt_refinement.proofs.Ends.{starts, unimplemented-ends, local-ends, build-ends}
 
 module _ (s t : List ℕ) (e : Env) (p front tail marks rest : List ℕ) (we : WordEnv) (given : Given s t e front tail rest we) (spare : ℕ) (room : Spare spare tail) (b : Beside) (ls : List ℕ)

@@ -9,7 +9,7 @@ use lib.Dec.{eqb}
 use borrow.Author.Tests.{eqb-true}
 use Rattle.access.specs.Le.{le16}
 use Rattle.definition.specs.Base as definition
-use Rattle.definition.specs.Base.{sum, base-opens}
+use Rattle.definition.specs.Base.{sum, base-opens, if_then_else_}
 use Rattle.definition.specs.Value.{SemanticAction}
 use Rattle.definition.specs.Ast.{Statement}
 use Rattle.definition.specs.SectionFile.{parsed, statement}
@@ -18,7 +18,6 @@ use Rattle.definition.specs.Statements as d
 use Rattle.definition.specs.ActionList.{placesLabel, labelsPlaced}
 use Rattle.definition_guarantee.specs.Limits.{StatementWithin, WithinLimits}
 use Rattle.list_pushes.specs.declared.push.Env.{Env as WordEnv}
-use Rattle.list_values.specs.Base.{if_then_else_}
 use Rattle.stmt_walk.specs.Walks.{Walked}
 use Rattle.stmt_simple.specs.Calls.{calledOf}
 use Rattle.stmt_bodies.specs.Statements.{otherStatement, callStatement, statementBy, enterMacro}

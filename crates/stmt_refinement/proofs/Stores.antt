@@ -1,23 +1,19 @@
 -- Stores: the value is read, then the pointer is resolved, and the value goes where the reference says.
 use Prim.Native.Nat.{ℕ, suc, _+_, _≤_, _<_}
 use mathlib.Core.Path.{_≡_, refl, ap}
-use mathlib.Core.Bool.{Bool, true, false}
 use mathlib.Core.List.{List, [], _∷_}
 use mathlib.Core.Option.{Option, none, some}
 use native.Mathlib.Omega.{arith}
 use lib.ListN.{length, drop}
-use lib.Dec.{eqb}
-use borrow.Author.Tests.{ne-eqb}
 use Rattle.access.specs.Le.{le16}
 use Rattle.definition.specs.Base as definition
-use Rattle.definition.specs.Base.{orElse, isSome, base-opens}
+use Rattle.definition.specs.Base.{isSome, if_then_else_}
 use Rattle.definition.specs.Refusals.{refusalNumber, storeToNoAddress}
 use Rattle.definition.specs.Operations.{Operation, operationNumber}
-use Rattle.definition.specs.Value.{kindNumber, Value, truncate, ActionKind, SemanticAction, operationOf}
+use Rattle.definition.specs.Value.{Value, ActionKind, SemanticAction, operationOf}
 use Rattle.definition.specs.Ast.{Statement}
-use Rattle.definition.specs.Sizes as sizes
 use Rattle.definition.specs.Sizes.{at}
-use Rattle.definition.specs.Walk.{ExprValue, State, Env, Outcome, done, on, expect}
+use Rattle.definition.specs.Walk.{ExprValue, State, Env, Outcome, on, expect}
 use Rattle.definition.specs.Walk as walks
 use Rattle.definition.specs.Expressions as expressions
 use Rattle.definition.specs.Statements as d
@@ -25,28 +21,26 @@ use Rattle.definition.specs.ActionList.{orNone, actionKindNumber, operationWord
 use Rattle.list_values.specs.declared.value.Value.{Value as WordValue}
 use Rattle.list_pushes.specs.declared.push.State.{State as WordState}
 use Rattle.list_pushes.specs.declared.push.Env.{Env as WordEnv}
-use Rattle.list_values.specs.Base.{if_then_else_, Listed, listed, thenL}
+use Rattle.list_values.specs.Base.{Listed, listed, thenL}
 use Rattle.list_values.specs.Values.{absent, noOutput}
 use Rattle.list_pushes.specs.Pushes.{push, pushOp}
 use Rattle.file_syntax.specs.declared.cursor.Cursor.{Cursor}
 use Rattle.file_refinement.specs.Holds.{absentAt}
 use Rattle.file_refinement.proofs.Inversion.{StoreAt}
 use Rattle.list_refinement.specs.Encoding.{encV, Sound}
-use Rattle.list_refinement.proofs.Settled.{size-is, known-small}
 use Rattle.list_refinement.proofs.Lists.{firstOf, secondOf, outputOf}
 use Rattle.list_refinement.proofs.RuleKinds.{kindOf}
 use Rattle.list_refinement.proofs.Seen.{no, yes}
 use Rattle.expr_reading.specs.declared.read.Stated.{Stated}
-use Rattle.expr_reading.specs.Reading.{stated, setSize, setStated, takeStated}
+use Rattle.expr_reading.specs.Reading.{setStated, takeStated}
 use Rattle.expr_terms.specs.Addresses.{resolveAddress}
 use Rattle.expr_resolver.specs.Expressions.{skipExpr}
 use Rattle.stmt_walk.specs.declared.walk.Walk.{Walk}
 use Rattle.stmt_walk.specs.Walks.{Stepped, stepped, stepPushed, stop, pushedThen}
 use Rattle.stmt_assignments.specs.Stores.{storeStated, store, registerStated, storeRegister, storeAt, storeIn, storePointer, storeStatement}
-use Rattle.expr_refinement.proofs.Encodings.{encX, Small, SoundX, sound-more, tmps, count, Stood, stood-more}
-use Rattle.expr_refinement.proofs.Answers.{bind, bind-expr, bind-operand}
-use Rattle.expr_refinement.proofs.Answers.{acts, temps, word, seenExpr, Refines, refines-done}
-use Rattle.expr_refinement.proofs.Below.{Spare, seenStated, set-size}
+use Rattle.expr_refinement.proofs.Encodings.{encX, Small, SoundX, sound-more, count, Stood, stood-more}
+use Rattle.expr_refinement.proofs.Answers.{bind, bind-expr, bind-operand, acts, temps, word, seenExpr, Refines}
+use Rattle.expr_refinement.proofs.Below.{Spare, seenStated}
 use Rattle.expr_refinement.proofs.Scopes.{Scoped, scoped-later}
 use Rattle.expr_refinement.proofs.Addresses.{address}
 use Rattle.expr_refinement.proofs.Positions.{ends, begins}
@@ -55,6 +49,7 @@ use Rattle.expr_refinement.proofs.Pushing.{no-operation}
 use Rattle.stmt_refinement.proofs.Views.{Beside, beside, seenStep, begunIn, stop-seen, push-ends, refines-as, step-stops, Goes, step-pushed, on-assoc}
 use Rattle.stmt_refinement.proofs.Operations.{no-output}
 use Rattle.stmt_refinement.proofs.Given.{Given, walkOf, below, expression, operand-of}
+use Rattle.expr_refinement.proofs.Stated.{set-stated, take-stated}
 
 module _ (s t : List ℕ) (e : Env) (front tail marks rest : List ℕ) (we : WordEnv) (given : Given s t e front tail rest we) (spare : ℕ) (room : Spare spare tail) where
   abbrev A : State → List ℕ
@@ -69,40 +64,6 @@ module _ (s t : List ℕ) (e : Env) (front tail marks rest : List ℕ) (we : Wor
   abbrev Stands : State → Type 0
   Stands st = Stood (e .section) tail marks rest spare st
 
-  -- A stated size, which may make an error.
-
-  abbrev Sets : State → Listed Stated → Outcome Value → Type 0
-  Sets st x o = Refines (e .section) front tail marks rest (suc spare) st encV (Sound (e .section)) (seenStated (A st) x) o
-
-  same-stated : (st : State) → Stands st → (v : Value) → Sound (e .section) (count st) v → Sets st (listed (stated (encV v) (W st)) (M st)) (done v st)
-  unfolding seenStated
-  same-stated st f v h = refines-done (e .section) front tail marks rest (suc spare) st encV (Sound (e .section)) v (encV v) (stood-more (suc spare) (omega arith) f) h refl
-
-  set-stated : (st : State) → Stands st → (size : ℕ) (v : Value) → size < 65535 → Sound (e .section) (count st) v → Sets st (setStated s t (M st) (encV v) size (W st)) (expressions.setStated size v e st)
-  unfolding setStated expressions.setStated
-  set-stated st f size v l h = go (eqb size 0)
-    where
-      go : (b : Bool) → Sets st (if b then listed (stated (encV v) (W st)) (M st) else setSize s t (M st) (encV v) size (W st)) ((definition.if_then_else_ b (walks.pure v) (walks.sizing λ sec. sizes.setSize sec size v)) e st)
-      go true = unfold if_then_else_ base-opens in same-stated st f v h
-      go false = unfold if_then_else_ base-opens in set-size s t e front tail marks rest (given .sizes) spare st room f v size l h
-
-  take-stated : (st : State) → Stands st → (size : ℕ) (v : Value) → size < 65535 → Sound (e .section) (count st) v → Sets st (takeStated s t (M st) (encV v) size (W st)) (expressions.takeStated size v e st)
-  unfolding takeStated expressions.takeStated
-  take-stated st f size v l h =
-      rw (size-is s t (e .section) (given .sizes) marks rest (tmps st) (f .sizes) v h)
-      (go (eqb size 0) (sizes.sizeOf (e .section) (tmps st) v) refl (known-small s t (e .section) (given .sizes) marks rest (tmps st) (f .sizes) v h))
-    where
-      known : (z : Option ℕ) → Small z → Sets st (if eqb (orNone z) 65535 then setSize s t (M st) (encV v) size (W st) else listed (stated (record { kind = kindNumber (v .kind); number = v .number; offset = v .offset; size = size }) (W st)) (M st)) (expressions.takeKnown z size v e st)
-      known none k = unfold orNone orElse if_then_else_ expressions.takeKnown in set-size s t e front tail marks rest (given .sizes) spare st room f v size l h
-      known (some n) k = unfold orNone orElse if_then_else_ expressions.takeKnown in rw (ne-eqb n 65535 (λ q. omega arith))
-          (unfold seenStated in refines-done (e .section) front tail marks rest (suc spare) st encV (Sound (e .section)) (truncate size v) _ (stood-more (suc spare) (omega arith) f) (record { number = h .number; offset = h .offset; size = l }) refl)
-
-      go : (b : Bool) (z : Option ℕ) → sizes.sizeOf (e .section) (tmps st) v ≡ z → Small z
-          → Sets st (if b then listed (stated (encV v) (W st)) (M st) else if eqb (orNone z) 65535 then setSize s t (M st) (encV v) size (W st) else listed (stated (record { kind = kindNumber (v .kind); number = v .number; offset = v .offset; size = size }) (W st)) (M st))
-          ((definition.if_then_else_ b (walks.pure v) (λ e st. on e (walks.knownSize v e st) λ known. expressions.takeKnown known size v)) e st)
-      go true z q k = unfold if_then_else_ base-opens in same-stated st f v h
-      go false z q k = unfold if_then_else_ base-opens on in rw q (known z k)
-
   module _ (w : Walk) (next : ℕ) where
     abbrev Ends : State → Stepped → Outcome (Unit {0}) → Type 0
     Ends st x o = Goes (e .section) front tail marks rest spare st next (beside w) (begunIn w) x o
@@ -115,7 +76,7 @@ module _ (s t : List ℕ) (e : Env) (front tail marks rest : List ℕ) (we : Wor
         bind (e .section) front tail marks rest (suc spare) spare e st encV (Sound (e .section)) (seenStep (begunIn w)) (λ (_ : Unit {0}). (next, beside w)) (λ n (_ : Unit {0}). Unit {0}) (λ u. walks.opNoOutput Operation.Store 0 (pointer ∷ u ∷ []))
         (seenStated (A st) (takeStated s t (M st) (encV v) size (W st))) (expressions.takeStated size v e st) (storeStated s t (A st) we (encV pointer) next w (takeStated s t (M st) (encV v) size (W st)))
         (λ u st2 a m. stepPushed (pushOp s t a m we 59 0 2 noOutput (encV pointer) u st2) (pushedThen next w))
-        (take-stated st f size v l g)
+        (take-stated s t e front tail marks rest (given .sizes) spare room st f size v l g)
         (λ u st2 q k. step-pushed (e .section) front tail marks rest spare st2 _ _ next w
         (unfold operationNumber firstOf secondOf in no-output s t e front tail marks rest we (given .lent) (given .sizes) (given .pointer) spare st2 room (q .stood) Operation.Store 0 (pointer ∷ u ∷ []) (omega arith) (sound-more (e .section) (count st) (count st2) (q .later .temporaries) pointer h, (k, tt)) (unfold kindOf at isSome in refl) refl))
         (go (A st) (takeStated s t (M st) (encV v) size (W st))) (stays (A st) (takeStated s t (M st) (encV v) size (W st)))
@@ -139,7 +100,7 @@ module _ (s t : List ℕ) (e : Env) (front tail marks rest : List ℕ) (we : Wor
         bind (e .section) front tail marks rest (suc spare) spare e st encV (Sound (e .section)) (seenStep (begunIn w)) (λ (_ : Unit {0}). (next, beside w)) (λ n (_ : Unit {0}). Unit {0}) (λ u. walks.push (storing size pointer u))
         (seenStated (A st) (setStated s t (M st) (encV v) size (W st))) (expressions.setStated size v e st) (registerStated (A st) (encV pointer) size next w (setStated s t (M st) (encV v) size (W st)))
         (λ u st2 a m. pushing (encV pointer) size u st2 a m)
-        (set-stated st f size v l g)
+        (set-stated s t e front tail marks rest (given .sizes) spare room st f size v l g)
         (λ u st2 q k. refines-as (e .section) front tail marks rest spare st2 (λ _. tt {0}) (λ n (_ : Unit {0}). Unit {0}) (λ _. (next, beside w)) _ _ _
         (below s t e front tail marks rest we given .pushes spare st2 room (stood-more (4 + spare) (omega arith) (q .stood)) (storing size pointer u) (omega arith) (record { inputs = (sound-more (e .section) (count st) (count st2) (q .later .temporaries) pointer h, (k, tt)); output = tt }) (no-operation _ (unfold operationOf in refl)))
         (push-ends (push (A st2) 3 0 size 2 absent (encV pointer) (encV u) (W st2)) (M st2) next w))

@@ -11,7 +11,7 @@ use lib.ListN.{length, getD, drop}
 use lib.Dec.{eqb}
 use borrow.Author.Tests.{eqb-true, eqb-false, ne-eqb}
 use Rattle.access.specs.Le.{le16}
-use Rattle.definition.specs.Base.{orElse, andThen}
+use Rattle.definition.specs.Base.{orElse, andThen, if_then_else_}
 use Rattle.definition.specs.Value.{Value, SemanticAction}
 use Rattle.definition.specs.Ast.{PcodeExpr, Statement}
 use Rattle.definition.specs.SectionFile.{parsed, exprWithin}
@@ -23,7 +23,7 @@ use Rattle.definition.specs.Statements as d
 use Rattle.definition.specs.ActionList.{orNone}
 use Rattle.list_pushes.specs.declared.push.State.{State as WordState}
 use Rattle.list_pushes.specs.declared.push.Env.{Env as WordEnv}
-use Rattle.list_values.specs.Base.{if_then_else_, Listed, listed, thenL}
+use Rattle.list_values.specs.Base.{Listed, listed, thenL}
 use Rattle.list_pushes.specs.Pushes.{onTmp}
 use Rattle.file_refinement.specs.Holds.{absentAt}
 use Rattle.file_refinement.proofs.Inversion.{LocalAssignmentAt, CopyAt}
@@ -41,19 +41,16 @@ use Rattle.expr_refinement.proofs.Encodings.{encX, SoundX, Small, sound-more, x
 use Rattle.expr_refinement.proofs.Answers.{acts, temps, word}
 use Rattle.expr_refinement.proofs.Below.{Spare}
 use Rattle.expr_refinement.proofs.Scopes.{encM, ident-is}
-use Rattle.expr_refinement.proofs.Positions.{ident-ends, truncate-ends}
-use Rattle.expr_refinement.proofs.Positions.{begins}
+use Rattle.expr_refinement.proofs.Positions.{ident-ends, truncate-ends, begins}
 use Rattle.expr_refinement.proofs.Expressions.{after-is, absent-word, small-or}
 use Rattle.stmt_refinement.proofs.Views.{Beside, on-assoc}
 use Rattle.stmt_refinement.proofs.Given.{Given, walkOf, expression}
 use Rattle.stmt_refinement.proofs.ReadInto.{read-to}
 use Rattle.stmt_refinement.proofs.Copies.{copy-into}
 use Rattle.stmt_refinement.proofs.Standing.{Standing, Steps}
-use Rattle.stmt_refinement.proofs.Stepping.{steps-expr}
-use Rattle.stmt_refinement.proofs.Stepping.{steps-goes}
+use Rattle.stmt_refinement.proofs.Stepping.{steps-expr, steps-goes}
 use Rattle.stmt_refinement.proofs.Locals.{hungMarks}
-use Rattle.stmt_refinement.proofs.Naming.{steps-named}
-use Rattle.stmt_refinement.proofs.Naming.{Names}
+use Rattle.stmt_refinement.proofs.Naming.{steps-named, Names}
 
 module _ (s t : List ℕ) (e : Env) (p front tail rest : List ℕ) (we : WordEnv) (given : Given s t e front tail rest we) (spare : ℕ) (room : Spare spare tail) (b : Beside) (ls : List ℕ) where
   abbrev Stands : List ℕ → State → Type 0

@@ -10,7 +10,7 @@ use lib.Seq.{drop-drop, getD-set-same, getD-set-other}
 use lib.Dec.{leb}
 use borrow.Author.Tests.{eq-eqb, leb-true}
 use Rattle.access.specs.Le.{le16}
-use Rattle.definition.specs.Base.{base-opens}
+use Rattle.definition.specs.Base.{base-opens, if_then_else_}
 use Rattle.definition.specs.Refusals.{refusalNumber, listFull}
 use Rattle.definition.specs.Operations.{Operation, operationNumber, operations-opens}
 use Rattle.definition.specs.Value.{Value, SemanticAction, operationOf}
@@ -27,7 +27,8 @@ use Rattle.list_values.specs.declared.value.Value.{Value as WordValue}
 use Rattle.list_pushes.specs.declared.push.State.{State as WordState}
 use Rattle.list_pushes.specs.declared.push.Env.{Env as WordEnv}
 use Rattle.list_pushes.specs.declared.push.Pushed.{Pushed}
-use Rattle.list_values.specs.Base.{if_then_else_, run, Listed, listed, thenL}
+use Rattle.list_values.specs.Base.{Listed, listed, thenL}
+use Rattle.access.specs.Loops.{run}
 use Rattle.list_values.specs.Values.{absent, noOutput, word, valueOf, valueAt, putValue}
 use Rattle.list_pushes.specs.Pushes.{onPush, withEnd, writeOperands, writeZeros, writeHead, write, push}
 use Rattle.list_refinement.proofs.Pushes.{push-test}
@@ -41,8 +42,7 @@ use Rattle.stmt_walk.specs.declared.walk.Walk.{Walk}
 use Rattle.stmt_walk.specs.Walks.{Stepped, besideL, pushedThen}
 use Rattle.stmt_simple.specs.Calls.{writeInput, writeInputs, ArgsRead, argsRead, readArgs, pushUserOp, userOpRead, userOpArgs, stepArgs, userOpStatement}
 use Rattle.expr_refinement.proofs.Encodings.{encX, SoundX, opAction, sound-more, x-more, each-more, each-last, placed-last, count, Stood}
-use Rattle.expr_refinement.proofs.Answers.{bind, bind-read, bind-args}
-use Rattle.expr_refinement.proofs.Answers.{acts, temps, word as stateWord, seenArgs, Reached, Refines, refines-at, refines-done, refines-stopped, refines-map, weaken}
+use Rattle.expr_refinement.proofs.Answers.{bind, bind-read, bind-args, acts, temps, word as stateWord, seenArgs, Reached, Refines, refines-at, refines-done, refines-stopped, refines-map, weaken}
 use Rattle.expr_refinement.proofs.Below.{Spare}
 use Rattle.expr_refinement.proofs.Reading.{read-operand}
 use Rattle.expr_refinement.proofs.Slots.{arg-length}

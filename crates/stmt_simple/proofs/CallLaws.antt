@@ -11,7 +11,9 @@ use Rattle.list_pushes.specs.declared.push.State.{State}
 use Rattle.list_pushes.specs.declared.push.Env.{Env}
 use Rattle.list_pushes.specs.declared.push.Read.{Read}
 use Rattle.list_pushes.specs.declared.push.Pushed.{Pushed}
-use Rattle.list_values.specs.Base.{if_then_else_, run, listed, thenL}
+use Rattle.list_values.specs.Base.{listed, thenL}
+use Rattle.definition.specs.Base.{if_then_else_}
+use Rattle.access.specs.Loops.{run}
 use Rattle.list_values.specs.Values.{absent, noOutput, valueAt, putValue}
 use Rattle.list_pushes.specs.Pushes.{read, onRead, onPush, push}
 use Rattle.expr_scope.specs.declared.scope.ExprValue.{ExprValue}
@@ -27,7 +29,7 @@ use Rattle.stmt_walk.specs.declared.walk.Walk.{Walk}
 use Rattle.stmt_walk.specs.declared.walk.Step.{Step}
 use Rattle.stmt_simple.specs.declared.calls.Called.{Called}
 use Rattle.stmt_walk.specs.Walks.{stepped, stop, pushedThen}
-use Rattle.list_values.proofs.LoopLaws.{run-end}
+use Rattle.access.proofs.LoopLaws.{run-end, one-less}
 use Rattle.stmt_simple.specs.Calls.{called, symbolOf, calledOf, delaySlot, ArgsRead, argsRead, readArgs, writeInput, writeInputs, pushUserOp, userOpRead, userOpArgs, stepArgs, userOpStatement, otherCall, macroAt, bindName, bindNames, counted, macroCounted, macroArgs}
 
 -- ---- what is called
@@ -70,9 +72,6 @@ module _ (s a : List ℕ) (pos n : ℕ) (w : Walk) (k : ℕ) (ek : k ≡ onlyInt
   delay-other h q = rw (← ek, ne-eqb k 1 h, q)
 
 -- ---- user ops; what is left to read gives the whole, B
-less : (n i : ℕ) → i < n → n - i ≡ suc (n - (i + 1))
-less n i h = omega arith
-
 pub args-start : (n : ℕ) (s t a m args : List ℕ) (e : Env) (st : State) → readArgs (n - 0) 0 s t a m args e st ≡ readArgs n 0 s t a m args e st
 args-start n s t a m args e st = let z : n - 0 ≡ n = omega arith in rw z
 
@@ -84,7 +83,7 @@ module _ (n i : ℕ) (s t a m args : List ℕ) (e : Env) (st : State) (B : ArgsR
     (f : read r a1 m1 ≡ readOperand s t a m e x st) where
   one : onRead (read r a1 m1) (λ v st1 b u. readArgs (n - (i + 1)) (suc i) s t b u (putValue args (paramPlace i) 4 v) e st1) (λ k b u. argsRead (Pushed.No k) b u args) ≡ B
   unfolding readArgs
-  one = rw (f, ex) (rw (less n i h) at inv)
+  one = rw (f, ex) (rw (one-less n i h) at inv)
 
   pub args-stop : (k : ℕ) → r ≡ Read.No k → argsRead (Pushed.No k) a1 m1 args ≡ B
   unfolding onRead

@@ -13,7 +13,8 @@ use Rattle.list_pushes.specs.declared.push.State.{State}
 use Rattle.list_pushes.specs.declared.push.Env.{Env}
 use Rattle.list_pushes.specs.declared.push.Read.{Read}
 use Rattle.list_pushes.specs.declared.push.Pushed.{Pushed}
-use Rattle.list_values.specs.Base.{if_then_else_, listed, thenL}
+use Rattle.list_values.specs.Base.{listed, thenL}
+use Rattle.definition.specs.Base.{if_then_else_}
 use Rattle.list_values.specs.Values.{absent, noOutput}
 use Rattle.list_values.specs.Sizes.{entry}
 use Rattle.list_pushes.specs.Pushes.{read, pushed, onTmp, push, pushOp}
@@ -28,6 +29,7 @@ use Rattle.stmt_walk.specs.declared.walk.Walk.{Walk}
 use Rattle.stmt_walk.specs.declared.walk.Step.{Step}
 use Rattle.stmt_walk.specs.Walks.{stepped, stepPushed, stepRead, stop, pushedThen, readThen}
 use Rattle.stmt_simple.specs.Simple.{unimplemented, exported, exportValue, exportRead, exportOf, exportStatement, localStatement, assign, localAssignment, findSubtable, buildSubtable, buildTable, buildSymbol, build}
+use Rattle.access.proofs.LoopLaws.{one-less}
 
 pub unimplemented-law : (s t a m : List ℕ) (e : Env) (pos : ℕ) (w : Walk) (next : ℕ) (o x y : Value) (r : Pushed) (a1 m1 : List ℕ) (z : Step) →
     o ≡ noOutput → x ≡ absent → y ≡ absent → pushed r a1 m1 ≡ pushOp s t a m e 65 0 0 o x y (w .st) → next ≡ after pos 1 → z ≡ pushedThen next w r →
@@ -108,22 +110,19 @@ module _ (s t p a m : List ℕ) (e : Env) (pos : ℕ) (w : Walk) (name size : �
   assignment-yes v st at z a2 m2 q g h = rw (← en .0, ← es .0, ← f, q, ← g) h
 
 -- ---- builds
-less : (n i : ℕ) → i < n → n - i ≡ suc (n - (i + 1))
-less n i h = omega arith
-
 pub find-start : (n : ℕ) (s t : List ℕ) (table : ℕ) → findSubtable (n - 0) 0 s t table ≡ findSubtable n 0 s t table
 find-start n s t table = let z : n - 0 ≡ n = omega arith in rw z
 
 module _ (n i : ℕ) (s t : List ℕ) (table at w r : ℕ) (h : i < n) (g : at ≡ entry t 8 (i % 65536 * 4)) (k : (w ≡ le16 s (at + 2)) × (w < 65536)) (e : findSubtable (n - i) i s t table ≡ r) where
   pub find-hit : w ≡ table → i ≡ r
   unfolding findSubtable if_then_else_
-  find-hit q = rw (less n i h, ← g, ← k .0, eq-eqb w table q) at e
+  find-hit q = rw (one-less n i h, ← g, ← k .0, eq-eqb w table q) at e
 
   pub find-miss : (w ≡ table → ⊥) → findSubtable (n - (i + 1)) (i + 1) s t table ≡ r
   unfolding findSubtable if_then_else_
   find-miss q =
       let o : i + 1 ≡ suc i = omega arith in
-      rw o (rw (less n i h, ← g, ← k .0, ne-eqb w table q, o) at e)
+      rw o (rw (one-less n i h, ← g, ← k .0, ne-eqb w table q, o) at e)
 
 pub find-end : (n i : ℕ) (s t : List ℕ) (table r : ℕ) → n ≤ i → findSubtable (n - i) i s t table ≡ r → i ≡ r
 unfolding findSubtable

@@ -7,7 +7,9 @@ use Rattle.access.specs.Le.{le16}
 use Rattle.list_pushes.specs.declared.push.State.{State}
 use Rattle.list_pushes.specs.declared.push.Env.{Env}
 use Rattle.list_pushes.specs.declared.push.Pushed.{Pushed}
-use Rattle.list_values.specs.Base.{if_then_else_, run, Listed, listed, thenL}
+use Rattle.list_values.specs.Base.{Listed, listed, thenL}
+use Rattle.definition.specs.Base.{if_then_else_}
+use Rattle.access.specs.Loops.{run}
 use Rattle.list_values.specs.Values.{absent, noOutput, valueAt, putValue}
 use Rattle.list_pushes.specs.Pushes.{onRead, onPush, push}
 use Rattle.expr_scope.specs.declared.args.Args.{Args}

@@ -8,7 +8,8 @@ use Rattle.list_values.specs.declared.value.Value.{Value}
 use Rattle.list_pushes.specs.declared.push.State.{State}
 use Rattle.list_pushes.specs.declared.push.Env.{Env}
 use Rattle.list_pushes.specs.declared.push.Read.{Read}
-use Rattle.list_values.specs.Base.{if_then_else_, Listed, listed, thenL}
+use Rattle.list_values.specs.Base.{Listed, listed, thenL}
+use Rattle.definition.specs.Base.{if_then_else_}
 use Rattle.list_values.specs.Values.{absent, noOutput}
 use Rattle.list_values.specs.Sizes.{entry}
 use Rattle.list_pushes.specs.Pushes.{onTmp, push, pushOp}

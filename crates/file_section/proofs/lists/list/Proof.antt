@@ -11,10 +11,10 @@ use native.Mathlib.Omega.{arith}
 use Prim.Native.Nat.{_-_, _≤_, _<_}
 use mathlib.Core.Path.{_≡_, refl, _∙_}
 use lib.ListN.{length}
-use Rattle.file_syntax.specs.Cursors.{run}
+use Rattle.access.specs.Loops.{run}
 use Rattle.file_section.specs.Names.{reading}
 use Rattle.file_section.specs.Lists.{entry}
-use Rattle.file_syntax.proofs.CursorLaws.{run-start, run-again}
+use Rattle.access.proofs.LoopLaws.{run-start, run-again}
 use Rattle.file_section.proofs.ListLaws.{list-law}
 
 abbrev Inv-loop : tie.InvT-loop

@@ -8,10 +8,10 @@ use native.Mathlib.Omega.{arith}
 use Prim.Native.Nat.{_-_, _≤_, _<_}
 use mathlib.Core.Path.{_≡_, refl, _∙_}
 use lib.ListN.{length}
-use Rattle.file_syntax.specs.Cursors.{run}
+use Rattle.access.specs.Loops.{run}
 use Rattle.file_section.specs.Names.{reading}
 use Rattle.file_section.specs.Lists.{list, lists}
-use Rattle.file_syntax.proofs.CursorLaws.{run-start, run-again, run-end}
+use Rattle.access.proofs.LoopLaws.{run-start, run-again, run-end}
 
 abbrev Inv-loop : tie.InvT-loop
 Inv-loop s t₀ c₀ k₀ t c k = (k ≤ 9) × (length t ≡ length t₀) × (run (9 - k) k (list s) (reading c t) ≡ run 9 0 (list s) (reading c₀ t₀))

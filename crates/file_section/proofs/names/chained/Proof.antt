@@ -8,10 +8,10 @@ use native.Mathlib.Omega.{arith}
 use Prim.Native.Nat.{_-_, _≤_}
 use mathlib.Core.Path.{_≡_, refl, _∙_}
 use lib.ListN.{length}
-use Rattle.file_syntax.specs.Cursors.{run}
+use Rattle.access.specs.Loops.{run}
 use Rattle.file_section.specs.Names.{reading, nameAt, names}
 use Rattle.file_section.specs.Chains.{Linked}
-use Rattle.file_syntax.proofs.CursorLaws.{run-start, run-again, run-end}
+use Rattle.access.proofs.LoopLaws.{run-start, run-again, run-end}
 
 abbrev Inv-loop : tie.InvT-loop
 Inv-loop s n t₀ k₀ c₀ i₀ t k c i = (i ≤ n) × (length t ≡ length t₀) × (run (n - i) i (nameAt s) (reading c t) ≡ run n 0 (nameAt s) (reading c₀ t₀)) × Linked s t k i

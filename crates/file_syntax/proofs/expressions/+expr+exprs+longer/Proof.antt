@@ -27,9 +27,9 @@ use Rattle.file_syntax.proofs.CodeLaws.{code-laws, counted-law}
 use borrow.Author.Needs.{needs}
 use native.Mathlib.Omega.{arith}
 use mathlib.Core.Path.{_≡_, refl}
-use Rattle.file_syntax.specs.Cursors.{run}
+use Rattle.access.specs.Loops.{run}
 use Rattle.file_syntax.specs.Expressions as e
-use Rattle.file_syntax.proofs.CursorLaws.{run-start, run-again}
+use Rattle.access.proofs.LoopLaws.{run-start, run-again}
 
 abbrev μ-expr : Measures 1 expr-kinds.ps ℕ
 μ-expr κs a = a .0 + a .0 + a .0 + 1

@@ -7,9 +7,9 @@ use borrow.Author.Needs.{needs}
 use native.Mathlib.Omega.{arith}
 use Prim.Native.Nat.{_-_, _≤_}
 use mathlib.Core.Path.{_≡_, refl}
-use Rattle.file_syntax.specs.Cursors.{run}
+use Rattle.access.specs.Loops.{run}
 use Rattle.file_syntax.specs.Statements as words
-use Rattle.file_syntax.proofs.CursorLaws.{run-start, run-again}
+use Rattle.access.proofs.LoopLaws.{run-start, run-again}
 use Rattle.file_syntax.proofs.CodeLaws.{body-law}
 
 abbrev Inv-loop : tie.InvT-loop

@@ -8,9 +8,10 @@ use Prim.Native.Nat.{_-_, _≤_}
 use native.Mathlib.Omega.{arith}
 use mathlib.Core.Path.{_≡_, refl}
 use lib.ListN.{length}
-use Rattle.list_values.specs.Base.{run, listed}
+use Rattle.list_values.specs.Base.{listed}
+use Rattle.access.specs.Loops.{run}
 use Rattle.list_end.specs.End.{implicitBuild}
-use Rattle.list_values.proofs.LoopLaws.{run-start, run-again}
+use Rattle.access.proofs.LoopLaws.{run-start, run-again}
 use Rattle.list_end.proofs.EndLaws.{implicit-builds-law}
 
 abbrev Inv-loop : tie.InvT-loop

@@ -8,8 +8,8 @@ use Prim.Native.Nat.{_-_, _≤_}
 use native.Mathlib.Omega.{arith}
 use mathlib.Core.Path.{_≡_, refl}
 use lib.ListN.{length}
-use Rattle.list_values.specs.Base.{run}
-use Rattle.list_values.proofs.LoopLaws.{run-start, run-again}
+use Rattle.access.specs.Loops.{run}
+use Rattle.access.proofs.LoopLaws.{run-start, run-again}
 use Rattle.resolve_answer.specs.Answers.{clearMark}
 use Rattle.resolve_answer.proofs.AnswerLaws.{marks-law}
 

@@ -5,9 +5,7 @@ use Rattle.stmt_assignments.proofs.copies.after_target.Reads as reads
 use Rattle.stmt_assignments.proofs.copies.after_target.Lts as lts
 use Rattle.access.proofs.byte.Reads as byte-reads
 use Rattle.expr_terms.proofs.answers.after.Reads as after-reads
-use Rattle.stmt_assignments.proofs.CopyLaws.{bit-laws}
-use Rattle.stmt_assignments.proofs.CopyLaws.{copy-laws}
-use Rattle.stmt_assignments.proofs.CopyLaws.{after-cut}
+use Rattle.stmt_assignments.proofs.CopyLaws.{bit-laws, copy-laws, after-cut}
 
 byte-requires : tie.Need-byte-requires
 byte-requires c κs = search needs

@@ -5,8 +5,7 @@ use Rattle.stmt_assignments.proofs.copies.copy_bits.Reads as reads
 use Rattle.stmt_assignments.proofs.copies.copy_bits.Lts as lts
 use Rattle.expr_reading.proofs.read.read_operand.Reads as read-operand-reads
 use Rattle.stmt_assignments.proofs.copies.write_bits.Reads as write-bits-reads
-use Rattle.stmt_assignments.proofs.CopyLaws.{bit-laws}
-use Rattle.stmt_assignments.proofs.CopyLaws.{copy-laws}
+use Rattle.stmt_assignments.proofs.CopyLaws.{bit-laws, copy-laws}
 
 read-operand-requires : tie.Need-read-operand-requires
 read-operand-requires c κs = search needs

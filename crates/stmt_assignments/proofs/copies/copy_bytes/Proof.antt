@@ -5,8 +5,7 @@ use Rattle.stmt_assignments.proofs.copies.copy_bytes.Reads as reads
 use Rattle.stmt_assignments.proofs.copies.copy_bytes.Lts as lts
 use Rattle.expr_reading.proofs.read.read_value.Reads as read-value-reads
 use Rattle.expr_reading.proofs.read.sliced.Reads as sliced-reads
-use Rattle.stmt_assignments.proofs.CopyLaws.{bit-laws}
-use Rattle.stmt_assignments.proofs.CopyLaws.{copy-laws}
+use Rattle.stmt_assignments.proofs.CopyLaws.{bit-laws, copy-laws}
 
 sliced-requires : tie.Need-sliced-requires
 sliced-requires c κs = search needs

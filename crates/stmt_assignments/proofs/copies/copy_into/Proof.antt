@@ -8,8 +8,7 @@ use Rattle.stmt_assignments.proofs.copies.copy_ram.Reads as copy-ram-re
 use Rattle.stmt_assignments.proofs.copies.copy_range.Reads as copy-range-reads
 use Rattle.stmt_walk.proofs.walk.read_then.Reads as read-then-reads
 use Rattle.stmt_walk.proofs.walk.stop.Reads as stop-reads
-use Rattle.stmt_assignments.proofs.CopyLaws.{bit-laws}
-use Rattle.stmt_assignments.proofs.CopyLaws.{copy-laws}
+use Rattle.stmt_assignments.proofs.CopyLaws.{bit-laws, copy-laws}
 
 enum-known-target : tie.Need-enum-known-target
 enum-known-target c = search needs

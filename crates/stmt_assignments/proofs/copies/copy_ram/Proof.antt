@@ -6,8 +6,7 @@ use Rattle.stmt_assignments.proofs.copies.copy_ram.Lts as lts
 use Rattle.expr_reading.proofs.read.read_operand.Reads as read-operand-reads
 use Rattle.stmt_assignments.proofs.stores.store.Reads as store-reads
 use Rattle.stmt_walk.proofs.walk.stop.Reads as stop-reads
-use Rattle.stmt_assignments.proofs.CopyLaws.{bit-laws}
-use Rattle.stmt_assignments.proofs.CopyLaws.{copy-laws}
+use Rattle.stmt_assignments.proofs.CopyLaws.{bit-laws, copy-laws}
 
 read-operand-requires : tie.Need-read-operand-requires
 read-operand-requires c κs = search needs

@@ -6,8 +6,7 @@ use Rattle.stmt_assignments.proofs.copies.copy_range.Lts as lts
 use Rattle.expr_reading.proofs.read.byte_aligned.Reads as byte-aligned-reads
 use Rattle.stmt_assignments.proofs.copies.copy_bits.Reads as copy-bits-reads
 use Rattle.stmt_assignments.proofs.copies.copy_bytes.Reads as copy-bytes-reads
-use Rattle.stmt_assignments.proofs.CopyLaws.{bit-laws}
-use Rattle.stmt_assignments.proofs.CopyLaws.{copy-laws}
+use Rattle.stmt_assignments.proofs.CopyLaws.{bit-laws, copy-laws}
 
 byte-aligned-requires : tie.Need-byte-aligned-requires
 byte-aligned-requires c κs = search needs

@@ -7,8 +7,7 @@ use Rattle.access.proofs.mask.Reads as mask-reads
 use Rattle.expr_reading.proofs.read.constant.Reads as constant-reads
 use Rattle.list_pushes.proofs.push.op_to.Reads as op-to-reads
 use Rattle.list_values.proofs.value.absent.Reads as absent-reads
-use Rattle.stmt_assignments.proofs.CopyLaws.{bit-laws}
-use Rattle.stmt_assignments.proofs.CopyLaws.{copy-laws}
+use Rattle.stmt_assignments.proofs.CopyLaws.{bit-laws, copy-laws}
 
 absent-requires : tie.Need-absent-requires
 absent-requires c κs = search needs

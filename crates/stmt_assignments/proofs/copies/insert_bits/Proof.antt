@@ -6,8 +6,7 @@ use Rattle.stmt_assignments.proofs.copies.insert_bits.Lts as lts
 use Rattle.list_pushes.proofs.push.add_tmp.Reads as add-tmp-reads
 use Rattle.list_values.proofs.sizes.size_of.Reads as size-of-reads
 use Rattle.stmt_assignments.proofs.copies.insert_in.Reads as insert-in-reads
-use Rattle.stmt_assignments.proofs.CopyLaws.{bit-laws}
-use Rattle.stmt_assignments.proofs.CopyLaws.{copy-laws}
+use Rattle.stmt_assignments.proofs.CopyLaws.{bit-laws, copy-laws}
 
 size-of-requires : tie.Need-size-of-requires
 size-of-requires c κs = search needs

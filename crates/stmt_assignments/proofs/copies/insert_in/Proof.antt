@@ -5,8 +5,7 @@ use Rattle.stmt_assignments.proofs.copies.insert_in.Reads as reads
 use Rattle.stmt_assignments.proofs.copies.insert_in.Lts as lts
 use Rattle.stmt_assignments.proofs.copies.extend_bits.Reads as extend-bits-reads
 use Rattle.stmt_assignments.proofs.copies.merge_bits.Reads as merge-bits-reads
-use Rattle.stmt_assignments.proofs.CopyLaws.{bit-laws}
-use Rattle.stmt_assignments.proofs.CopyLaws.{copy-laws}
+use Rattle.stmt_assignments.proofs.CopyLaws.{bit-laws, copy-laws}
 
 extend-bits-requires : tie.Need-extend-bits-requires
 extend-bits-requires c κs = search needs

@@ -5,8 +5,7 @@ use Rattle.stmt_assignments.proofs.copies.is_new.Reads as reads
 use Rattle.stmt_assignments.proofs.copies.is_new.Lts as lts
 use Rattle.expr_scope.proofs.scope.resolve_ident.Reads as resolve-ident-reads
 use Rattle.stmt_assignments.proofs.copies.is_wrong.Reads as is-wrong-reads
-use Rattle.stmt_assignments.proofs.CopyLaws.{bit-laws}
-use Rattle.stmt_assignments.proofs.CopyLaws.{copy-laws}
+use Rattle.stmt_assignments.proofs.CopyLaws.{bit-laws, copy-laws}
 
 returns : tie.Need-returns
 returns c = search (bit-laws, copy-laws, needs)

@@ -3,8 +3,7 @@ use Rattle.stmt_assignments.proofs.copies.is_wrong.Statement.{statement
 use Rattle.stmt_assignments.proofs.copies.is_wrong.Tie as tie
 use Rattle.stmt_assignments.proofs.copies.is_wrong.Reads as reads
 use Rattle.stmt_assignments.proofs.copies.is_wrong.Lts as lts
-use Rattle.stmt_assignments.proofs.CopyLaws.{bit-laws}
-use Rattle.stmt_assignments.proofs.CopyLaws.{copy-laws}
+use Rattle.stmt_assignments.proofs.CopyLaws.{bit-laws, copy-laws}
 
 enum-told : tie.Need-enum-told
 enum-told c = search needs

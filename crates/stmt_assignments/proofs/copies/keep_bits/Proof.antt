@@ -7,8 +7,7 @@ use Rattle.expr_reading.proofs.read.constant.Reads as constant-reads
 use Rattle.list_pushes.proofs.push.op_to.Reads as op-to-reads
 use Rattle.stmt_assignments.proofs.copies.insert_bits.Reads as insert-bits-reads
 use Rattle.stmt_assignments.proofs.copies.mask_but.Reads as mask-but-reads
-use Rattle.stmt_assignments.proofs.CopyLaws.{bit-laws}
-use Rattle.stmt_assignments.proofs.CopyLaws.{copy-laws}
+use Rattle.stmt_assignments.proofs.CopyLaws.{bit-laws, copy-laws}
 
 mask-but-requires : tie.Need-mask-but-requires
 mask-but-requires c κs = search needs

@@ -4,9 +4,7 @@ use Rattle.stmt_assignments.proofs.copies.mask_but.Tie as tie
 use Rattle.stmt_assignments.proofs.copies.mask_but.Reads as reads
 use Rattle.stmt_assignments.proofs.copies.mask_but.Lts as lts
 use Rattle.access.proofs.mask.Reads as mask-reads
-use Rattle.stmt_assignments.proofs.CopyLaws.{bit-laws}
-use Rattle.stmt_assignments.proofs.CopyLaws.{copy-laws}
-use Rattle.stmt_assignments.proofs.CopyLaws.{mask-but-law}
+use Rattle.stmt_assignments.proofs.CopyLaws.{bit-laws, copy-laws, mask-but-law}
 
 mask-requires : tie.Need-mask-requires
 mask-requires c κs = search needs

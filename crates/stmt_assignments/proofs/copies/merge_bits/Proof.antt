@@ -5,8 +5,7 @@ use Rattle.stmt_assignments.proofs.copies.merge_bits.Reads as reads
 use Rattle.stmt_assignments.proofs.copies.merge_bits.Lts as lts
 use Rattle.expr_reading.proofs.read.constant.Reads as constant-reads
 use Rattle.list_pushes.proofs.push.op_to.Reads as op-to-reads
-use Rattle.stmt_assignments.proofs.CopyLaws.{bit-laws}
-use Rattle.stmt_assignments.proofs.CopyLaws.{copy-laws}
+use Rattle.stmt_assignments.proofs.CopyLaws.{bit-laws, copy-laws}
 
 constant-requires : tie.Need-constant-requires
 constant-requires c κs = search needs

@@ -6,8 +6,7 @@ use Rattle.stmt_assignments.proofs.copies.new_target.Lts as lts
 use Rattle.expr_scope.proofs.scope.named_tmp.Reads as named-tmp-reads
 use Rattle.stmt_assignments.proofs.copies.after_target.Reads as after-target-reads
 use Rattle.stmt_assignments.proofs.copies.target_size.Reads as target-size-reads
-use Rattle.stmt_assignments.proofs.CopyLaws.{bit-laws}
-use Rattle.stmt_assignments.proofs.CopyLaws.{copy-laws}
+use Rattle.stmt_assignments.proofs.CopyLaws.{bit-laws, copy-laws}
 
 target-size-requires : tie.Need-target-size-requires
 target-size-requires c κs = search needs

@@ -5,9 +5,7 @@ use Rattle.stmt_assignments.proofs.copies.target_name.Reads as reads
 use Rattle.stmt_assignments.proofs.copies.target_name.Lts as lts
 use Rattle.access.proofs.byte.Reads as byte-reads
 use Rattle.access.proofs.u16_in.Reads as u16-in-reads
-use Rattle.stmt_assignments.proofs.CopyLaws.{bit-laws}
-use Rattle.stmt_assignments.proofs.CopyLaws.{copy-laws}
-use Rattle.stmt_assignments.proofs.CopyLaws.{name-part, name-none}
+use Rattle.stmt_assignments.proofs.CopyLaws.{bit-laws, copy-laws, name-part, name-none}
 
 byte-requires : tie.Need-byte-requires
 byte-requires c κs = search needs

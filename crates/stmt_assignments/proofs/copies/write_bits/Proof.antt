@@ -6,8 +6,7 @@ use Rattle.stmt_assignments.proofs.copies.write_bits.Lts as lts
 use Rattle.list_pushes.proofs.push.add_tmp.Reads as add-tmp-reads
 use Rattle.list_values.proofs.sizes.size_of.Reads as size-of-reads
 use Rattle.stmt_assignments.proofs.copies.keep_bits.Reads as keep-bits-reads
-use Rattle.stmt_assignments.proofs.CopyLaws.{bit-laws}
-use Rattle.stmt_assignments.proofs.CopyLaws.{copy-laws}
+use Rattle.stmt_assignments.proofs.CopyLaws.{bit-laws, copy-laws}
 
 returns : tie.Need-returns
 returns c = search (bit-laws, copy-laws, needs)

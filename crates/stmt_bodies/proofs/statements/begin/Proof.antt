@@ -4,8 +4,7 @@ use Rattle.stmt_bodies.proofs.statements.begin.Tie as tie
 use Rattle.stmt_bodies.proofs.statements.begin.Reads as reads
 use Rattle.stmt_bodies.proofs.statements.begin.Lts as lts
 use Rattle.stmt_bodies.proofs.statements.begun.Reads as begun-reads
-use Rattle.stmt_bodies.proofs.StatementLaws.{code-laws}
-use Rattle.stmt_bodies.proofs.StatementLaws.{begin-laws}
+use Rattle.stmt_bodies.proofs.StatementLaws.{code-laws, begin-laws}
 
 returns : tie.Need-returns
 returns c = search (code-laws, begin-laws, needs)

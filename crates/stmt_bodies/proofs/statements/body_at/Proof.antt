@@ -4,8 +4,7 @@ use Rattle.stmt_bodies.proofs.statements.body_at.Tie as tie
 use Rattle.stmt_bodies.proofs.statements.body_at.Reads as reads
 use Rattle.stmt_bodies.proofs.statements.body_at.Lts as lts
 use Rattle.expr_terms.proofs.answers.after.Reads as after-reads
-use Rattle.stmt_bodies.proofs.StatementLaws.{code-laws}
-use Rattle.stmt_bodies.proofs.StatementLaws.{begin-laws}
+use Rattle.stmt_bodies.proofs.StatementLaws.{code-laws, begin-laws}
 
 mul-after : tie.Need-mul-after
 mul-after c = search needs

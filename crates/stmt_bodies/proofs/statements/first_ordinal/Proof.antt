@@ -4,8 +4,7 @@ use Rattle.stmt_bodies.proofs.statements.first_ordinal.Tie as tie
 use Rattle.stmt_bodies.proofs.statements.first_ordinal.Reads as reads
 use Rattle.stmt_bodies.proofs.statements.first_ordinal.Lts as lts
 use Rattle.access.proofs.get_u16.Reads as get-u16-reads
-use Rattle.stmt_bodies.proofs.StatementLaws.{code-laws}
-use Rattle.stmt_bodies.proofs.StatementLaws.{begin-laws}
+use Rattle.stmt_bodies.proofs.StatementLaws.{code-laws, begin-laws}
 
 add-get-u16 : tie.Need-add-get-u16
 add-get-u16 c = search needs

@@ -3,8 +3,7 @@ use Rattle.stmt_bodies.proofs.statements.returned.Statement.{statement}
 use Rattle.stmt_bodies.proofs.statements.returned.Tie as tie
 use Rattle.stmt_bodies.proofs.statements.returned.Reads as reads
 use Rattle.stmt_bodies.proofs.statements.returned.Lts as lts
-use Rattle.stmt_bodies.proofs.StatementLaws.{code-laws}
-use Rattle.stmt_bodies.proofs.StatementLaws.{begin-laws}
+use Rattle.stmt_bodies.proofs.StatementLaws.{code-laws, begin-laws}
 
 enum-known-answer : tie.Need-enum-known-answer
 enum-known-answer c = search needs

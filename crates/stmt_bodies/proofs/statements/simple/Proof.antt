@@ -10,8 +10,7 @@ use Rattle.stmt_simple.proofs.simple.local_assignment.Reads as local-assignment
 use Rattle.stmt_simple.proofs.simple.local_statement.Reads as local-statement-reads
 use Rattle.stmt_simple.proofs.simple.unimplemented.Reads as unimplemented-reads
 use Rattle.stmt_assignments.proofs.stores.store_statement.Reads as store-statement-reads
-use Rattle.stmt_bodies.proofs.StatementLaws.{code-laws}
-use Rattle.stmt_bodies.proofs.StatementLaws.{begin-laws}
+use Rattle.stmt_bodies.proofs.StatementLaws.{code-laws, begin-laws}
 
 unimplemented-requires : tie.Need-unimplemented-requires
 unimplemented-requires c κs = search needs

@@ -5,8 +5,7 @@ use Rattle.stmt_branches.proofs.branches.after_jump.Reads as reads
 use Rattle.stmt_branches.proofs.branches.after_jump.Lts as lts
 use Rattle.access.proofs.byte.Reads as byte-reads
 use Rattle.expr_terms.proofs.answers.after.Reads as after-reads
-use Rattle.stmt_branches.proofs.BranchLaws.{branch-laws}
-use Rattle.stmt_branches.proofs.BranchLaws.{after-integer}
+use Rattle.stmt_branches.proofs.BranchLaws.{branch-laws, after-integer}
 
 byte-requires : tie.Need-byte-requires
 byte-requires c κs = search needs

@@ -8,8 +8,7 @@ use Rattle.access.proofs.u64_at.Reads as u64-at-reads
 use Rattle.expr_terms.proofs.answers.after.Reads as after-reads
 use Rattle.expr_scope.proofs.scope.resolve_ident.Reads as resolve-ident-reads
 use Rattle.access.proofs.u16_in.Reads as u16-in-reads
-use Rattle.stmt_branches.proofs.BranchLaws.{branch-laws}
-use Rattle.stmt_branches.proofs.BranchLaws.{jump-integer}
+use Rattle.stmt_branches.proofs.BranchLaws.{branch-laws, jump-integer}
 
 byte-requires : tie.Need-byte-requires
 byte-requires c κs = search needs

@@ -10,8 +10,8 @@ use mathlib.Core.Path.{_≡_, refl}
 use Prim.Native.Nat.{_-_}
 use native.Mathlib.Omega.{arith}
 use lib.ListN.{length}
-use Rattle.list_values.specs.Base.{run}
-use Rattle.list_values.proofs.LoopLaws.{run-start, run-again}
+use Rattle.access.specs.Loops.{run}
+use Rattle.access.proofs.LoopLaws.{run-start, run-again}
 use Rattle.stmt_simple.specs.Calls.{bindName}
 use Rattle.stmt_simple.proofs.CallLaws.{bind-name-law, bind-names-law}
 

@@ -6,8 +6,7 @@ use Rattle.stmt_simple.proofs.calls.called_of.Lts as lts
 use Rattle.access.proofs.u16_at.Reads as u16-at-reads
 use Rattle.expr_scope.proofs.scope.global.Reads as global-reads
 use Rattle.stmt_simple.proofs.calls.symbol_of.Reads as symbol-of-reads
-use Rattle.stmt_simple.proofs.CallLaws.{call-laws}
-use Rattle.stmt_simple.proofs.CallLaws.{called-symbol}
+use Rattle.stmt_simple.proofs.CallLaws.{call-laws, called-symbol}
 
 u16-at-requires : tie.Need-u16-at-requires
 u16-at-requires c κs = search needs

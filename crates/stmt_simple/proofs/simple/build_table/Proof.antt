@@ -10,8 +10,7 @@ use Rattle.list_values.proofs.value.absent.Reads as absent-reads
 use Rattle.stmt_simple.proofs.simple.find_subtable.Reads as find-subtable-reads
 use Rattle.stmt_walk.proofs.walk.pushed_then.Reads as pushed-then-reads
 use Rattle.stmt_walk.proofs.walk.stop.Reads as stop-reads
-use Rattle.stmt_simple.proofs.SimpleLaws.{simple-laws}
-use Rattle.stmt_simple.proofs.SimpleLaws.{table-built}
+use Rattle.stmt_simple.proofs.SimpleLaws.{simple-laws, table-built}
 
 u16-at-requires : tie.Need-u16-at-requires
 u16-at-requires c κs = search needs

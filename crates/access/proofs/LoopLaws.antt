@@ -2,7 +2,11 @@
 use mathlib.Core.Path.{_≡_}
 use Prim.Native.Nat.{ℕ, suc, _+_, _-_, _≤_, _<_}
 use native.Mathlib.Omega.{arith}
-use Rattle.list_values.specs.Base.{run, runDown}
+use Rattle.access.specs.Loops.{run, runDown}
+
+-- what is left of n turns after i is one turn, and what is left after that
+pub one-less : (n i : ℕ) → i < n → n - i ≡ suc (n - (i + 1))
+one-less n i h = omega arith
 
 pub run-start : {A : Type 0} (n : ℕ) (f : ℕ → A → A) (x : A) → run (n - 0) 0 f x ≡ run n 0 f x
 run-start n f x = let z : n - 0 ≡ n = omega arith in rw z
