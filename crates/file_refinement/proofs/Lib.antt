@@ -1,5 +1,5 @@
--- What `section` computes is the definition's. `FileTheorem` says it of files and streams, `Holds` what an accepted stream
--- holds, `Inversion` what was read at a position; the others hold their lemmas.
+-- What `file_blocks`, `file_syntax` and `file_section` compute is the definition's. `FileTheorem` says it of files and streams,
+-- `Inversion` what was read at a position; the others hold their lemmas.
 pub mod Agree
 pub mod AgreeCode
 pub mod AgreeNames

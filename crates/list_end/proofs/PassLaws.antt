@@ -1,4 +1,4 @@
--- Each pass is the one of `pushing`.
+-- Each pass is the one of `list_pushes`.
 use mathlib.Core.Path.{_≡_, _∙_}
 use mathlib.Core.Bool.{true, false}
 use mathlib.Core.List.{List}
