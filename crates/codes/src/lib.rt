@@ -1,5 +1,5 @@
-// The numbers that the section file, its table, the action list and the answer give to things, by name. Where the definition
-// has such a number, a function of the module says that the constants are the definition's.
+// The numbers that the section file, its table, the action list and the answer give to things, by name. `codes_refinement`
+// shows that those which the definition has too are the definition's.
 pub mod action;
 pub mod action_kind;
 pub mod export_kind;

@@ -1,8 +1,4 @@
 // The operations, by their numbers in the action list; the subpiece, which becomes a Copy, has one here alone.
-ghost use mathlib.Core.Path.{_≡_};
-ghost use mathlib.Core.List.{map};
-ghost use Rattle.definition.specs.Operations.{operationNumber};
-ghost use Rattle.codes.specs.Lists.{operations};
 
 pub const INT_MUL: u64 = 0;
 
@@ -125,72 +121,3 @@ pub const ARG: u64 = 64;
 pub const INVALID: u64 = 65;
 
 pub const SUBPIECE: u64 = 66;
-
-// Each is the definition's number.
-fn numbers() -> [u64; 61]
-    ensures { λ r. ⌜ r ≡ map operationNumber operations ⌝ }
-{
-    [
-        INT_MUL,
-        INT_DIV,
-        INT_SIGNED_DIV,
-        INT_REM,
-        INT_SIGNED_REM,
-        INT_ADD,
-        INT_SUB,
-        INT_LEFT,
-        INT_RIGHT,
-        INT_SIGNED_RIGHT,
-        INT_SIGNED_LESS,
-        INT_SIGNED_LESS_EQUAL,
-        INT_LESS,
-        INT_LESS_EQUAL,
-        INT_EQUAL,
-        INT_NOT_EQUAL,
-        FLOAT_DIV,
-        FLOAT_MUL,
-        FLOAT_ADD,
-        FLOAT_SUB,
-        FLOAT_LESS,
-        FLOAT_LESS_EQUAL,
-        FLOAT_EQUAL,
-        FLOAT_NOT_EQUAL,
-        INT_AND,
-        INT_XOR,
-        INT_OR,
-        BOOL_XOR,
-        BOOL_AND,
-        BOOL_OR,
-        INT_CARRY,
-        INT_SIGNED_CARRY,
-        INT_SIGNED_BORROW,
-        BOOL_NOT,
-        INT_NOT,
-        INT_NEGATE,
-        FLOAT_IS_NAN,
-        ZERO_EXTEND,
-        SIGN_EXTEND,
-        FLOAT_NEGATE,
-        FLOAT_ABS,
-        FLOAT_SQRT,
-        FLOAT_CEIL,
-        FLOAT_FLOOR,
-        FLOAT_ROUND,
-        FLOAT_TO_INT,
-        INT_TO_FLOAT,
-        UINT_TO_FLOAT,
-        FLOAT_TO_FLOAT,
-        INT_COUNT_ONES,
-        INT_COUNT_LEADING_ZEROES,
-        COPY,
-        LOAD,
-        STORE,
-        BRANCH,
-        PCODE_BRANCH,
-        PCODE_LABEL,
-        PCODE_OP,
-        ARG,
-        INVALID,
-        SUBPIECE,
-    ]
-}

@@ -1,8 +1,4 @@
 // The refusals.
-ghost use mathlib.Core.Path.{_≡_};
-ghost use mathlib.Core.List.{map};
-ghost use Rattle.definition.specs.Refusals.{refusalNumber};
-ghost use Rattle.codes.specs.Lists.{refusals};
 
 pub const BAD_LENGTH: u64 = 1;
 
@@ -75,47 +71,3 @@ pub const OFFSET_TOO_FAR: u64 = 42;
 pub const SUBPIECE_SIZE: u64 = 50;
 
 pub const ERRORS_RECORDED: u64 = 51;
-
-// Each is the definition's number.
-fn numbers() -> [u64; 36]
-    ensures { λ r. ⌜ r ≡ map refusalNumber refusals ⌝ }
-{
-    [
-        BAD_LENGTH,
-        BLOCK_CHECK,
-        MALFORMED,
-        OUTSIDE_LIMIT,
-        NAMES_NOTHING,
-        SPELLED_TWICE,
-        TOO_MANY_STATEMENTS,
-        MACRO_TOO_DEEP,
-        LIST_FULL,
-        TOO_MANY_TEMPORARIES,
-        TOO_MANY_LABELS,
-        AFTER_EXPORT,
-        REDECLARED,
-        UNDEFINED,
-        WRONG_KIND,
-        ABSENT_TABLE,
-        DELAY_SLOT_ARGUMENT,
-        MACRO_ARGUMENTS,
-        LABEL_TWICE,
-        STORE_TO_NO_ADDRESS,
-        JUMP_TO_NON_LOCAL,
-        ADDRESS_OF_NON_LOCAL,
-        ADDRESS_OF_OFFSET,
-        CONSTANT_POOL,
-        ARGUMENT_COUNT,
-        MACRO_IN_EXPRESSION,
-        SUBPIECE_ARGUMENT,
-        SLICE_PAST_END,
-        NOT_ASSIGNABLE,
-        CONST_SPACE,
-        NO_DEFAULT_SPACE,
-        OTHER_SPACE,
-        SHIFT_TOO_FAR,
-        OFFSET_TOO_FAR,
-        SUBPIECE_SIZE,
-        ERRORS_RECORDED,
-    ]
-}

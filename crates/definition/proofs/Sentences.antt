@@ -5,7 +5,7 @@ use mathlib.Core.List.{List, [], _∷_, map}
 use mathlib.Core.Option.{some}
 use lib.ListN.{replicate}
 use borrow.Author.Tests.{eq-eqb}
-use Rattle.definition.specs.Base.{base-opens}
+use Rattle.prelude.specs.Base.{base-opens}
 use Rattle.definition.specs.Operations.{Operation}
 use Rattle.definition.specs.Ast.{PcodeOp}
 use Rattle.definition.specs.Sizes.{Step, in0, in1, out, one, equal, sized, ruleOf, sizes-opens}

@@ -7,7 +7,7 @@ use mathlib.Core.Option.{Option, none, some}
 use native.Mathlib.Omega.{arith}
 use lib.ListN.{length, getElem?}
 use lib.Dec.{eqb, eqb→eq}
-use Rattle.definition.specs.Base.{if_then_else_, all, sameBytes}
+use Rattle.prelude.specs.Base.{if_then_else_, all, sameBytes}
 use Rattle.definition.specs.ActionList.{filled, resolve}
 use Rattle.definition.specs.Checker.{check}
 use Rattle.definition.specs.Premise.{premiseFailures}

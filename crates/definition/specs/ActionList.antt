@@ -4,7 +4,7 @@ use mathlib.Core.Bool.{Bool, true, false}
 use mathlib.Core.List.{List, [], _∷_, _++_, map}
 use mathlib.Core.Option.{Option, none, some}
 use lib.ListN.{length, replicate}
-use Rattle.definition.specs.Base.{if_then_else_, orElse, andThen, sum}
+use Rattle.prelude.specs.Base.{if_then_else_, orElse, andThen, sum}
 use Rattle.definition.specs.Refusals.{Refusal, refusalNumber, refusals-opens}
 use Rattle.definition.specs.Operations.{Operation, operationNumber, isOp}
 use Rattle.definition.specs.Value.{Value, kindNumber, ActionKind, SemanticAction, operationOf, Temporary, ExportKind, Export}

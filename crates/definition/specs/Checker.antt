@@ -6,7 +6,7 @@ use mathlib.Core.List.{List, [], _∷_, _++_, map}
 use mathlib.Core.Option.{Option, none, some}
 use lib.ListN.{length, take, drop, getD, getElem?}
 use lib.Dec.{eqb, leb, ltb}
-use Rattle.definition.specs.Base.{if_then_else_, orElse, andThen, isSome, any, all, first, sameBytes}
+use Rattle.prelude.specs.Base.{if_then_else_, orElse, andThen, isSome, any, all, first, sameBytes}
 use Rattle.definition.specs.Operations.{Operation, operationNumber, operators, oneInputs, among, isOp}
 use Rattle.definition.specs.Value.{Kind, Value, ActionKind, SemanticAction, operationOf}
 use Rattle.definition.specs.Sizes.{Operand, FixedSize, one, pointer, Step, equal, sized, unsized, stepsOf, at, isSize}

@@ -5,7 +5,7 @@ use mathlib.Core.List.{List, [], _∷_, _++_}
 use mathlib.Core.Option.{Option, none, some}
 use lib.ListN.{length}
 use lib.Dec.{eqb, leb}
-use Rattle.definition.specs.Base.{if_then_else_, andThen, any}
+use Rattle.prelude.specs.Base.{if_then_else_, andThen, any}
 use Rattle.definition.specs.Refusals.{Refusal, listFull, subpieceSize, errorsRecorded}
 use Rattle.definition.specs.Operations.{Operation, isOp}
 use Rattle.definition.specs.Value.{Value, ActionKind, SemanticAction, operationOf, Export}

@@ -5,7 +5,7 @@ use mathlib.Core.List.{List, [], _∷_}
 use mathlib.Core.Option.{Option, none, some}
 use lib.ListN.{take, drop, getD, getElem?}
 use lib.Dec.{eqb, leb, ltb}
-use Rattle.definition.specs.Base.{if_then_else_, _or_, orElse, andThen}
+use Rattle.prelude.specs.Base.{if_then_else_, _or_, orElse, andThen}
 use Rattle.definition.specs.Refusals.{Refusal, undefined, addressOfNonLocal, addressOfOffset, constantPool, argumentCount, macroInExpression, subpieceArgument, slicePastEnd, constSpace, noDefaultSpace, otherSpace, shiftTooFar}
 use Rattle.definition.specs.Operations.{Operation}
 use Rattle.definition.specs.Value.{Value, local, constant, withSize, truncate, ActionKind}

@@ -4,7 +4,7 @@ use Prim.Native.Nat.{ℕ}
 use mathlib.Core.Bool.{Bool}
 use mathlib.Core.List.{List, [], _∷_}
 use lib.Dec.{eqb}
-use Rattle.definition.specs.Base.{any, base-opens}
+use Rattle.prelude.specs.Base.{any, base-opens}
 
 pub data Operation : Type 0 where
   -- 0 to 32, the operators

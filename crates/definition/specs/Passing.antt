@@ -4,7 +4,7 @@ use mathlib.Core.Bool.{Bool, true, false}
 use mathlib.Core.List.{List}
 use lib.Dec.{eqb}
 use lib.ListN.{length, getD}
-use Rattle.definition.specs.Base.{if_then_else_}
+use Rattle.prelude.specs.Base.{if_then_else_}
 use Rattle.definition.specs.Ast.{Section}
 use Rattle.definition.specs.SectionFile.{Parsed, parsed, refused, read}
 use Rattle.definition.specs.Sizes.{pointerSize}

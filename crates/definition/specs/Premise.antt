@@ -5,7 +5,7 @@ use mathlib.Core.Bool.{Bool, true, false, _&&_, not}
 use mathlib.Core.List.{List, [], _∷_, _++_}
 use mathlib.Core.Option.{Option, none, some}
 use lib.ListN.{getElem?}
-use Rattle.definition.specs.Base.{if_then_else_, andThen, isSome}
+use Rattle.prelude.specs.Base.{if_then_else_, andThen, isSome}
 use Rattle.definition.specs.Value.{Kind, Value, isKind, SemanticAction, operationOf, Temporary}
 use Rattle.definition.specs.Ast.{Section}
 use Rattle.definition.specs.SectionFile.{Parsed, parsed, refused, read}

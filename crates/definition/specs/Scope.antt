@@ -5,7 +5,7 @@ use mathlib.Core.List.{List, [], _∷_, _++_, map}
 use mathlib.Core.Option.{Option, none, some}
 use lib.ListN.{getElem?}
 use lib.Dec.{eqb, leb}
-use Rattle.definition.specs.Base.{if_then_else_, _or_, andThen, isSome, first, base-opens}
+use Rattle.prelude.specs.Base.{if_then_else_, _or_, andThen, isSome, first, base-opens}
 use Rattle.definition.specs.Refusals.{Refusal, undefined, wrongKind, redeclared, tooManyLabels, labelTwice}
 use Rattle.definition.specs.Value.{Kind, Value, local}
 use Rattle.definition.specs.Ast.{Space as SpaceEntry, Register as RegisterEntry, BitRange as BitRangeEntry, Table as TableEntry, Macro as MacroEntry, Field as FieldEntry, Subtable as SubtableEntry, Section}

@@ -6,7 +6,7 @@ use mathlib.Core.List.{List, [], _∷_, _++_, map}
 use mathlib.Core.Option.{Option, none, some}
 use lib.ListN.{length, take, drop, getD, getElem?}
 use lib.Dec.{eqb, leb, ltb}
-use Rattle.definition.specs.Base.{if_then_else_, any, all, sum, sameBytes, base-opens}
+use Rattle.prelude.specs.Base.{if_then_else_, any, all, sum, sameBytes, base-opens}
 use Rattle.definition.specs.Refusals.{Refusal, badLength, blockCheck, malformed, outsideLimit, namesNothing, spelledTwice}
 use Rattle.definition.specs.Ast.{PcodeOp, PcodeExpr, Args, noArgs, arg, JumpLabel, BranchDst, BranchHint, Statement, SpaceKind, Space, Register, BitRange, Table, Macro, Field, Subtable, Section}
 

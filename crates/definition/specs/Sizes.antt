@@ -5,7 +5,7 @@ use mathlib.Core.List.{List, [], _∷_, _++_}
 use mathlib.Core.Option.{Option, none, some}
 use lib.ListN.{getElem?, set}
 use lib.Dec.{eqb}
-use Rattle.definition.specs.Base.{if_then_else_, _or_, orElse, andThen, isSome, all, first, base-opens}
+use Rattle.prelude.specs.Base.{if_then_else_, _or_, orElse, andThen, isSome, all, first, base-opens}
 use Rattle.definition.specs.Operations.{Operation, among, operations-opens}
 use Rattle.definition.specs.Value.{Kind, Value, isKind, truncate, SemanticAction, operationOf, Temporary, value-opens}
 use Rattle.definition.specs.Ast.{Space, Register, Table, Field, Subtable, Section}

@@ -4,7 +4,7 @@ use Prim.Native.Char.{code}
 use Prim.Native.String.{String, [] as end, _∷_ as _then_}
 use mathlib.Core.List.{List, [], _∷_}
 use mathlib.Core.Option.{Option, none, some}
-use Rattle.definition.specs.Base.{if_then_else_, first, sameBytes, base-opens}
+use Rattle.prelude.specs.Base.{if_then_else_, first, sameBytes, base-opens}
 use Rattle.definition.specs.Operations.{Operation, operations-opens}
 
 unfoldable pub bytesOf : String → List ℕ

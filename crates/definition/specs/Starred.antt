@@ -3,7 +3,7 @@ use Prim.Native.Nat.{ℕ, zero, suc, _+_, _*_, _-_, _/_, _%_, _^_}
 use mathlib.Core.Bool.{Bool, true, false, _&&_, Bool·beq}
 use mathlib.Core.List.{List, [], _∷_, _++_}
 use lib.ListN.{length, getD, replicate}
-use Rattle.definition.specs.Base.{sameBytes}
+use Rattle.prelude.specs.Base.{sameBytes}
 use Rattle.definition.specs.ActionList.{Answer, filled, resolve, action-list-opens}
 use Rattle.definition.specs.Checker.{check, checker-opens}
 use Rattle.definition.specs.Premise.{premiseFailures, premise-opens}

@@ -5,7 +5,7 @@ use mathlib.Core.List.{List, [], _∷_, map}
 use mathlib.Core.Option.{Option, none, some}
 use lib.ListN.{length, take, getElem?}
 use lib.Dec.{eqb, leb, ltb}
-use Rattle.definition.specs.Base.{if_then_else_, andThen, isSome, position, sum}
+use Rattle.prelude.specs.Base.{if_then_else_, andThen, isSome, position, sum}
 use Rattle.definition.specs.Refusals.{Refusal, tooManyStatements, macroTooDeep, afterExport, undefined, wrongKind, absentTable, delaySlotArgument, macroArguments, storeToNoAddress, jumpToNonLocal, notAssignable, shiftTooFar}
 use Rattle.definition.specs.Operations.{Operation}
 use Rattle.definition.specs.Value.{Kind, Value, isKind, constant, ActionKind, ExportKind, Export}

@@ -5,7 +5,7 @@ use mathlib.Core.List.{List, [], _∷_, _++_}
 use mathlib.Core.Option.{Option, none, some}
 use lib.ListN.{length}
 use lib.Dec.{leb}
-use Rattle.definition.specs.Base.{if_then_else_, orElse, base-opens}
+use Rattle.prelude.specs.Base.{if_then_else_, orElse, base-opens}
 use Rattle.definition.specs.Refusals.{Refusal, listFull, tooManyTemporaries, offsetTooFar}
 use Rattle.definition.specs.Operations.{Operation}
 use Rattle.definition.specs.Value.{Kind, Value, local, sliceBytes, ActionKind, SemanticAction, Temporary, Export}

@@ -8,7 +8,7 @@ use mathlib.Core.Option.{Option, none, some}
 use native.Mathlib.Omega.{arith}
 use lib.Dec.{eqb, leb}
 use lib.ListN.{length, getElem?, replicate, take, drop}
-use Rattle.definition.specs.Base.{if_then_else_, orElse, andThen, isSome, any, all, first}
+use Rattle.prelude.specs.Base.{if_then_else_, orElse, andThen, isSome, any, all, first}
 use Rattle.definition.specs.Operations.{Operation, operationNumber}
 use Rattle.definition.specs.Value.{Kind, Value, ActionKind, SemanticAction, operationOf}
 use Rattle.definition.specs.Sizes.{Operand, equal, sized, ruleOf, stepsOf, at}

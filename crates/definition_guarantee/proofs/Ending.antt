@@ -5,7 +5,7 @@ use mathlib.Core.Bool.{true}
 use mathlib.Core.List.{List, [], _++_}
 use native.Mathlib.Omega.{arith}
 use lib.ListN.{length}
-use Rattle.definition.specs.Base.{all}
+use Rattle.prelude.specs.Base.{all}
 use Rattle.definition.specs.Value.{SemanticAction}
 use Rattle.definition.specs.Ast.{Section}
 use Rattle.definition.specs.Sizes.{Sizing, pointerSize, backwardPass}

@@ -5,7 +5,7 @@ use mathlib.Core.Bool.{true}
 use mathlib.Core.List.{List, [], _∷_}
 use mathlib.Core.Option.{Option, none, some}
 use lib.ListN.{getElem?}
-use Rattle.definition.specs.Base.{_or_, andThen, isSome, all, first}
+use Rattle.prelude.specs.Base.{_or_, andThen, isSome, all, first}
 use Rattle.definition.specs.Operations.{Operation, operations-opens}
 use Rattle.definition.specs.Value.{Value, truncate, ActionKind, SemanticAction, operationOf, Temporary}
 use Rattle.definition.specs.Ast.{Section}

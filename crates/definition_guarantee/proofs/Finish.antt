@@ -6,7 +6,7 @@ use mathlib.Core.List.{List, [], _∷_, _++_}
 use mathlib.Core.Option.{Option, none, some}
 use native.Mathlib.Omega.{arith}
 use lib.ListN.{length}
-use Rattle.definition.specs.Base.{if_then_else_, andThen}
+use Rattle.prelude.specs.Base.{if_then_else_, andThen}
 use Rattle.definition.specs.Refusals.{Refusal, subpieceSize}
 use Rattle.definition.specs.Operations.{Operation, isOp}
 use Rattle.definition.specs.Value.{Value, truncate, sliceBytes, ActionKind, SemanticAction, operationOf, Temporary, Export}

@@ -7,7 +7,7 @@ use mathlib.Core.List.{List, [], _∷_, _++_}
 use mathlib.Core.Option.{Option, none, some}
 use lib.Dec.{eqb}
 use lib.ListN.{length, getElem?, set, length-set}
-use Rattle.definition.specs.Base.{if_then_else_, _or_, andThen}
+use Rattle.prelude.specs.Base.{if_then_else_, _or_, andThen}
 use Rattle.definition.specs.Value.{Kind, kindNumber, Value, isKind, Temporary}
 use Rattle.definition.specs.Ast.{Section}
 use Rattle.definition.specs.Sizes.{Sizing, sizeOfLocal, sizeOf, sizedTmp, sizeTemporary, settled}

@@ -8,7 +8,7 @@ use mathlib.Core.Option.{Option, none, some}
 use native.Mathlib.Omega.{arith}
 use lib.Dec.{ltb}
 use lib.ListN.{length, getElem?}
-use Rattle.definition.specs.Base.{if_then_else_, orElse, andThen, any}
+use Rattle.prelude.specs.Base.{if_then_else_, orElse, andThen, any}
 use Rattle.definition.specs.Refusals.{Refusal}
 use Rattle.definition.specs.Operations.{Operation}
 use Rattle.definition.specs.Value.{Kind, Value, ActionKind, SemanticAction}

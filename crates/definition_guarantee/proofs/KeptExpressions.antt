@@ -7,7 +7,7 @@ use mathlib.Core.Option.{Option, none, some}
 use native.Mathlib.Omega.{arith}
 use lib.Dec.{eqb}
 use lib.ListN.{length, take, drop, getElem?, length-take, length-drop}
-use Rattle.definition.specs.Base.{if_then_else_, _or_, orElse, andThen}
+use Rattle.prelude.specs.Base.{if_then_else_, _or_, orElse, andThen}
 use Rattle.definition.specs.Refusals.{Refusal, wrongKind}
 use Rattle.definition.specs.Operations.{Operation, operationNumber}
 use Rattle.definition.specs.Value.{Kind, Value, local, constant, operationOf}

@@ -7,7 +7,7 @@ use mathlib.Core.Option.{Option, none, some}
 use native.Mathlib.Omega.{arith}
 use lib.Dec.{eqb}
 use lib.ListN.{length, getElem?}
-use Rattle.definition.specs.Base.{if_then_else_, orElse, andThen, position}
+use Rattle.prelude.specs.Base.{if_then_else_, orElse, andThen, position}
 use Rattle.definition.specs.Refusals.{macroTooDeep}
 use Rattle.definition.specs.Operations.{Operation, operationNumber}
 use Rattle.definition.specs.Value.{Kind, kindNumber, Value, isKind, constant, operationOf, Export}

@@ -8,7 +8,7 @@ use mathlib.Core.Option.{Option, none, some}
 use native.Mathlib.Omega.{arith}
 use lib.Dec.{eqb}
 use lib.ListN.{length, getElem?}
-use Rattle.definition.specs.Base.{if_then_else_, _or_, orElse, andThen, isSome, all, first}
+use Rattle.prelude.specs.Base.{if_then_else_, _or_, orElse, andThen, isSome, all, first}
 use Rattle.definition.specs.Operations.{Operation, operationNumber, isOp, operations-opens}
 use Rattle.definition.specs.Value.{Kind, Value, isKind, truncate, sliceBytes, ActionKind, SemanticAction, operationOf, Temporary}
 use Rattle.definition.specs.Ast.{Register, Field, Subtable, Section}

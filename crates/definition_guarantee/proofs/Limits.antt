@@ -7,7 +7,7 @@ use mathlib.Core.Option.{none, some}
 use native.Mathlib.Omega.{arith}
 use lib.Dec.{eqb}
 use lib.ListN.{length, getElem?}
-use Rattle.definition.specs.Base.{if_then_else_, orElse}
+use Rattle.prelude.specs.Base.{if_then_else_, orElse}
 use Rattle.definition.specs.Refusals.{malformed, outsideLimit}
 use Rattle.definition.specs.Ast.{PcodeExpr, Args, noArgs, arg, Statement, Space, Register, BitRange, Table, Macro, Field, Section}
 use Rattle.definition.specs.Expressions.{argCount}

@@ -7,7 +7,7 @@ use mathlib.Core.Option.{none}
 use native.Mathlib.Omega.{arith}
 use lib.Dec.{leb}
 use lib.ListN.{length, length-map}
-use Rattle.definition.specs.Base.{andThen}
+use Rattle.prelude.specs.Base.{andThen}
 use Rattle.definition.specs.Refusals.{Refusal, refusalNumber, listFull}
 use Rattle.definition.specs.Value.{Kind, Value}
 use Rattle.definition.specs.Ast.{Field, Subtable}

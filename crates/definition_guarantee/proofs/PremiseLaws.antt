@@ -9,7 +9,7 @@ use mathlib.Core.Option.{Option, none, some}
 use native.Mathlib.Omega.{arith}
 use lib.Dec.{eqb, ltb}
 use lib.ListN.{length, getElem?}
-use Rattle.definition.specs.Base.{if_then_else_, orElse, andThen, isSome}
+use Rattle.prelude.specs.Base.{if_then_else_, orElse, andThen, isSome}
 use Rattle.definition.specs.Value.{SemanticAction, operationOf, Temporary}
 use Rattle.definition.specs.Ast.{Section}
 use Rattle.definition.specs.SectionFile.{Parsed, parsed, refused, read}

@@ -8,7 +8,7 @@ use mathlib.Core.Option.{Option, none, some}
 use native.Mathlib.Omega.{arith}
 use lib.Dec.{eqb, leb, ltb}
 use lib.ListN.{length, length-append}
-use Rattle.definition.specs.Base.{if_then_else_, orElse, andThen, isSome, any, all, first}
+use Rattle.prelude.specs.Base.{if_then_else_, orElse, andThen, isSome, any, all, first}
 use Rattle.definition.specs.Refusals.{listFull, tooManyTemporaries}
 use Rattle.definition.specs.Operations.{Operation, operationNumber, isOp, operations-opens}
 use Rattle.definition.specs.Value.{Kind, Value, local, ActionKind, SemanticAction, operationOf, Temporary}

@@ -6,7 +6,7 @@ use mathlib.Core.List.{List, [], _∷_, _++_}
 use mathlib.Core.Option.{Option, none, some}
 use native.Mathlib.Omega.{arith}
 use lib.ListN.{length, getElem?, replicate, length-append}
-use Rattle.definition.specs.Base.{if_then_else_, orElse, andThen, isSome, any, all, first}
+use Rattle.prelude.specs.Base.{if_then_else_, orElse, andThen, isSome, any, all, first}
 use Rattle.definition.specs.Operations.{Operation, operationNumber, isOp}
 use Rattle.definition.specs.Value.{Kind, Value, ActionKind, SemanticAction, operationOf}
 use Rattle.definition.specs.Sizes.{Operand, Step, equal, sized, unsized, ruleOf, stepsOf, at, isSize}

@@ -8,7 +8,7 @@ use mathlib.Core.List.{List, [], _∷_}
 use mathlib.Core.Option.{Option, none, some}
 use lib.Dec.{eqb}
 use lib.ListN.{length, getElem?, set, length-set}
-use Rattle.definition.specs.Base.{if_then_else_, _or_, orElse, andThen, isSome, all, first, base-opens}
+use Rattle.prelude.specs.Base.{if_then_else_, _or_, orElse, andThen, isSome, all, first, base-opens}
 use Rattle.definition.specs.Operations.{Operation, among}
 use Rattle.definition.specs.Value.{Kind, kindNumber, Value, truncate, SemanticAction, Temporary}
 use Rattle.definition.specs.Ast.{Section}

@@ -5,7 +5,7 @@ use mathlib.Core.Bool.{true, false}
 use mathlib.Core.List.{List, [], _∷_}
 use mathlib.Core.Option.{Option, none, some}
 use native.Mathlib.Omega.{arith}
-use Rattle.definition.specs.Base.{orElse, all, sameBytes, base-opens}
+use Rattle.prelude.specs.Base.{orElse, all, sameBytes, base-opens}
 use Rattle.definition.specs.Operations.{Operation, operations-opens}
 use Rattle.definition.specs.Value.{Kind, Value, local, ActionKind}
 use Rattle.definition.specs.Ast.{PcodeOp}

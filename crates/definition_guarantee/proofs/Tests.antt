@@ -8,7 +8,7 @@ use mathlib.Core.Option.{Option, none, some}
 use native.Mathlib.Omega.{arith}
 use lib.Dec.{T, eqb, leb, ltb, eqb→eq, eqb-refl, leb→le, le→leb, ltb→lt, lt→ltb, nltb→le}
 use lib.ListN.{getElem?, set}
-use Rattle.definition.specs.Base.{if_then_else_, _or_, orElse, andThen, any, all, first, sameBytes}
+use Rattle.prelude.specs.Base.{if_then_else_, _or_, orElse, andThen, any, all, first, sameBytes}
 use Rattle.definition_guarantee.specs.Tests.{Each}
 
 pub T-of : {b : Bool} → b ≡ true → T b

@@ -8,7 +8,7 @@ use mathlib.Core.Option.{none, some}
 use native.Mathlib.Omega.{arith}
 use lib.Dec.{eqb}
 use lib.ListN.{length}
-use Rattle.definition.specs.Base.{if_then_else_, orElse, andThen, isSome, any, all}
+use Rattle.prelude.specs.Base.{if_then_else_, orElse, andThen, isSome, any, all}
 use Rattle.definition.specs.Operations.{Operation, operationNumber, isOp}
 use Rattle.definition.specs.Value.{ActionKind, SemanticAction, operationOf, Temporary}
 use Rattle.definition.specs.Ast.{Section}

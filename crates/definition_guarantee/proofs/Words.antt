@@ -8,7 +8,7 @@ use native.Mathlib.Omega.{arith}
 use lib.Dec.{eqb, leb}
 use lib.ListN.{length, getElem?}
 use lib.Seq.{take-at, drop-at}
-use Rattle.definition.specs.Base.{if_then_else_, orElse, andThen, isSome, any, all, first, base-opens}
+use Rattle.prelude.specs.Base.{if_then_else_, orElse, andThen, isSome, any, all, first, base-opens}
 use Rattle.definition.specs.Operations.{Operation, operationNumber, among, operations-opens}
 use Rattle.definition.specs.Value.{Kind, kindNumber, Value, ActionKind, SemanticAction, operationOf}
 use Rattle.definition.specs.ActionList.{orNone, valueWords, inputWords, actionKindNumber, outputWords, operationWord, filled, actionWords, listWords}

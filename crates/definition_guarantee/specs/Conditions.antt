@@ -5,7 +5,7 @@ use mathlib.Core.Logic.{_≢_}
 use mathlib.Core.List.{List, _++_}
 use mathlib.Core.Option.{none, some}
 use lib.ListN.{length, getElem?, replicate}
-use Rattle.definition.specs.Base.{isSome}
+use Rattle.prelude.specs.Base.{isSome}
 use Rattle.definition.specs.Operations.{Operation}
 use Rattle.definition.specs.Value.{Kind, Value, ActionKind, SemanticAction}
 use Rattle.definition.specs.Sizes.{Operand, FixedSize, equal, sized, ruleOf, at}

@@ -2,7 +2,7 @@
 use Prim.Native.Nat.{ℕ, _≤_}
 use mathlib.Core.Option.{Option}
 use lib.ListN.{length}
-use Rattle.definition.specs.Base.{orElse}
+use Rattle.prelude.specs.Base.{orElse}
 use Rattle.definition.specs.Ast.{PcodeExpr, Args, noArgs, arg, JumpLabel, BranchDst, Statement, Space, Register, BitRange, Table, Macro, Field, Section}
 use Rattle.definition.specs.Expressions.{argCount}
 use Rattle.definition.specs.SectionFile.{size}

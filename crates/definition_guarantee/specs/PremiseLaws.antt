@@ -6,7 +6,7 @@ use mathlib.Core.Bool.{Bool, false, not}
 use mathlib.Core.List.{List, [], _∷_, _++_}
 use mathlib.Core.Option.{none, some}
 use lib.ListN.{getElem?}
-use Rattle.definition.specs.Base.{orElse, andThen, isSome}
+use Rattle.prelude.specs.Base.{orElse, andThen, isSome}
 use Rattle.definition.specs.Value.{SemanticAction, Temporary}
 use Rattle.definition.specs.Ast.{Section}
 use Rattle.definition.specs.SectionFile.{Parsed, parsed, refused, read}

@@ -1,20 +1,16 @@
 -- The spellings, and a name as a part of the stream.
-use mathlib.Core.Path.{_≡_, refl, sym, _∙_, ap}
+use mathlib.Core.Path.{_≡_, refl, sym}
 use mathlib.Core.Bool.{Bool, true, false}
 use mathlib.Core.List.{List, [], _∷_}
-use mathlib.Core.Option.{Option, none, some}
 use Prim.Native.Nat.{ℕ, _+_, _-_, _≤_, _<_}
 use native.Mathlib.Omega.{arith}
 use lib.ListN.{length, getD, take, drop, length-drop, List·getD-eq-default}
 use lib.Seq.{take-all}
 use lib.Dec.{eqb}
 use borrow.Author.Tests.{eqb-true, eq-eqb}
-use Rattle.definition.specs.Base.{if_then_else_, first, _or_, sameBytes}
-use Rattle.definition.specs.Operations.{operationNumber}
-use Rattle.definition.specs.Spellings.{bytesOf, inbuilt, inbuilts, translateInbuiltFunc}
-use Rattle.definition.specs.Spellings as definition
+use Rattle.prelude.specs.Base.{if_then_else_, sameBytes}
 use Rattle.expr_inbuilts.specs.declared.inbuilt.Inbuilt.{Inbuilt}
-use Rattle.expr_inbuilts.specs.Inbuilts.{inbuiltWords, attempt, logical, carries, extensions, roundings, conversions, inbuiltOf, inbuiltAt}
+use Rattle.expr_inbuilts.specs.Inbuilts.{attempt, logical, carries, extensions, roundings, conversions, inbuiltOf, inbuiltAt}
 
 same-refl : (a : List ℕ) → sameBytes a a ≡ true
 unfolding sameBytes if_then_else_
@@ -57,28 +53,9 @@ pub attempt-miss : (w x : List ℕ) (o n : ℕ) (r : Inbuilt) (h : Bool) → h �
 unfolding attempt if_then_else_
 attempt-miss w x o n r h e k = rw (← e, k)
 
--- the definition's search, one attempt for each spelling
-attempts : List ℕ → List definition.Inbuilt → Inbuilt
-attempts w [] = record { op = 0; arguments = 0 }
-attempts w (x ∷ xs) = attempt w (x .spelling) (operationNumber (x .op)) (x .arguments) (attempts w xs)
-
-words-or : (w : List ℕ) (x : definition.Inbuilt) (y : Option definition.Inbuilt) (b : Bool) → sameBytes w (x .spelling) ≡ b → inbuiltWords ((if b then some x else none) or y) ≡ attempt w (x .spelling) (operationNumber (x .op)) (x .arguments) (inbuiltWords y)
-unfolding inbuiltWords attempt if_then_else_ _or_
-words-or w x y true e = rw e
-words-or w x y false e = rw e
-
-searched : (w : List ℕ) (xs : List definition.Inbuilt) → inbuiltWords (first (λ (x : definition.Inbuilt). if sameBytes w (x .spelling) then some x else none) xs) ≡ attempts w xs
-unfolding attempts first inbuiltWords
-searched w [] = refl
-searched w (x ∷ xs) = words-or w x (first (λ (x : definition.Inbuilt). if sameBytes w (x .spelling) then some x else none) xs) (sameBytes w (x .spelling)) refl ∙ ap (attempt w (x .spelling) (operationNumber (x .op)) (x .arguments)) (searched w xs)
-
-in-groups : (w : List ℕ) → logical w (carries w (extensions w (roundings w (conversions w (record { op = 0; arguments = 0 }))))) ≡ attempts w inbuilts
-unfolding attempts logical carries extensions roundings conversions inbuilts inbuilt bytesOf operationNumber
-in-groups w = refl
-
 pub inbuilt-law : (w : List ℕ) (a b c d e : Inbuilt) → a ≡ conversions w (record { op = 0; arguments = 0 }) → b ≡ roundings w a → c ≡ extensions w b → d ≡ carries w c → e ≡ logical w d → e ≡ inbuiltOf w
-unfolding inbuiltOf translateInbuiltFunc
-inbuilt-law w a b c d e pa pb pc pd pe = rw (pd, pc, pb, pa) at pe ∙ in-groups w ∙ sym (searched w inbuilts)
+unfolding inbuiltOf
+inbuilt-law w a b c d e pa pb pc pd pe = rw (pd, pc, pb, pa) at pe
 
 pub at-whole : (s : List ℕ) (at n : ℕ) (r : Inbuilt) → n ≡ getD s at 0 → r ≡ inbuiltOf (take (at + 1 + n - (at + 1)) (drop (at + 1) s)) → r ≡ inbuiltAt s at
 unfolding inbuiltAt

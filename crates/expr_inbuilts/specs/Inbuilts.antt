@@ -1,18 +1,9 @@
--- The built-in functions by the bytes of their names, and the words of the definition's answer.
+-- The built-in functions by the bytes of their names: an operation's number and its count of arguments, both 0 for other names.
 use Prim.Native.Nat.{ℕ, _+_}
 use mathlib.Core.List.{List, [], _∷_}
-use mathlib.Core.Option.{Option, none, some}
 use lib.ListN.{getD, take, drop}
-use Rattle.definition.specs.Base.{if_then_else_, sameBytes}
-use Rattle.definition.specs.Operations.{operationNumber}
-use Rattle.definition.specs.Spellings.{bytesOf, translateInbuiltFunc}
-use Rattle.definition.specs.Spellings as definition
+use Rattle.prelude.specs.Base.{if_then_else_, sameBytes}
 use Rattle.expr_inbuilts.specs.declared.inbuilt.Inbuilt.{Inbuilt}
-
--- the operation's number and the count of arguments; both 0 where there is none
-unfoldable pub inbuiltWords : Option definition.Inbuilt → Inbuilt
-inbuiltWords none = record { op = 0; arguments = 0 }
-inbuiltWords (some x) = record { op = operationNumber (x .op); arguments = x .arguments }
 
 unfoldable pub attempt : List ℕ → List ℕ → ℕ → ℕ → Inbuilt → Inbuilt
 attempt w spelling op arguments other = if sameBytes w spelling then record { op = op; arguments = arguments } else other
@@ -59,9 +50,8 @@ conversions w r =
     (attempt w (108 ∷ 122 ∷ 99 ∷ 111 ∷ 117 ∷ 110 ∷ 116 ∷ []) 56 1
     r))))
 
--- the built-in function of a name, as the definition finds it
 unfoldable pub inbuiltOf : List ℕ → Inbuilt
-inbuiltOf w = inbuiltWords (translateInbuiltFunc w)
+inbuiltOf w = logical w (carries w (extensions w (roundings w (conversions w (record { op = 0; arguments = 0 })))))
 
 -- the built-in function of the name whose length byte stands at a position
 unfoldable pub inbuiltAt : List ℕ → ℕ → Inbuilt

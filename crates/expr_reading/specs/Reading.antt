@@ -10,7 +10,7 @@ use Rattle.list_pushes.specs.declared.push.Env.{Env}
 use Rattle.list_pushes.specs.declared.push.Read.{Read}
 use Rattle.list_pushes.specs.declared.push.Pushed.{Pushed}
 use Rattle.list_values.specs.Base.{Listed, listed, thenL}
-use Rattle.definition.specs.Base.{if_then_else_}
+use Rattle.prelude.specs.Base.{if_then_else_}
 use Rattle.list_values.specs.Values.{local, withSize, absent}
 use Rattle.list_values.specs.Sizes.{sizeOf, settled}
 use Rattle.list_pushes.specs.Pushes.{ReadOut, read, onRead, onTmp, withSizing, addTmp, outputOr, push, opTo, op}

@@ -9,8 +9,8 @@ use lib.ListN.{length, getD, getElem?}
 use lib.Dec.{eqb}
 use borrow.Author.Tests.{ne-eqb}
 use Rattle.access.specs.Le.{le16}
-use Rattle.definition.specs.Base as definition
-use Rattle.definition.specs.Base.{_or_, orElse, andThen, base-opens, if_then_else_}
+use Rattle.prelude.specs.Base as definition
+use Rattle.prelude.specs.Base.{_or_, orElse, andThen, base-opens, if_then_else_}
 use Rattle.definition.specs.Refusals.{Refusal, refusalNumber, undefined, wrongKind, noDefaultSpace}
 use Rattle.definition.specs.Value.{Value}
 use Rattle.definition.specs.Ast.{SpaceKind}

@@ -15,7 +15,7 @@ use Rattle.list_pushes.specs.declared.push.State.{State as WordState}
 use Rattle.list_pushes.specs.declared.push.Read.{Read}
 use Rattle.list_pushes.specs.declared.push.Pushed.{Pushed}
 use Rattle.list_values.specs.Base.{Listed, listed}
-use Rattle.definition.specs.Base.{if_then_else_}
+use Rattle.prelude.specs.Base.{if_then_else_}
 use Rattle.list_pushes.specs.Pushes.{ReadOut, read, PushedOut, pushed, onRead, onPushed, onTmp}
 use Rattle.list_refinement.specs.Encoding.{actionsIn, temporariesIn, encS}
 use Rattle.list_refinement.proofs.Seen.{Seen, no, yes, seenRead, seenPushed, seenTmp, outcome}

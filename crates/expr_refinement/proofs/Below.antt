@@ -8,8 +8,8 @@ use mathlib.Core.Option.{Option, none, some}
 use native.Mathlib.Omega.{arith}
 use lib.ListN.{length, getElem?, set}
 use lib.Dec.{eqb}
-use Rattle.definition.specs.Base as definition
-use Rattle.definition.specs.Base.{orElse, andThen, base-opens, if_then_else_}
+use Rattle.prelude.specs.Base as definition
+use Rattle.prelude.specs.Base.{orElse, andThen, base-opens, if_then_else_}
 use Rattle.definition.specs.Operations.{Operation, operationNumber}
 use Rattle.definition.specs.Value.{Kind, kindNumber, Value, truncate, isKind, SemanticAction, operationOf, Temporary}
 use Rattle.definition.specs.Ast.{Section}

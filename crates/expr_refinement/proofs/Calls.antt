@@ -21,11 +21,11 @@ use Rattle.list_values.specs.declared.value.Value.{Value as WordValue}
 use Rattle.list_pushes.specs.declared.push.State.{State as WordState}
 use Rattle.list_pushes.specs.declared.push.Env.{Env as WordEnv}
 use Rattle.list_pushes.specs.declared.push.Read.{Read}
-use Rattle.definition.specs.Base.{if_then_else_}
+use Rattle.prelude.specs.Base.{if_then_else_}
 use Rattle.list_values.specs.Values.{absent}
 use Rattle.list_pushes.specs.Pushes.{ReadOut, read, PushedOut}
 use Rattle.file_refinement.specs.Holds.{Holds, spelledAt, symbolWord}
-use Rattle.expr_inbuilts.specs.Inbuilts.{inbuiltWords, inbuiltOf, inbuiltAt}
+use Rattle.expr_inbuilts.specs.Inbuilts.{inbuiltOf, inbuiltAt}
 use Rattle.list_refinement.specs.Encoding.{encV, Sound, Each}
 use Rattle.list_refinement.proofs.RuleKinds.{kindOf}
 use Rattle.list_refinement.proofs.Lists.{firstOf, secondOf}
@@ -36,6 +36,7 @@ use Rattle.expr_scope.specs.Slots.{argAt}
 use Rattle.expr_terms.specs.Answers.{ExprOut, resolved, exprOf, after}
 use Rattle.expr_reading.specs.Reading.{readOperand}
 use Rattle.expr_terms.specs.Calls.{callee, symbolOf, inbuiltOr, calleeOf, passArg, passFrom, passArgs, applied, userOpTwo, userOpSome, callUserOp, onlyInteger, subpieceFrom, subpieceOf, subpieceMeant, subpiece}
+use Rattle.expr_refinement.proofs.Inbuilts.{inbuiltWords, inbuilt-found}
 use Rattle.expr_refinement.proofs.Encodings.{encX, SoundX, Applies, sound-more, x-more, each-more, count, Stood}
 use Rattle.expr_refinement.proofs.Answers.{bind, bind-read, bind-pushed, bind-unless, acts, temps, word, seenExpr, Refines, refines-done, refines-stopped}
 use Rattle.expr_refinement.proofs.Below.{Spare, Below}
@@ -96,12 +97,12 @@ module _ (s t : List ℕ) (sec : Section) (holds : Holds s t sec) (name : ℕ) (
 
   -- the built-in function of the name
   pub inbuilt-is : inbuiltAt s (getD t (name % 1024) 0) ≡ inbuiltWords (translateInbuiltFunc (getD (sec .names) name []))
-  unfolding inbuiltAt inbuiltOf
+  unfolding inbuiltAt
   inbuilt-is =
       let l = below-limit in
       let p : name % 1024 ≡ name = omega arith in
       let q : getD t name 0 + 1 ≡ suc (getD t name 0) = omega arith in
-      rw (p, q, getD-some (sec .names) name (spelledAt s (getD t name 0)) [] (holds .spelling name known))
+      rw (p, q, getD-some (sec .names) name (spelledAt s (getD t name 0)) [] (holds .spelling name known)) (inbuilt-found (spelledAt s (getD t name 0)))
 
   pub callee-is : (n : ℕ) → calleeOf s t name n ≡ inbuiltOr (inbuiltWords (translateInbuiltFunc (getD (sec .names) name []))) (symbolWord (find name (globals sec))) n
   unfolding calleeOf

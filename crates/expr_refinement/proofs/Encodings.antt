@@ -7,7 +7,7 @@ use mathlib.Core.List.{List, [], _∷_, _++_}
 use mathlib.Core.Option.{Option, none, some}
 use native.Mathlib.Omega.{arith}
 use lib.ListN.{length, getElem?}
-use Rattle.definition.specs.Base.{if_then_else_, orElse, andThen, sum}
+use Rattle.prelude.specs.Base.{if_then_else_, orElse, andThen, sum}
 use Rattle.definition.specs.Operations.{Operation, operationNumber, isOp}
 use Rattle.definition.specs.Value.{Kind, Value, ActionKind, SemanticAction, Temporary}
 use Rattle.definition.specs.Ast.{Section}

@@ -10,8 +10,8 @@ use lib.ListN.{length, getD, drop, replicate, length-replicate}
 use lib.Dec.{eqb, ltb}
 use borrow.Author.Tests.{eqb-true, ne-eqb, lt-ltb, le-ltb, ltb-false}
 use Rattle.access.specs.Le.{le16, le64}
-use Rattle.definition.specs.Base as definition
-use Rattle.definition.specs.Base.{orElse, base-opens, if_then_else_}
+use Rattle.prelude.specs.Base as definition
+use Rattle.prelude.specs.Base.{orElse, base-opens, if_then_else_}
 use Rattle.definition.specs.Refusals.{Refusal, refusalNumber, addressOfNonLocal, constantPool, argumentCount, macroInExpression}
 use Rattle.definition.specs.Operations.{Operation, operationNumber}
 use Rattle.definition.specs.Value.{Value}
@@ -33,7 +33,6 @@ use Rattle.list_values.specs.Values.{absent}
 use Rattle.list_pushes.specs.Pushes.{ReadOut, read}
 use Rattle.file_syntax.specs.declared.cursor.Cursor.{Cursor}
 use Rattle.file_refinement.specs.Holds.{Holds, absentAt, symbolWord}
-use Rattle.expr_inbuilts.specs.Inbuilts.{inbuiltWords}
 use Rattle.file_refinement.proofs.Inversion.{OpAt, CallAt, expr-begun, nothing-deeper, ident-at, integer-at, address-of-at, truncate-at, slice-bits-at, op-at, deref-at, constant-pool-at, call-at, arg-at, no-arg-at}
 use Rattle.list_refinement.specs.Encoding.{encV, Sound, Each}
 use Rattle.list_refinement.proofs.Lists.{firstOf, secondOf}
@@ -50,6 +49,7 @@ use Rattle.expr_terms.specs.Slices.{sliceBits}
 use Rattle.expr_terms.specs.Addresses.{resolveAddress}
 use Rattle.expr_resolver.specs.Expressions as words
 use Rattle.expr_resolver.specs.Expressions.{valueThen, localAddress, addressMeant, addressOf, atom, later, skipExpr, order, orderOf, operandsAround, operandsOf, apply1, apply2, partAt, withPart, exprValue, part, binary, byCode, resolveExpr}
+use Rattle.expr_refinement.proofs.Inbuilts.{inbuiltWords}
 use Rattle.expr_refinement.proofs.Encodings.{encX, SoundX, Applies, sound-more, x-more, count, Stood}
 use Rattle.expr_refinement.proofs.Answers.{bind, bind-expr, bind-operand, bind-args, acts, temps, word, seenExpr, seenOperand, seenArgs, Refines, refines-done, refines-stopped, refines-map, weaken}
 use Rattle.expr_refinement.proofs.Below.{Spare, Below}

@@ -10,6 +10,7 @@ pub mod Scopes
 pub mod Slices
 pub mod Addresses
 pub mod Operators
+pub mod Inbuilts
 pub mod Calls
 pub mod Positions
 pub mod Expressions

@@ -7,8 +7,8 @@ use mathlib.Core.Option.{none, some}
 use native.Mathlib.Omega.{arith}
 use lib.ListN.{getElem?}
 use lib.Dec.{ltb}
-use Rattle.definition.specs.Base as definition
-use Rattle.definition.specs.Base.{_or_, isSome, first, sameBytes, base-opens, if_then_else_}
+use Rattle.prelude.specs.Base as definition
+use Rattle.prelude.specs.Base.{_or_, isSome, first, sameBytes, base-opens, if_then_else_}
 use Rattle.definition.specs.Operations.{Operation, operationNumber}
 use Rattle.definition.specs.Value.{Value}
 use Rattle.definition.specs.Ast.{PcodeOp}

@@ -8,7 +8,7 @@ use lib.ListN.{length, getD, getElem?, drop, length-drop}
 use lib.Dec.{eqb, leb, ltb}
 use borrow.Author.Tests.{eqb-true, eqb-false, le-leb, lt-ltb, leb-true}
 use Rattle.access.specs.Le.{le16}
-use Rattle.definition.specs.Base.{if_then_else_}
+use Rattle.prelude.specs.Base.{if_then_else_}
 use Rattle.definition.specs.Ast.{PcodeExpr}
 use Rattle.definition.specs.SectionFile.{Parsed, parsed, refused, on, Read, choose, argsOf, exprWithin}
 use Rattle.definition.specs.SectionFile as d

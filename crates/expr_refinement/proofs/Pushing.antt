@@ -9,8 +9,8 @@ use native.Mathlib.Omega.{arith}
 use lib.Dec.{leb}
 use lib.ListN.{length, length-append}
 use borrow.Author.Tests.{leb-true}
-use Rattle.definition.specs.Base as definition
-use Rattle.definition.specs.Base.{orElse, andThen, isSome, all, base-opens}
+use Rattle.prelude.specs.Base as definition
+use Rattle.prelude.specs.Base.{orElse, andThen, isSome, all, base-opens}
 use Rattle.definition.specs.Refusals.{listFull, tooManyTemporaries}
 use Rattle.definition.specs.Operations.{Operation, operationNumber, isOp}
 use Rattle.definition.specs.Value.{Kind, Value, local, ActionKind, SemanticAction, operationOf, Temporary}

@@ -7,7 +7,7 @@ use mathlib.Core.Option.{Option, none, some}
 use native.Mathlib.Omega.{arith}
 use lib.Dec.{leb, ltb}
 use borrow.Author.Tests.{ltb-true, ltb-false, leb-true, leb-false, le-leb, lt-leb, lt-ltb, le-ltb, ne-eqb}
-use Rattle.definition.specs.Base.{orElse, isSome, if_then_else_}
+use Rattle.prelude.specs.Base.{orElse, isSome, if_then_else_}
 use Rattle.definition.specs.Refusals.{refusalNumber, slicePastEnd, shiftTooFar}
 use Rattle.definition.specs.Value.{Value}
 use Rattle.definition.specs.Walk.{ExprValue, State, Env, Outcome, done}

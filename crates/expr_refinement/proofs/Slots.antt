@@ -10,7 +10,7 @@ use Rattle.definition.specs.Operations.{Operation, operationNumber}
 use Rattle.definition.specs.Value.{Value}
 use Rattle.definition.specs.Ast.{Section}
 use Rattle.definition.specs.Walk.{ExprValue}
-use Rattle.definition.specs.Base.{if_then_else_}
+use Rattle.prelude.specs.Base.{if_then_else_}
 use Rattle.list_values.specs.Values.{absent, word, valueOf, valueAt, putValue}
 use Rattle.list_refinement.specs.Encoding.{encV, Sound, Each}
 use Rattle.list_refinement.proofs.Operands.{word-is, value-back}

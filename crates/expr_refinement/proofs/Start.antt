@@ -7,8 +7,8 @@ use mathlib.Core.Option.{Option, none, some}
 use native.Mathlib.Omega.{arith}
 use lib.Dec.{eqb}
 use borrow.Author.Tests.{ne-eqb}
-use Rattle.definition.specs.Base as definition
-use Rattle.definition.specs.Base.{_or_, andThen, first, position, base-opens, if_then_else_}
+use Rattle.prelude.specs.Base as definition
+use Rattle.prelude.specs.Base.{_or_, andThen, first, position, base-opens, if_then_else_}
 use Rattle.definition.specs.Value.{Kind, kindNumber, local}
 use Rattle.definition.specs.Ast.{Field, Subtable, Section}
 use Rattle.definition.specs.Scope.{find, locals, sectionScope}

@@ -7,8 +7,8 @@ use mathlib.Core.Option.{Option, none, some}
 use native.Mathlib.Omega.{arith}
 use lib.Dec.{eqb}
 use borrow.Author.Tests.{ne-eqb}
-use Rattle.definition.specs.Base as definition
-use Rattle.definition.specs.Base.{orElse, base-opens, if_then_else_}
+use Rattle.prelude.specs.Base as definition
+use Rattle.prelude.specs.Base.{orElse, base-opens, if_then_else_}
 use Rattle.definition.specs.Value.{kindNumber, Value, truncate}
 use Rattle.definition.specs.Sizes as sizes
 use Rattle.definition.specs.Walk as w

@@ -11,7 +11,7 @@ use borrow.Author.Tests.{eq-eqb, ne-eqb, lt-ltb, le-ltb, ltb-true}
 use Rattle.access.specs.Le.{le16}
 use Rattle.list_pushes.specs.declared.push.State.{State}
 use Rattle.list_pushes.specs.declared.push.Env.{Env}
-use Rattle.definition.specs.Base.{if_then_else_}
+use Rattle.prelude.specs.Base.{if_then_else_}
 use Rattle.list_values.specs.Values.{local}
 use Rattle.expr_scope.specs.declared.scope.ExprValue.{ExprValue}
 use Rattle.expr_scope.specs.declared.scope.Meaning.{Meaning}

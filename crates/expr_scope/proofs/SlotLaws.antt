@@ -8,7 +8,7 @@ use lib.ListN.{getD, set}
 use borrow.Author.Tests.{ne-eqb}
 use Rattle.access.specs.Le.{le16}
 use Rattle.list_values.specs.declared.value.Value.{Value}
-use Rattle.definition.specs.Base.{if_then_else_}
+use Rattle.prelude.specs.Base.{if_then_else_}
 use Rattle.list_values.specs.Values.{absent, valueAt, putValue}
 use Rattle.expr_scope.specs.declared.scope.ExprValue.{ExprValue}
 use Rattle.expr_scope.specs.declared.scope.Slot.{Slot}

@@ -4,7 +4,7 @@ use mathlib.Core.List.{List}
 use lib.ListN.{getD, set}
 use lib.Dec.{eqb}
 use Rattle.list_values.specs.declared.value.Value.{Value}
-use Rattle.definition.specs.Base.{if_then_else_}
+use Rattle.prelude.specs.Base.{if_then_else_}
 use Rattle.list_values.specs.Values.{absent, valueAt, putValue}
 use Rattle.expr_scope.specs.declared.scope.ExprValue.{ExprValue}
 use Rattle.expr_scope.specs.declared.scope.Slot.{Slot}

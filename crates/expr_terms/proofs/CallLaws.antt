@@ -13,7 +13,7 @@ use Rattle.list_pushes.specs.declared.push.State.{State}
 use Rattle.list_pushes.specs.declared.push.Env.{Env}
 use Rattle.list_pushes.specs.declared.push.Read.{Read}
 use Rattle.list_pushes.specs.declared.push.Pushed.{Pushed}
-use Rattle.definition.specs.Base.{if_then_else_}
+use Rattle.prelude.specs.Base.{if_then_else_}
 use Rattle.list_values.specs.Values.{absent, noOutput}
 use Rattle.list_pushes.specs.Pushes.{PushedOut, pushed, pushOp, read, onRead, onPushed}
 use Rattle.expr_scope.specs.declared.scope.ExprValue.{ExprValue}

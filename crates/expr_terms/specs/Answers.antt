@@ -5,7 +5,7 @@ use lib.Dec.{ltb}
 use Rattle.list_values.specs.declared.value.Value.{Value}
 use Rattle.list_pushes.specs.declared.push.State.{State}
 use Rattle.list_pushes.specs.declared.push.Read.{Read}
-use Rattle.definition.specs.Base.{if_then_else_}
+use Rattle.prelude.specs.Base.{if_then_else_}
 use Rattle.list_pushes.specs.Pushes.{ReadOut, read}
 use Rattle.expr_scope.specs.declared.scope.ExprValue.{ExprValue}
 use Rattle.expr_terms.specs.declared.answers.Expr.{Expr}

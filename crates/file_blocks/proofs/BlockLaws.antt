@@ -10,7 +10,7 @@ use lib.ListN.{length, getD, set, take, drop, take-append-drop, length-append, l
 use lib.Seq.{drop-cons, drop-drop, take-suc, take-add, set-at, length-take-le, take-all, take-at, drop-at}
 use lib.Dec.{eqb, leb}
 use borrow.Author.Tests.{eq-eqb, ne-eqb, le-leb, lt-leb}
-use Rattle.definition.specs.Base.{sum}
+use Rattle.prelude.specs.Base.{sum}
 use Rattle.definition.specs.Refusals.{refusalNumber, blockCheck}
 use Rattle.definition.specs.SectionFile.{Parsed, parsed, refused, on, pure, require, checksOut, bytes, payloads, wholeBlocks, streamOf}
 use Rattle.access.specs.Le.{le16}

@@ -3,7 +3,7 @@ ghost use mathlib.Core.Path.{_≡_};
 ghost use mathlib.Core.List.{_++_};
 ghost use Prim.Native.Nat.{_*_, _/_, _≤_};
 ghost use lib.ListN.{length, take, drop};
-ghost use Rattle.definition.specs.Base.{sum};
+ghost use Rattle.prelude.specs.Base.{sum};
 ghost use Rattle.definition.specs.SectionFile.{checksOut, streamOf};
 ghost use Rattle.file_blocks.specs.Blocks.{refusalOf, joined};
 

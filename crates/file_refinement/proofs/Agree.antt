@@ -11,7 +11,7 @@ use lib.ListN.{length, getD, drop, drop-of-length-le}
 use lib.Seq.{drop-cons}
 use lib.Dec.{eqb, leb, ltb, leb·suc-suc}
 use borrow.Author.Tests.{eqb-true, leb-true, leb-false, ltb-true}
-use Rattle.definition.specs.Base.{if_then_else_, orElse}
+use Rattle.prelude.specs.Base.{if_then_else_, orElse}
 use Rattle.definition.specs.Refusals.{Refusal, refusalNumber, malformed, outsideLimit, namesNothing}
 use Rattle.definition.specs.SectionFile.{Parsed, parsed, refused, on, Read, require, littleEndian, upTo, naming, orAbsent, pure}
 use Rattle.definition.specs.SectionFile as d

@@ -8,7 +8,7 @@ use native.Mathlib.Omega.{arith}
 use lib.ListN.{length, getD, drop, getElem?}
 use lib.Dec.{leb, ltb}
 use borrow.Author.Tests.{ltb-true, ltb-false, leb-true, leb-false}
-use Rattle.definition.specs.Base.{if_then_else_}
+use Rattle.prelude.specs.Base.{if_then_else_}
 use Rattle.definition.specs.Refusals.{refusalNumber, malformed, outsideLimit, namesNothing}
 use Rattle.definition.specs.Ast.{PcodeExpr, Args, noArgs, arg, JumpLabel, BranchDst, BranchHint, Statement}
 use Rattle.definition.specs.SectionFile.{parsed, refused, on, Read, pure, refuse, choose, littleEndian, upTo, naming, argsOf, listOf}

@@ -8,7 +8,7 @@ use native.Mathlib.Omega.{arith}
 use lib.ListN.{length, getD, set, take, drop, getElem?, length-set, length-drop}
 use lib.Seq.{getD-set-same, getD-set-other}
 use borrow.Author.Tests.{ne-eqb, lt-ltb, le-ltb}
-use Rattle.definition.specs.Base.{if_then_else_}
+use Rattle.prelude.specs.Base.{if_then_else_}
 use Rattle.definition.specs.Refusals.{refusalNumber, namesNothing}
 use Rattle.definition.specs.Ast.{SpaceKind, Macro, Statement}
 use Rattle.definition.specs.SectionFile.{Parsed, parsed, refused, on, Read, pure, listOf, upTo, naming, littleEndian}

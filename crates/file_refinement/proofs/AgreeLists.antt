@@ -11,7 +11,7 @@ use lib.ListN.{length, getD, set, drop, getElem?, length-set}
 use lib.Seq.{getD-set-same, getD-set-other}
 use lib.Dec.{eqb}
 use borrow.Author.Tests.{eqb-true, eqb-false, eq-eqb, ne-eqb}
-use Rattle.definition.specs.Base.{if_then_else_, any, position}
+use Rattle.prelude.specs.Base.{if_then_else_, any, position}
 use Rattle.definition.specs.Refusals.{Refusal, refusalNumber, spelledTwice}
 use Rattle.definition.specs.SectionFile.{on, Read, require}
 use Rattle.definition.specs.SectionFile as d

@@ -10,7 +10,7 @@ use lib.ListN.{length, getD, set, take, drop, getElem?, length-set, length-drop}
 use lib.Seq.{drop-cons, getD-set-same, getD-set-other, length-take-le}
 use lib.Dec.{eqb, leb, ltb}
 use borrow.Author.Tests.{eqb-true, eqb-false, eq-eqb, ne-eqb, ltb-true, ltb-false, leb-true, leb-false, lt-leb, le-leb}
-use Rattle.definition.specs.Base.{if_then_else_, any, sameBytes}
+use Rattle.prelude.specs.Base.{if_then_else_, any, sameBytes}
 use Rattle.definition.specs.Refusals.{Refusal, refusalNumber, malformed, outsideLimit, namesNothing, spelledTwice}
 use Rattle.definition.specs.SectionFile.{Parsed, parsed, refused, on, Read, pure, require, littleEndian, upTo, naming, orAbsent, listOf, Header}
 use Rattle.definition.specs.SectionFile as d

@@ -8,7 +8,7 @@ use lib.ListN.{length, getD, set, drop, length-set, drop-of-length-le}
 use lib.Seq.{drop-cons, getD-set-other}
 use lib.Dec.{eqb}
 use borrow.Author.Tests.{eqb-true, eqb-false, eq-eqb, ne-eqb}
-use Rattle.definition.specs.Base.{if_then_else_, all}
+use Rattle.prelude.specs.Base.{if_then_else_, all}
 use Rattle.definition.specs.Refusals.{refusalNumber, malformed}
 use Rattle.definition.specs.Ast.{Space, Register, BitRange, Table, Macro, Field, Subtable, Statement, Section}
 use Rattle.definition.specs.SectionFile.{on, pure, require, listOf, nothingLeft}
@@ -128,7 +128,7 @@ map-own [] = refl
 map-own (x ∷ xs) = ap (λ (l : List ℕ). x ∷ l) (map-own xs)
 
 nothing-taken : (base : ℕ) (t : List ℕ) → ((x : ℕ) → x < 1024 → getD t (base + x) 0 ≡ 0) → Taken base t []
-unfolding Rattle.definition.specs.Base.any
+unfolding Rattle.prelude.specs.Base.any
 nothing-taken base t z x h = rw (z x h)
 
 -- what each list left: the table after it, and where it ends

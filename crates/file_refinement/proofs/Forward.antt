@@ -7,7 +7,7 @@ use Prim.Native.Nat.{ℕ, zero, suc, _+_, _-_, _≤_, _<_}
 use native.Mathlib.Omega.{arith}
 use lib.ListN.{length, length-drop, drop, getElem?}
 use lib.Dec.{eqb}
-use Rattle.definition.specs.Base.{if_then_else_}
+use Rattle.prelude.specs.Base.{if_then_else_}
 use Rattle.definition.specs.Refusals.{Refusal, malformed, outsideLimit}
 use Rattle.definition.specs.Ast.{PcodeExpr, Args, noArgs, Statement}
 use Rattle.definition.specs.SectionFile.{Parsed, parsed, refused, on, Read, _>>=_, _>>_, pure, refuse, require, u8, littleEndian, upTo, naming, orAbsent, choose, code, oneOf, listOf, argsOf}

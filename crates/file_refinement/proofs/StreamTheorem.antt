@@ -10,7 +10,7 @@ use lib.ListN.{length, getD, set, take, drop, getElem?, length-set, length-map}
 use lib.Seq.{getD-set-same, getD-set-other}
 use lib.Dec.{eqb}
 use borrow.Author.Tests.{eqb-true, ne-eqb}
-use Rattle.definition.specs.Base.{if_then_else_, position, first, _or_}
+use Rattle.prelude.specs.Base.{if_then_else_, position, first, _or_}
 use Rattle.definition.specs.Refusals.{Refusal, refusalNumber}
 use Rattle.definition.specs.Ast.{Space, Register, BitRange, Table, Macro, Section}
 use Rattle.definition.specs.SectionFile.{Parsed, parsed, refused, on}

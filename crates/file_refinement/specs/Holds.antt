@@ -5,7 +5,7 @@ use mathlib.Core.List.{List, [], _∷_, map}
 use mathlib.Core.Option.{Option, none, some}
 use lib.ListN.{length, getD, take, drop, getElem?}
 use lib.Dec.{eqb}
-use Rattle.definition.specs.Base.{if_then_else_, position}
+use Rattle.prelude.specs.Base.{if_then_else_, position}
 use Rattle.definition.specs.Ast.{SpaceKind, Space, Register, BitRange, Table, Macro, Field, Subtable, Statement, Section}
 use Rattle.definition.specs.SectionFile.{parsed, listOf}
 use Rattle.definition.specs.SectionFile as d

@@ -7,7 +7,7 @@ use native.Mathlib.Omega.{arith}
 use lib.ListN.{length, getD, set}
 use lib.Dec.{eqb, ltb}
 use borrow.Author.Tests.{eq-eqb, ne-eqb, lt-ltb, le-ltb}
-use Rattle.definition.specs.Base.{if_then_else_}
+use Rattle.prelude.specs.Base.{if_then_else_}
 use Rattle.access.specs.Le.{le16, le32, le64}
 use Rattle.file_syntax.specs.declared.cursor.Cursor.{Cursor}
 use Rattle.file_syntax.specs.Cursors.{refuse, u16, code, name, size, sizeOr, bits, smallCount}

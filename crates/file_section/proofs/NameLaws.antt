@@ -8,7 +8,7 @@ use native.Mathlib.Omega.{arith}
 use lib.ListN.{getD, set}
 use lib.Dec.{eqb}
 use borrow.Author.Tests.{eq-eqb, ne-eqb}
-use Rattle.definition.specs.Base.{if_then_else_}
+use Rattle.prelude.specs.Base.{if_then_else_}
 use Rattle.access.specs.Le.{le16}
 use Rattle.file_syntax.specs.declared.cursor.Cursor.{Cursor}
 use Rattle.file_syntax.specs.Cursors.{refuse, u8, skip}

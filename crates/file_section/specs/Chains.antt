@@ -6,7 +6,7 @@ use mathlib.Core.Bool.{_||_}
 use mathlib.Core.List.{List}
 use lib.ListN.{length, getD, set}
 use lib.Dec.{eqb, ltb}
-use Rattle.definition.specs.Base.{if_then_else_}
+use Rattle.prelude.specs.Base.{if_then_else_}
 use Rattle.access.specs.Le.{le16}
 
 -- the four bytes up to the last letter of the name of l letters at p

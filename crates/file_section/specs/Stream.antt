@@ -12,7 +12,7 @@ use mathlib.Core.Bool.{Bool, true, false}
 use mathlib.Core.List.{List}
 use lib.ListN.{length, getD, set}
 use lib.Dec.{eqb}
-use Rattle.definition.specs.Base.{if_then_else_}
+use Rattle.prelude.specs.Base.{if_then_else_}
 use Rattle.access.specs.Le.{le16}
 use Rattle.file_syntax.specs.declared.cursor.Cursor.{Cursor}
 use Rattle.file_syntax.specs.Cursors.{refuse}

@@ -8,7 +8,7 @@ use mathlib.Core.Option.{Option, none, some}
 use native.Mathlib.Omega.{arith}
 use lib.Dec.{eqb, leb, ltb}
 use borrow.Author.Tests.{lt-leb, eq-eqb, ne-eqb, ltb-true, ltb-false, eqb-true, eqb-false}
-use Rattle.definition.specs.Base.{if_then_else_, _or_, orElse, andThen, isSome, any, first}
+use Rattle.prelude.specs.Base.{if_then_else_, _or_, orElse, andThen, isSome, any, first}
 use Rattle.definition.specs.Operations.{Operation, operationNumber, operations-opens}
 use Rattle.definition.specs.Value.{ActionKind, operationOf}
 use Rattle.definition.specs.Sizes.{in0, in1, out, one, pointer, Step, equal, sized, unsized, rules, ruleOf}

@@ -9,7 +9,7 @@ use lib.ListN.{length, getD, take, drop, set, replicate, take-append-drop, lengt
 use lib.Seq.{length-take-le, drop-drop, getD-set-same, getD-set-other}
 use lib.Dec.{eqb, ltb}
 use borrow.Author.Tests.{le-leb, lt-leb, ltb-true, eqb-true, eqb-false}
-use Rattle.definition.specs.Base.{if_then_else_, orElse, andThen, any, all, sameBytes}
+use Rattle.prelude.specs.Base.{if_then_else_, orElse, andThen, any, all, sameBytes}
 use Rattle.definition.specs.Operations.{operationNumber}
 use Rattle.definition.specs.Value.{Value, ActionKind, SemanticAction, operationOf}
 use Rattle.definition.specs.ActionList.{actionKindNumber, operationWord, filled, actionWords, listWords, placesLabel}

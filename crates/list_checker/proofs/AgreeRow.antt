@@ -9,7 +9,7 @@ use native.Mathlib.Omega.{arith}
 use lib.ListN.{length}
 use lib.Dec.{eqb, leb, ltb}
 use borrow.Author.Tests.{eq-eqb, ne-eqb, leb-true, leb-false, eqb-true, eqb-false}
-use Rattle.definition.specs.Base.{if_then_else_, orElse, andThen, isSome, any, all, sameBytes}
+use Rattle.prelude.specs.Base.{if_then_else_, orElse, andThen, isSome, any, all, sameBytes}
 use Rattle.definition.specs.Sizes as sz
 use Rattle.definition.specs.Operations.{Operation, operationNumber}
 use Rattle.definition.specs.Value.{Value, ActionKind, SemanticAction, operationOf}

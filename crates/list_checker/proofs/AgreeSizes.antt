@@ -8,7 +8,7 @@ use native.Mathlib.Omega.{arith}
 use lib.ListN.{getD, drop}
 use lib.Dec.{eqb, leb, ltb}
 use borrow.Author.Tests.{eq-eqb, ne-eqb, le-ltb, eqb-true, eqb-false, not-true}
-use Rattle.definition.specs.Base.{if_then_else_, _or_, orElse, andThen, isSome, any, all, first}
+use Rattle.prelude.specs.Base.{if_then_else_, _or_, orElse, andThen, isSome, any, all, first}
 use Rattle.definition.specs.Value.{Value, ActionKind, SemanticAction}
 use Rattle.definition.specs.Sizes.{isSize, at}
 use Rattle.definition.specs.Checker.{sizeFrom, sameCount, optionFits, isSized, sizeAt, hasSize, allHaveSize, sizeNamed, stepHolds}

@@ -8,7 +8,7 @@ use native.Mathlib.Omega.{arith}
 use lib.ListN.{length, getD, drop, getElem?}
 use lib.Dec.{eqb, ltb}
 use borrow.Author.Tests.{lt-ltb, le-ltb, le-leb, eq-eqb, ne-eqb, ltb-true, ltb-false, eqb-true, eqb-false}
-use Rattle.definition.specs.Base.{if_then_else_, orElse, andThen, all, sameBytes}
+use Rattle.prelude.specs.Base.{if_then_else_, orElse, andThen, all, sameBytes}
 use Rattle.definition.specs.Value.{Kind, kindNumber, Value}
 use Rattle.definition.specs.ActionList.{orNone, valueWords, inputWords, filled}
 use Rattle.definition.specs.Checker.{kinds, sizeFrom, valueFrom, inputsFrom, numberFits, valueFits}

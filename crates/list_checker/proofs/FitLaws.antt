@@ -9,7 +9,7 @@ use lib.ListN.{length, getD, take, drop, set, length-set, length-drop, drop-of-l
 use lib.Seq.{drop-cons, drop-drop, getD-drop, take-all}
 use lib.Dec.{eqb, leb, ltb}
 use borrow.Author.Tests.{ne-eqb, lt-ltb, le-ltb, le-leb, lt-leb, eqb-true, eqb-false, leb-true, ltb-true, ltb-false, not-true, not-false}
-use Rattle.definition.specs.Base.{if_then_else_}
+use Rattle.prelude.specs.Base.{if_then_else_}
 use Rattle.list_checker.specs.Action.{Row, triple, shift, comparison, boolean, negation, same, tested, free, load, store, branch, condition, label, user, argument, invalid, unknown, zeros, numberFit, valueFit, valuesFit, inputsFit, hasOutput, rowOf, rowFit, operationFit, kindFit, headFit, outputThere, actionFit}
 use Rattle.list_checker.specs.Sweep.{noted, placesLabel, noteLabel, noteBuild, allMarked}
 

@@ -9,7 +9,7 @@ use lib.ListN.{length, getD, take, drop, set, replicate, length-set, length-drop
 use lib.Seq.{getD-set-same, getD-set-other, drop-drop, take-all}
 use lib.Dec.{eqb, leb, ltb}
 use borrow.Author.Tests.{leb-true, leb-false, ltb-true, ltb-false, eqb-true, eqb-false, not-true, not-false}
-use Rattle.definition.specs.Base.{if_then_else_}
+use Rattle.prelude.specs.Base.{if_then_else_}
 use Rattle.definition.specs.Checker.{check}
 use Rattle.list_checker.specs.Action.{zeros, actionFit}
 use Rattle.list_checker.specs.Sweep.{Noted, noted, noteLabel, noteBuild, allMarked, whenNew, sweep, rowsFit, labelsNew, builtAfter, buildsIt, anyBuilds, allBuiltBy, listFit}

@@ -4,7 +4,7 @@ use mathlib.Core.Bool.{Bool, true, false, _&&_, _||_, not}
 use mathlib.Core.List.{List, [], _∷_}
 use lib.ListN.{getD, drop}
 use lib.Dec.{eqb, leb, ltb}
-use Rattle.definition.specs.Base.{if_then_else_}
+use Rattle.prelude.specs.Base.{if_then_else_}
 
 unfoldable pub zeros : List ℕ → Bool
 zeros [] = true

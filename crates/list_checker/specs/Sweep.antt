@@ -4,7 +4,7 @@ use mathlib.Core.Bool.{Bool, true, false, _&&_, not}
 use mathlib.Core.List.{List, [], _∷_}
 use lib.ListN.{getD, set, take, drop, replicate}
 use lib.Dec.{eqb, leb}
-use Rattle.definition.specs.Base.{if_then_else_}
+use Rattle.prelude.specs.Base.{if_then_else_}
 use Rattle.list_checker.specs.Action.{actionFit}
 
 unfoldable pub placesLabel : List ℕ → Bool

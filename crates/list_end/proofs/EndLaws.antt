@@ -12,7 +12,7 @@ use Rattle.list_values.specs.declared.sizes.Sizing.{Sizing}
 use Rattle.list_end.specs.declared.end.Fixed.{Fixed}
 use Rattle.list_end.specs.declared.end.Finished.{Finished}
 use Rattle.list_values.specs.Base.{Listed, listed, thenL}
-use Rattle.definition.specs.Base.{if_then_else_}
+use Rattle.prelude.specs.Base.{if_then_else_}
 use Rattle.access.specs.Loops.{run}
 use Rattle.list_values.specs.Values.{withSize, word, valueOf, valueAt, putValue, place, zeroWord}
 use Rattle.list_values.specs.Sizes.{sizeOf, recorded, error, fallsBack}

@@ -6,7 +6,7 @@ use Prim.Native.Nat.{ℕ, _+_, _-_, _≤_, _<_}
 use native.Mathlib.Omega.{arith}
 use borrow.Author.Tests.{eq-eqb, ne-eqb}
 use Rattle.list_values.specs.declared.sizes.Sizing.{Sizing}
-use Rattle.definition.specs.Base.{if_then_else_}
+use Rattle.prelude.specs.Base.{if_then_else_}
 use Rattle.access.specs.Loops.{run, runDown}
 use Rattle.list_values.specs.Values.{place}
 use Rattle.list_values.specs.Sizes.{sized, thenS, sumOfErrors, recorded, Counted}

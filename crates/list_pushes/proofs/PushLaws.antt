@@ -14,7 +14,7 @@ use Rattle.list_pushes.specs.declared.push.Env.{Env}
 use Rattle.list_pushes.specs.declared.push.Read.{Read}
 use Rattle.list_pushes.specs.declared.push.Pushed.{Pushed}
 use Rattle.list_values.specs.Base.{listed}
-use Rattle.definition.specs.Base.{if_then_else_}
+use Rattle.prelude.specs.Base.{if_then_else_}
 use Rattle.access.specs.Loops.{run}
 use Rattle.list_values.specs.Values.{local, valueAt, putValue, zeroWord}
 use Rattle.list_values.specs.Sizes.{thenS, recorded, Counted}

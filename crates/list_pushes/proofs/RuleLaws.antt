@@ -7,7 +7,7 @@ use native.Mathlib.Omega.{arith}
 use lib.ListN.{getD}
 use lib.Dec.{eqb, ltb}
 use borrow.Author.Tests.{eq-eqb, ne-eqb, eqb-true, lt-ltb, le-ltb}
-use Rattle.definition.specs.Base.{if_then_else_}
+use Rattle.prelude.specs.Base.{if_then_else_}
 use Rattle.list_values.specs.Sizes.{sumOfErrors, recorded, setOperand, setThree, setSizeOfPair, setSizeOfTriple, setUnsized, Counted}
 use Rattle.list_values.proofs.SizeLaws.{counted-then}
 use Rattle.list_pushes.specs.Rules.{ruleOfOperator, ruleOfOneInput, ruleOfOther, ruleOf, shift, comparison, pairs, partner, pairRule, boolNot, branch, fewOperands, applyRule, updateOperandSizes}

@@ -4,7 +4,7 @@ use mathlib.Core.Bool.{Bool}
 use mathlib.Core.List.{List}
 use lib.Dec.{eqb}
 use Rattle.list_values.specs.declared.sizes.Sizing.{Sizing}
-use Rattle.definition.specs.Base.{if_then_else_}
+use Rattle.prelude.specs.Base.{if_then_else_}
 use Rattle.access.specs.Loops.{run, runDown}
 use Rattle.list_values.specs.Values.{place}
 use Rattle.list_values.specs.Sizes.{Sized, sized, thenS}

@@ -5,7 +5,7 @@ use mathlib.Core.List.{List}
 use lib.ListN.{getD}
 use lib.Dec.{eqb, ltb}
 use Rattle.list_values.specs.declared.sizes.Sizing.{Sizing}
-use Rattle.definition.specs.Base.{if_then_else_}
+use Rattle.prelude.specs.Base.{if_then_else_}
 use Rattle.list_values.specs.Sizes.{Sized, sized, thenS, setOperand, setThree, setSizeOfPair, setSizeOfTriple, setUnsized}
 
 -- Which rule an operation has: 0 none, 1 pair, 2 shift, 3 triple, 4 comparison, 5 boolean, 6 not, 7 nan, 8 pointer,

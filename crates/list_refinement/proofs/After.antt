@@ -6,8 +6,8 @@ use mathlib.Core.List.{List, [], _∷_}
 use mathlib.Core.Option.{Option, none, some}
 use native.Mathlib.Omega.{arith}
 use lib.ListN.{length, length-set}
-use Rattle.definition.specs.Base as definition
-use Rattle.definition.specs.Base.{_or_, orElse, andThen, isSome, all, first, base-opens}
+use Rattle.prelude.specs.Base as definition
+use Rattle.prelude.specs.Base.{_or_, orElse, andThen, isSome, all, first, base-opens}
 use Rattle.definition.specs.Value.{Value, truncate, SemanticAction}
 use Rattle.definition.specs.Ast.{Section}
 use Rattle.definition.specs.Sizes as d

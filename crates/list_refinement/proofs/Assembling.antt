@@ -10,8 +10,8 @@ use lib.ListN.{length, getD, set, drop, replicate, length-append, length-set, le
 use lib.Seq.{getD-set-same, getD-set-other, getD-at, set-at, take-at, drop-append-le, drop-drop}
 use lib.Dec.{eqb}
 use borrow.Author.Tests.{eqb-true, eqb-false}
-use Rattle.definition.specs.Base as definition
-use Rattle.definition.specs.Base.{any, base-opens, if_then_else_}
+use Rattle.prelude.specs.Base as definition
+use Rattle.prelude.specs.Base.{any, base-opens, if_then_else_}
 use Rattle.definition.specs.Value.{ActionKind, SemanticAction, operationOf}
 use Rattle.definition.specs.End as d
 use Rattle.definition.specs.End.{isBuild, builds}

@@ -8,8 +8,8 @@ use native.Mathlib.Omega.{arith}
 use lib.ListN.{length, getD, set, drop, length-append, length-set}
 use lib.Dec.{eqb, leb, ltb}
 use borrow.Author.Tests.{ne-eqb, eq-eqb, eqb-true, eqb-false, leb-true, leb-false, lt-ltb, le-ltb}
-use Rattle.definition.specs.Base as definition
-use Rattle.definition.specs.Base.{orElse, andThen, any, base-opens, if_then_else_}
+use Rattle.prelude.specs.Base as definition
+use Rattle.prelude.specs.Base.{orElse, andThen, any, base-opens, if_then_else_}
 use Rattle.definition.specs.Refusals.{refusalNumber, subpieceSize, offsetTooFar}
 use Rattle.definition.specs.Operations.{Operation, operationNumber, isOp}
 use Rattle.definition.specs.Value.{kindNumber, Value, sliceBytes, ActionKind, SemanticAction, operationOf, Temporary}

@@ -9,8 +9,8 @@ use lib.ListN.{length, getD, set, length-append}
 use lib.Seq.{set-at, getD-at}
 use lib.Dec.{eqb}
 use borrow.Author.Tests.{ne-eqb}
-use Rattle.definition.specs.Base as definition
-use Rattle.definition.specs.Base.{_or_, orElse, base-opens, if_then_else_}
+use Rattle.prelude.specs.Base as definition
+use Rattle.prelude.specs.Base.{_or_, orElse, base-opens, if_then_else_}
 use Rattle.definition.specs.Operations.{Operation}
 use Rattle.definition.specs.Value.{kindNumber, Value, ActionKind, SemanticAction, operationOf, Temporary}
 use Rattle.definition.specs.Ast.{Section}

@@ -8,8 +8,8 @@ use native.Mathlib.Omega.{arith}
 use lib.ListN.{length, getD, getElem?}
 use lib.Dec.{eqb}
 use borrow.Author.Tests.{eqb-true}
-use Rattle.definition.specs.Base as definition
-use Rattle.definition.specs.Base.{orElse, andThen, base-opens}
+use Rattle.prelude.specs.Base as definition
+use Rattle.prelude.specs.Base.{orElse, andThen, base-opens}
 use Rattle.definition.specs.Ast.{Register, Field, Subtable, Section}
 use Rattle.definition.specs.Sizes as d
 use Rattle.definition.specs.ActionList.{orNone}

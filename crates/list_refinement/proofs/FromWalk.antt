@@ -7,7 +7,7 @@ use mathlib.Core.Option.{Option, none, some}
 use native.Mathlib.Omega.{arith}
 use lib.ListN.{length, getElem?}
 use lib.Dec.{eqb, leb}
-use Rattle.definition.specs.Base.{if_then_else_, isSome, all, base-opens}
+use Rattle.prelude.specs.Base.{if_then_else_, isSome, all, base-opens}
 use Rattle.definition.specs.Operations.{Operation, operationNumber, operations-opens}
 use Rattle.definition.specs.Value.{Kind, Value, ActionKind, SemanticAction}
 use Rattle.definition.specs.Ast.{Section}

@@ -9,7 +9,7 @@ use lib.ListN.{length, getD, take, drop, getElem?, take-append-drop}
 use Rattle.definition.specs.Value.{Temporary}
 use Rattle.definition.specs.Ast.{Section}
 use Rattle.definition.specs.End.{atStart}
-use Rattle.definition.specs.Base.{orElse}
+use Rattle.prelude.specs.Base.{orElse}
 use Rattle.definition.specs.ActionList.{orNone, listWords, temporaryWord}
 use Rattle.list_refinement.specs.Encoding.{actionsIn, markedWord, temporaryWords, temporariesIn, firstError, encS, SoundTmp, Each}
 use Rattle.list_refinement.proofs.Operands.{size-word}

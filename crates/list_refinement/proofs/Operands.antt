@@ -5,7 +5,7 @@ use mathlib.Core.List.{List, [], _∷_, _++_}
 use mathlib.Core.Option.{Option, none, some}
 use native.Mathlib.Omega.{arith}
 use lib.ListN.{length, getD, set, getElem?, length-set}
-use Rattle.definition.specs.Base.{orElse}
+use Rattle.prelude.specs.Base.{orElse}
 use Rattle.definition.specs.Operations.{Operation}
 use Rattle.definition.specs.Value.{kindNumber, Value, truncate, SemanticAction, operationOf}
 use Rattle.definition.specs.Sizes.{Operand, in0, in1, out, at, put}

@@ -12,7 +12,7 @@ use Rattle.definition.specs.Ast.{Section}
 use Rattle.definition.specs.Sizes as d
 use Rattle.definition.specs.Sizes.{Sizing, pointerSize}
 use Rattle.definition.specs.ActionList.{listWords}
-use Rattle.definition.specs.Base.{if_then_else_}
+use Rattle.prelude.specs.Base.{if_then_else_}
 use Rattle.access.specs.Loops.{run, runDown}
 use Rattle.list_values.specs.Values.{place}
 use Rattle.list_values.specs.Sizes.{Sized, sized, thenS}

@@ -9,7 +9,7 @@ use lib.ListN.{length, getD, set, drop, length-append, length-drop}
 use lib.Seq.{set-at, drop-cons}
 use lib.Dec.{leb, ltb}
 use borrow.Author.Tests.{le-leb, lt-leb, ltb-true, ltb-false, leb-true, leb-false}
-use Rattle.definition.specs.Base.{orElse, isSome, if_then_else_}
+use Rattle.prelude.specs.Base.{orElse, isSome, if_then_else_}
 use Rattle.definition.specs.Refusals.{refusalNumber, listFull, tooManyTemporaries}
 use Rattle.definition.specs.Operations.{Operation, operationNumber}
 use Rattle.definition.specs.Value.{Kind, kindNumber, Value, local, ActionKind, SemanticAction, operationOf, Temporary}

@@ -7,7 +7,7 @@ use Rattle.definition.specs.Operations.{Operation, operationNumber, operations-
 use Rattle.definition.specs.Value.{SemanticAction}
 use Rattle.definition.specs.Sizes as d
 use Rattle.definition.specs.Sizes.{in0, in1, out, one, pointer, Step, equal, sized, unsized, rules}
-use Rattle.definition.specs.Base.{if_then_else_}
+use Rattle.prelude.specs.Base.{if_then_else_}
 use Rattle.list_pushes.specs.Rules.{ruleOf, ruleOfOperator, ruleOfOneInput, ruleOfOther}
 use Rattle.list_refinement.proofs.Settled.{has}
 

@@ -7,7 +7,7 @@ use mathlib.Core.Option.{Option, none, some}
 use native.Mathlib.Omega.{arith}
 use lib.ListN.{length, getD}
 use lib.Dec.{eqb}
-use Rattle.definition.specs.Base.{isSome, if_then_else_}
+use Rattle.prelude.specs.Base.{isSome, if_then_else_}
 use Rattle.definition.specs.Value.{Value, ActionKind, SemanticAction, operationOf}
 use Rattle.definition.specs.Ast.{Section}
 use Rattle.definition.specs.Sizes as d

@@ -8,8 +8,8 @@ use native.Mathlib.Omega.{arith}
 use lib.ListN.{length, getD, set, drop, getElem?, length-set, length-append}
 use lib.Dec.{eqb, eqb·suc-zero}
 use borrow.Author.Tests.{ne-eqb}
-use Rattle.definition.specs.Base as definition
-use Rattle.definition.specs.Base.{_or_, orElse, andThen, isSome, base-opens, if_then_else_}
+use Rattle.prelude.specs.Base as definition
+use Rattle.prelude.specs.Base.{_or_, orElse, andThen, isSome, base-opens, if_then_else_}
 use Rattle.definition.specs.Value.{Kind, kindNumber, Value, isKind, SemanticAction, Temporary}
 use Rattle.definition.specs.Ast.{Register, Field, Section}
 use Rattle.definition.specs.Sizes as d

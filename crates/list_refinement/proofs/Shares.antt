@@ -8,8 +8,8 @@ use native.Mathlib.Omega.{arith}
 use lib.ListN.{length}
 use lib.Dec.{eqb}
 use borrow.Author.Tests.{ne-eqb, eq-eqb, eqb-true}
-use Rattle.definition.specs.Base as definition
-use Rattle.definition.specs.Base.{_or_, orElse, andThen, first, base-opens, if_then_else_}
+use Rattle.prelude.specs.Base as definition
+use Rattle.prelude.specs.Base.{_or_, orElse, andThen, first, base-opens, if_then_else_}
 use Rattle.definition.specs.Value.{Kind, Value, SemanticAction, value-opens}
 use Rattle.definition.specs.Ast.{Section}
 use Rattle.definition.specs.Sizes as d

@@ -5,7 +5,7 @@ use mathlib.Core.Path.{_≡_}
 use mathlib.Core.List.{List, [], _∷_, _++_}
 use mathlib.Core.Option.{Option, none, some}
 use lib.ListN.{length, getD, drop, getElem?}
-use Rattle.definition.specs.Base.{orElse, andThen}
+use Rattle.prelude.specs.Base.{orElse, andThen}
 use Rattle.definition.specs.Value.{Kind, kindNumber, Value, SemanticAction, Temporary}
 use Rattle.definition.specs.Ast.{Register, Field, Section}
 use Rattle.definition.specs.Sizes as d

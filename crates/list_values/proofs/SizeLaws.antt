@@ -11,7 +11,7 @@ use Rattle.access.specs.Le.{le16}
 use Rattle.list_values.specs.declared.value.Value.{Value}
 use Rattle.list_values.specs.declared.sizes.Sizing.{Sizing}
 use Rattle.list_values.specs.Base.{thenL}
-use Rattle.definition.specs.Base.{if_then_else_}
+use Rattle.prelude.specs.Base.{if_then_else_}
 use Rattle.list_values.specs.Values.{valueOf, valueAt, putSize}
 use Rattle.list_values.specs.Sizes.{Sized, thenS, entry, listSize, exportSizeOf, tmpSize, listedSize, sizeOfLocal, sizeOf, sizeAt, sumOfErrors, recorded, error, sizeTemporary, settled, setOperand, setTwo, setThree, fallsBack, pairFallback, sharePair, setSizeOfPair, tripleFallsBack, tripleFallback, shareSize, allEqual, shareTriple, setSizeOfTriple, setUnsized, Settles, Counted}
 

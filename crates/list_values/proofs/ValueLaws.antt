@@ -6,7 +6,7 @@ use native.Mathlib.Omega.{arith}
 use lib.ListN.{getD, set}
 use borrow.Author.Tests.{lt-ltb, le-ltb}
 use Rattle.list_values.specs.declared.value.Value.{Value}
-use Rattle.definition.specs.Base.{if_then_else_}
+use Rattle.prelude.specs.Base.{if_then_else_}
 use Rattle.list_values.specs.Values.{word, valueOf, valueAt, putValue, putSize, place}
 
 pub value-at-law : (l : List ℕ) (at i w n : ℕ) → w ≡ getD l (at + (i + 1)) 0 → n ≡ getD l (at + i) 0 → record { kind = w % 256; number = n; offset = w / 256 % 65536; size = w / 16777216 % 65536 } ≡ valueAt l at i

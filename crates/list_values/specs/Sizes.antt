@@ -10,7 +10,7 @@ use Rattle.access.specs.Le.{le16}
 use Rattle.list_values.specs.declared.value.Value.{Value}
 use Rattle.list_values.specs.declared.sizes.Sizing.{Sizing}
 use Rattle.list_values.specs.Base.{Listed, listed, thenL}
-use Rattle.definition.specs.Base.{if_then_else_}
+use Rattle.prelude.specs.Base.{if_then_else_}
 use Rattle.list_values.specs.Values.{valueAt, putSize}
 
 -- a sizing, the actions and the temporaries

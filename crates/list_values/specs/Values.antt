@@ -4,7 +4,7 @@ use mathlib.Core.List.{List}
 use lib.ListN.{getD, set}
 use lib.Dec.{ltb}
 use Rattle.list_values.specs.declared.value.Value.{Value}
-use Rattle.definition.specs.Base.{if_then_else_}
+use Rattle.prelude.specs.Base.{if_then_else_}
 
 -- a value at offset 0 with no size of its own
 abbrev pub local : ℕ → ℕ → Value

@@ -9,7 +9,7 @@ use lib.Dec.{eqb}
 use lib.ListN.{length, getD, take, drop, set, length-drop, length-set, drop-of-length-le}
 use lib.Seq.{drop-cons, drop-drop, drop-set-lt, take-nil, take-all, take-length, take-suc, take-suc-set}
 use borrow.Author.Tests.{eq-eqb, ne-eqb}
-use Rattle.definition.specs.Base.{if_then_else_}
+use Rattle.prelude.specs.Base.{if_then_else_}
 use Rattle.listing_names.specs.Words.{first, rest, word, widest, leftAfter}
 
 word-nil : (n : ℕ) → word n [] ≡ []

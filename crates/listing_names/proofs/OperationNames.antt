@@ -1,6 +1,6 @@
 -- The text that an operation's number has is the name of the operation.
 use mathlib.Core.Path.{_≡_, refl}
-use Rattle.definition.specs.Base.{if_then_else_}
+use Rattle.prelude.specs.Base.{if_then_else_}
 use Rattle.definition.specs.Operations.{Operation, operationNumber}
 use Rattle.definition.specs.Spellings.{bytesOf}
 use Rattle.listing_names.specs.Words.{first, rest, word}

@@ -4,7 +4,7 @@ use mathlib.Core.List.{List}
 use lib.ListN.{getD, set}
 use lib.Dec.{eqb, ltb}
 use Rattle.list_values.specs.Base.{thenL}
-use Rattle.definition.specs.Base.{if_then_else_}
+use Rattle.prelude.specs.Base.{if_then_else_}
 use Rattle.access.specs.Loops.{run}
 use Rattle.list_values.specs.Values.{word}
 use Rattle.list_end.specs.End.{zeroFrom, assemble}

@@ -7,7 +7,7 @@ use Rattle.list_values.specs.declared.sizes.Sizing.{Sizing}
 use Rattle.list_end.specs.declared.end.Fixed.{Fixed}
 use Rattle.list_end.specs.declared.end.Finished.{Finished}
 use Rattle.list_values.specs.Base.{thenL}
-use Rattle.definition.specs.Base.{if_then_else_}
+use Rattle.prelude.specs.Base.{if_then_else_}
 use Rattle.list_values.specs.Values.{place}
 use Rattle.list_values.specs.Sizes.{Sized, thenS}
 use Rattle.list_end.specs.Passes.{backwardPass, forwardPass}

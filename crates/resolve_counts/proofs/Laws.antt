@@ -7,7 +7,7 @@ use borrow.Author.Tests.{eq-eqb, ne-eqb}
 use Rattle.access.specs.Le.{le16}
 use Rattle.definition.specs.SectionFile.{streamOf, read}
 use Rattle.definition.specs.Passing.{subtableCount, pointerSizeIn}
-use Rattle.definition.specs.Base.{if_then_else_}
+use Rattle.prelude.specs.Base.{if_then_else_}
 use Rattle.file_blocks.specs.Blocks.{refusalOf, joined}
 use Rattle.file_section.specs.Stream.{answer, readStream}
 use Rattle.file_refinement.proofs.FileTheorem.{one-block, checked-room, front, front-room}

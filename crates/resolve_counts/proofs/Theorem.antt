@@ -11,7 +11,7 @@ use Rattle.definition.specs.Refusals.{refusalNumber}
 use Rattle.definition.specs.Ast.{Section}
 use Rattle.definition.specs.SectionFile.{Parsed, parsed, refused, on, streamOf, section, read}
 use Rattle.definition.specs.Passing.{subtableCount, pointerSizeIn}
-use Rattle.definition.specs.Base.{if_then_else_}
+use Rattle.prelude.specs.Base.{if_then_else_}
 use Rattle.file_blocks.specs.Blocks.{refusalOf, joined}
 use Rattle.file_section.specs.Stream.{readStream}
 use Rattle.file_refinement.proofs.Agree.{refusal-bad}

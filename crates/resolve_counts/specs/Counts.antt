@@ -5,7 +5,7 @@ use lib.ListN.{replicate}
 use lib.Dec.{eqb}
 use Rattle.access.specs.Le.{le16}
 use Rattle.file_section.specs.Stream.{Answer, readStream}
-use Rattle.definition.specs.Base.{if_then_else_}
+use Rattle.prelude.specs.Base.{if_then_else_}
 use Rattle.resolve_file.specs.Files.{pointerSize}
 use Rattle.resolve_counts.specs.declared.Counts.{Counts}
 

@@ -11,7 +11,7 @@ use Rattle.file_section.specs.Stream.{answer, readStream}
 use Rattle.file_refinement.proofs.FileTheorem.{one-block, checked-room, front, front-room}
 use Rattle.list_pushes.specs.declared.push.Env.{Env}
 use Rattle.list_values.specs.declared.value.Value.{Value}
-use Rattle.definition.specs.Base.{if_then_else_}
+use Rattle.prelude.specs.Base.{if_then_else_}
 use Rattle.list_values.specs.Values.{absent, place}
 use Rattle.list_values.specs.Sizes.{entry}
 use Rattle.stmt_walk.specs.declared.walk.Walk.{Walk}

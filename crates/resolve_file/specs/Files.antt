@@ -8,7 +8,7 @@ use Rattle.access.specs.Le.{le16}
 use Rattle.file_blocks.specs.Blocks.{refusalOf, joined}
 use Rattle.file_section.specs.Stream.{Answer, readStream}
 use Rattle.list_pushes.specs.declared.push.Env.{Env}
-use Rattle.definition.specs.Base.{if_then_else_}
+use Rattle.prelude.specs.Base.{if_then_else_}
 use Rattle.list_values.specs.Values.{absent, place}
 use Rattle.list_values.specs.Sizes.{entry}
 use Rattle.stmt_walk.specs.declared.walk.Walk.{Walk}

@@ -7,7 +7,7 @@ use native.Mathlib.Omega.{arith}
 use lib.ListN.{length, length-append}
 use lib.Dec.{eqb}
 use borrow.Author.Tests.{lt-ltb, eq-eqb}
-use Rattle.definition.specs.Base.{any, if_then_else_}
+use Rattle.prelude.specs.Base.{any, if_then_else_}
 use Rattle.definition.specs.Value.{SemanticAction, ExportKind, Export}
 use Rattle.definition.specs.Ast.{Section}
 use Rattle.definition.specs.Walk.{State}

@@ -26,7 +26,7 @@ use Rattle.definition_guarantee.proofs.Kept.{Kept}
 use Rattle.list_values.specs.declared.sizes.Sizing.{Sizing as WordSizing}
 use Rattle.list_end.specs.declared.end.Finished.{Finished}
 use Rattle.list_values.specs.Base.{Listed, listed, thenL}
-use Rattle.definition.specs.Base.{if_then_else_}
+use Rattle.prelude.specs.Base.{if_then_else_}
 use Rattle.list_values.specs.Values.{place}
 use Rattle.list_values.specs.Sizes.{thenS}
 use Rattle.list_end.specs.Passes.{backwardPass, forwardPass}

@@ -5,7 +5,7 @@ use mathlib.Core.Bool.{Bool, true, false}
 use mathlib.Core.List.{List, [], _∷_, _++_}
 use native.Mathlib.Omega.{arith}
 use lib.ListN.{length}
-use Rattle.definition.specs.Base.{if_then_else_, orElse, andThen, sum}
+use Rattle.prelude.specs.Base.{if_then_else_, orElse, andThen, sum}
 use Rattle.definition.specs.Value.{SemanticAction, operationOf, Temporary}
 use Rattle.definition.specs.Ast.{Section}
 use Rattle.definition.specs.Sizes.{Sizing, backwardPass, forwardPass, applySizeInference}

@@ -7,8 +7,8 @@ use mathlib.Core.List.{List, [], _∷_}
 use mathlib.Core.Option.{Option, none, some}
 use lib.ListN.{length, getD, length-set}
 use lib.Dec.{eqb, leb, ltb}
-use Rattle.definition.specs.Base as definition
-use Rattle.definition.specs.Base.{andThen, base-opens, if_then_else_}
+use Rattle.prelude.specs.Base as definition
+use Rattle.prelude.specs.Base.{andThen, base-opens, if_then_else_}
 use Rattle.definition.specs.Refusals.{Refusal, subpieceSize, offsetTooFar}
 use Rattle.definition.specs.Operations.{Operation, isOp}
 use Rattle.definition.specs.Value.{Value, SemanticAction, operationOf}

@@ -9,7 +9,7 @@ use lib.ListN.{length, getD, replicate, length-replicate}
 use lib.Dec.{leb, ltb}
 use borrow.Author.Tests.{ltb-true, ltb-false, le-leb, lt-leb}
 use Rattle.access.specs.Le.{le16}
-use Rattle.definition.specs.Base.{orElse, if_then_else_}
+use Rattle.prelude.specs.Base.{orElse, if_then_else_}
 use Rattle.definition.specs.Refusals.{refusalNumber, listFull}
 use Rattle.definition.specs.Ast.{Section}
 use Rattle.definition.specs.Walk.{State, Env, Outcome, on, require}

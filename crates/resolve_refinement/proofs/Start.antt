@@ -9,8 +9,8 @@ use lib.ListN.{length, getD, take, drop, replicate, getElem?, length-drop, lengt
 use lib.Seq.{length-take-le}
 use lib.Dec.{eqb}
 use Rattle.access.specs.Le.{le16}
-use Rattle.definition.specs.Base as definition
-use Rattle.definition.specs.Base.{orElse, andThen, first, base-opens, if_then_else_}
+use Rattle.prelude.specs.Base as definition
+use Rattle.prelude.specs.Base.{orElse, andThen, first, base-opens, if_then_else_}
 use Rattle.definition.specs.Value.{Kind, Value, local}
 use Rattle.definition.specs.Ast.{Space, Field, Subtable, Section}
 use Rattle.definition.specs.Sizes as d

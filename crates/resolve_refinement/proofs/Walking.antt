@@ -5,7 +5,7 @@ use mathlib.Core.List.{List, [], _∷_}
 use native.Mathlib.Omega.{arith}
 use lib.ListN.{length, getD, drop, take}
 use Rattle.access.specs.Le.{le16}
-use Rattle.definition.specs.Base.{sum}
+use Rattle.prelude.specs.Base.{sum}
 use Rattle.definition.specs.Ast.{Macro, Section}
 use Rattle.definition.specs.Statements as d
 use Rattle.definition.specs.End.{atStart}

@@ -11,7 +11,7 @@ use Rattle.access.specs.Le.{le16}
 use Rattle.list_pushes.specs.declared.push.State.{State}
 use Rattle.list_pushes.specs.declared.push.Env.{Env}
 use Rattle.list_values.specs.Base.{listed, thenL}
-use Rattle.definition.specs.Base.{if_then_else_}
+use Rattle.prelude.specs.Base.{if_then_else_}
 use Rattle.expr_scope.proofs.scope.ExprValue as exprValue
 use Rattle.expr_scope.specs.declared.args.Args.{Args}
 use Rattle.expr_terms.specs.Answers.{passed, onArgs, after}

@@ -7,7 +7,7 @@ use lib.ListN.{getD, set}
 use borrow.Author.Tests.{eq-eqb, ne-eqb, lt-ltb, le-ltb, le-leb, lt-leb}
 use Rattle.list_pushes.specs.declared.push.State.{State}
 use Rattle.list_values.specs.Base.{listed}
-use Rattle.definition.specs.Base.{if_then_else_}
+use Rattle.prelude.specs.Base.{if_then_else_}
 use Rattle.stmt_walk.specs.declared.walk.Walk.{Walk}
 use Rattle.stmt_branches.specs.declared.labels.Label.{Label}
 use Rattle.stmt_branches.specs.Labels.{findLabel, labelKey, labelOr, getOrInsertLabel, onLabel, placeLabel, resolveLabel, labelsAfter, labelled}

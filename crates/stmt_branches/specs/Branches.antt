@@ -7,7 +7,7 @@ use Rattle.access.specs.Le.{le16, le64}
 use Rattle.list_values.specs.declared.value.Value.{Value}
 use Rattle.list_pushes.specs.declared.push.State.{State}
 use Rattle.list_pushes.specs.declared.push.Env.{Env}
-use Rattle.definition.specs.Base.{if_then_else_}
+use Rattle.prelude.specs.Base.{if_then_else_}
 use Rattle.list_values.specs.Values.{absent, noOutput}
 use Rattle.list_pushes.specs.Pushes.{onRead, pushOp}
 use Rattle.expr_scope.specs.declared.scope.ExprValue.{ExprValue}

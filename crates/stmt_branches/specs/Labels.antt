@@ -5,7 +5,7 @@ use lib.ListN.{getD, set}
 use lib.Dec.{eqb, ltb, leb}
 use Rattle.list_pushes.specs.declared.push.State.{State}
 use Rattle.list_values.specs.Base.{Listed, listed}
-use Rattle.definition.specs.Base.{if_then_else_}
+use Rattle.prelude.specs.Base.{if_then_else_}
 use Rattle.stmt_walk.specs.declared.walk.Walk.{Walk}
 use Rattle.stmt_branches.specs.declared.labels.Label.{Label}
 

@@ -6,7 +6,7 @@ use mathlib.Core.Option.{Option, none, some}
 use native.Mathlib.Omega.{arith}
 use lib.Dec.{eqb, leb}
 use borrow.Author.Tests.{leb-true, leb-false, eq-eqb}
-use Rattle.definition.specs.Base.{isSome, orElse, if_then_else_}
+use Rattle.prelude.specs.Base.{isSome, orElse, if_then_else_}
 use Rattle.definition.specs.Refusals.{Refusal, refusalNumber, afterExport, tooManyStatements}
 use Rattle.definition.specs.Value.{ExportKind, Export}
 use Rattle.definition.specs.Walk.{State, Env, Outcome, done, stopped, on, require}

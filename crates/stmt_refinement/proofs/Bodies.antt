@@ -9,7 +9,7 @@ use native.Mathlib.Nat.{add-zero}
 use native.Mathlib.Omega.{arith}
 use lib.ListN.{length, getD, take, drop, getElem?}
 use borrow.Author.Tests.{lt-ltb, le-leb}
-use Rattle.definition.specs.Base.{if_then_else_}
+use Rattle.prelude.specs.Base.{if_then_else_}
 use Rattle.access.specs.Le.{le16}
 use Rattle.definition.specs.Refusals.{refusalNumber, macroTooDeep}
 use Rattle.definition.specs.Ast.{Statement, Macro}

@@ -9,7 +9,7 @@ use native.Mathlib.Omega.{arith}
 use lib.ListN.{length, getD, getElem?, drop, length-append}
 use lib.Dec.{eqb}
 use Rattle.access.specs.Le.{le16, le64}
-use Rattle.definition.specs.Base.{base-opens, orElse, isSome, if_then_else_}
+use Rattle.prelude.specs.Base.{base-opens, orElse, isSome, if_then_else_}
 use Rattle.definition.specs.Refusals.{refusalNumber, tooManyLabels}
 use Rattle.definition.specs.Operations.{Operation, operationNumber, operations-opens}
 use Rattle.definition.specs.Value.{kindNumber, Value, constant, SemanticAction, operationOf}

@@ -7,8 +7,8 @@ use mathlib.Core.Option.{none, some}
 use native.Mathlib.Omega.{arith}
 use lib.Dec.{eqb, leb, ltb}
 use borrow.Author.Tests.{leb-true, leb-false, lt-ltb, le-ltb}
-use Rattle.definition.specs.Base as definition
-use Rattle.definition.specs.Base.{orElse, isSome, base-opens, if_then_else_}
+use Rattle.prelude.specs.Base as definition
+use Rattle.prelude.specs.Base.{orElse, isSome, base-opens, if_then_else_}
 use Rattle.definition.specs.Refusals.{refusalNumber, shiftTooFar, offsetTooFar, notAssignable}
 use Rattle.definition.specs.Operations.{Operation, operationNumber}
 use Rattle.definition.specs.Value.{kindNumber, Value, constant, sliceBytes}

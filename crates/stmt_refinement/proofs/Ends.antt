@@ -7,7 +7,7 @@ use native.Mathlib.Omega.{arith}
 use lib.ListN.{length, getD, drop}
 use borrow.Author.Tests.{le-leb, lt-ltb}
 use Rattle.access.specs.Le.{le16}
-use Rattle.definition.specs.Base.{if_then_else_}
+use Rattle.prelude.specs.Base.{if_then_else_}
 use Rattle.definition.specs.Ast.{PcodeExpr, JumpLabel, BranchDst, Statement}
 use Rattle.definition.specs.SectionFile.{parsed, refused, Read, exprWithin}
 use Rattle.definition.specs.SectionFile as d

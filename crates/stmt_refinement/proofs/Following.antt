@@ -4,7 +4,7 @@ use mathlib.Core.Path.{_≡_, _∙_, ap}
 use mathlib.Core.List.{List}
 use mathlib.Core.Option.{Option}
 use native.Mathlib.Omega.{arith}
-use Rattle.definition.specs.Base.{orElse}
+use Rattle.prelude.specs.Base.{orElse}
 use Rattle.definition.specs.Refusals.{refusalNumber}
 use Rattle.definition.specs.Ast.{Statement, Macro}
 use Rattle.definition.specs.Walk.{ExprValue, State, Env, Outcome, done, stopped}

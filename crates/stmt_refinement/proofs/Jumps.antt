@@ -6,8 +6,8 @@ use mathlib.Core.Option.{none, some}
 use native.Mathlib.Omega.{arith}
 use lib.ListN.{getD}
 use lib.Dec.{eqb}
-use Rattle.definition.specs.Base as definition
-use Rattle.definition.specs.Base.{orElse, isSome, base-opens, if_then_else_}
+use Rattle.prelude.specs.Base as definition
+use Rattle.prelude.specs.Base.{orElse, isSome, base-opens, if_then_else_}
 use Rattle.definition.specs.Refusals.{refusalNumber, jumpToNonLocal}
 use Rattle.definition.specs.Operations.{Operation, operationNumber}
 use Rattle.definition.specs.Value.{Kind, kindNumber, Value, isKind}

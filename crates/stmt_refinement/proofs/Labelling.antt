@@ -10,7 +10,7 @@ use lib.ListN.{length, getD, set, length-set}
 use lib.Seq.{getD-set-same, getD-set-other}
 use lib.Dec.{ltb, leb}
 use borrow.Author.Tests.{eq-eqb, lt-ltb, le-ltb, ltb-true, ltb-false, leb-true, leb-false}
-use Rattle.definition.specs.Base.{first, base-opens, if_then_else_}
+use Rattle.prelude.specs.Base.{first, base-opens, if_then_else_}
 use Rattle.definition.specs.Refusals.{Refusal, refusalNumber, tooManyLabels, labelTwice}
 use Rattle.definition.specs.Walk.{Label, State, Env, Outcome, done, stopped, on, require, withScope, withLabel}
 use Rattle.definition.specs.Scope as scope

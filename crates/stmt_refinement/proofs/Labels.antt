@@ -9,8 +9,8 @@ use lib.ListN.{length, getD, set}
 use lib.Seq.{getD-set-same, getD-set-other}
 use lib.Dec.{eqb, ltb, leb}
 use borrow.Author.Tests.{eqb-true, eqb-false, eq-eqb, ne-eqb, lt-ltb, le-ltb, le-leb, lt-leb}
-use Rattle.definition.specs.Base as definition
-use Rattle.definition.specs.Base.{_or_, first, base-opens, if_then_else_}
+use Rattle.prelude.specs.Base as definition
+use Rattle.prelude.specs.Base.{_or_, first, base-opens, if_then_else_}
 use Rattle.definition.specs.Walk.{Label}
 use Rattle.definition.specs.Scope.{find}
 use Rattle.list_values.specs.Base.{listed}

@@ -9,8 +9,8 @@ use native.Mathlib.Omega.{arith}
 use lib.ListN.{length, getD, drop, getElem?, length-append, List·getD-append}
 use lib.Dec.{eqb, ltb, leb}
 use borrow.Author.Tests.{eqb-true, eqb-false, eq-eqb, ne-eqb, ltb-true, ltb-false, lt-ltb, leb-true}
-use Rattle.definition.specs.Base as definition
-use Rattle.definition.specs.Base.{_or_, andThen, orElse, isSome, first, base-opens, if_then_else_}
+use Rattle.prelude.specs.Base as definition
+use Rattle.prelude.specs.Base.{_or_, andThen, orElse, isSome, first, base-opens, if_then_else_}
 use Rattle.definition.specs.Refusals.{refusalNumber, redeclared, tooManyTemporaries}
 use Rattle.definition.specs.Value.{Kind, kindNumber, Value, local, Temporary}
 use Rattle.definition.specs.Sizes.{withTemporaries}

@@ -10,8 +10,8 @@ use lib.ListN.{length, getD, drop, replicate, getElem?, length-replicate, length
 use lib.Dec.{eqb}
 use borrow.Author.Tests.{eqb-true}
 use Rattle.access.specs.Le.{le16}
-use Rattle.definition.specs.Base as definition
-use Rattle.definition.specs.Base.{orElse, base-opens, if_then_else_}
+use Rattle.prelude.specs.Base as definition
+use Rattle.prelude.specs.Base.{orElse, base-opens, if_then_else_}
 use Rattle.definition.specs.Refusals.{refusalNumber, macroArguments}
 use Rattle.definition.specs.Ast.{Args, Statement, Space as SpaceEntry, Register as RegisterEntry, BitRange as BitRangeEntry, Table as TableEntry, Macro, Section}
 use Rattle.definition.specs.SectionFile.{parsed, exprWithin, argsOf, statement}

@@ -6,7 +6,7 @@ use mathlib.Core.Option.{some}
 use native.Mathlib.Omega.{arith}
 use lib.ListN.{length, getD, take, drop, getElem?}
 use Rattle.access.specs.Le.{le16}
-use Rattle.definition.specs.Base.{sum}
+use Rattle.prelude.specs.Base.{sum}
 use Rattle.definition.specs.Ast.{Statement, Macro, Section}
 use Rattle.definition.specs.SectionFile.{parsed, listOf, statement}
 use Rattle.definition.specs.Statements as d

@@ -9,7 +9,7 @@ use native.Mathlib.Omega.{arith}
 use lib.ListN.{length, getD, getElem?, length-set}
 use lib.Seq.{getD-set-same, getD-set-other}
 use Rattle.access.specs.Le.{le16}
-use Rattle.definition.specs.Base.{first}
+use Rattle.prelude.specs.Base.{first}
 use Rattle.definition.specs.Walk.{ExprValue, Scope, State, Env, withScope}
 use Rattle.definition.specs.Scope as scope
 use Rattle.definition.specs.Scope.{find}

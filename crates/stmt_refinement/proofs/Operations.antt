@@ -6,7 +6,7 @@ use mathlib.Core.List.{List, [], _∷_, _++_}
 use mathlib.Core.Option.{none}
 use native.Mathlib.Omega.{arith}
 use lib.ListN.{length, length-append}
-use Rattle.definition.specs.Base.{if_then_else_, base-opens}
+use Rattle.prelude.specs.Base.{if_then_else_, base-opens}
 use Rattle.definition.specs.Operations.{Operation, operationNumber, isOp}
 use Rattle.definition.specs.Value.{Value, SemanticAction}
 use Rattle.definition.specs.Sizes as sizes

@@ -3,7 +3,7 @@ use Prim.Native.Nat.{ℕ}
 use mathlib.Core.Bool.{true}
 use mathlib.Core.List.{List}
 use mathlib.Core.Option.{some}
-use Rattle.definition.specs.Base.{isSome}
+use Rattle.prelude.specs.Base.{isSome}
 use Rattle.definition.specs.Value.{Value}
 use Rattle.definition.specs.Walk.{ExprValue, State, Env}
 use Rattle.definition.specs.Expressions as expressions

@@ -10,7 +10,7 @@ use native.Mathlib.Omega.{arith}
 use lib.ListN.{length, getD}
 use lib.Dec.{eqb, ltb}
 use borrow.Author.Tests.{ne-eqb, lt-ltb, le-ltb}
-use Rattle.definition.specs.Base.{first, if_then_else_}
+use Rattle.prelude.specs.Base.{first, if_then_else_}
 use Rattle.definition.specs.Walk.{ExprValue, Label}
 use Rattle.definition.specs.Scope.{find}
 use Rattle.list_values.specs.Values.{valueAt}

@@ -19,7 +19,7 @@ use Rattle.list_values.specs.declared.value.Value.{Value as WordValue}
 use Rattle.list_pushes.specs.declared.push.State.{State as WordState}
 use Rattle.list_pushes.specs.declared.push.Env.{Env as WordEnv}
 use Rattle.list_pushes.specs.declared.push.Read.{Read}
-use Rattle.definition.specs.Base.{if_then_else_}
+use Rattle.prelude.specs.Base.{if_then_else_}
 use Rattle.list_pushes.specs.Pushes.{ReadOut, read}
 use Rattle.file_refinement.proofs.Inversion.{ExportAt}
 use Rattle.list_refinement.specs.Encoding.{encV, Sound}

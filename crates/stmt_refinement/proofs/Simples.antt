@@ -19,7 +19,7 @@ use Rattle.definition_guarantee.proofs.Outcomes.{positive}
 use Rattle.list_pushes.specs.declared.push.State.{State as WordState}
 use Rattle.list_pushes.specs.declared.push.Env.{Env as WordEnv}
 use Rattle.list_values.specs.Base.{listed, thenL}
-use Rattle.definition.specs.Base.{if_then_else_}
+use Rattle.prelude.specs.Base.{if_then_else_}
 use Rattle.file_refinement.specs.Holds.{absentAt}
 use Rattle.file_refinement.proofs.Inversion.{unimplemented-at, export-at, local-at, local-assignment-at, build-at, copy-at, store-at}
 use Rattle.list_refinement.proofs.Seen.{outcome}

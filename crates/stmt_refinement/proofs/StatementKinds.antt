@@ -13,7 +13,7 @@ use Rattle.definition.specs.Walk as walks
 use Rattle.definition.specs.Walk.{ExprValue, State, Env}
 use Rattle.definition.specs.Statements as d
 use Rattle.list_pushes.specs.declared.push.Env.{Env as WordEnv}
-use Rattle.definition.specs.Base.{if_then_else_}
+use Rattle.prelude.specs.Base.{if_then_else_}
 use Rattle.file_refinement.proofs.Inversion.{statement-begun}
 use Rattle.stmt_bodies.specs.Statements.{otherStatement}
 use Rattle.expr_refinement.proofs.Answers.{acts, temps, word}

@@ -8,8 +8,8 @@ use lib.ListN.{length, getD, drop}
 use lib.Dec.{eqb}
 use borrow.Author.Tests.{eqb-true}
 use Rattle.access.specs.Le.{le16}
-use Rattle.definition.specs.Base as definition
-use Rattle.definition.specs.Base.{sum, base-opens, if_then_else_}
+use Rattle.prelude.specs.Base as definition
+use Rattle.prelude.specs.Base.{sum, base-opens, if_then_else_}
 use Rattle.definition.specs.Value.{SemanticAction}
 use Rattle.definition.specs.Ast.{Statement}
 use Rattle.definition.specs.SectionFile.{parsed, statement}

@@ -17,7 +17,7 @@ use Rattle.definition_guarantee.proofs.Outcomes.{positive}
 use Rattle.list_values.specs.declared.value.Value.{Value as WordValue}
 use Rattle.list_pushes.specs.declared.push.State.{State as WordState}
 use Rattle.list_pushes.specs.declared.push.Env.{Env as WordEnv}
-use Rattle.definition.specs.Base.{if_then_else_}
+use Rattle.prelude.specs.Base.{if_then_else_}
 use Rattle.list_refinement.specs.Encoding.{encV, Sound, EachOption}
 use Rattle.list_refinement.proofs.Seen.{Seen, no, yes, outcome}
 use Rattle.expr_scope.specs.declared.scope.ExprValue.{ExprValue as WordExpr}

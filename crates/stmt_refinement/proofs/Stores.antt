@@ -6,8 +6,8 @@ use mathlib.Core.Option.{Option, none, some}
 use native.Mathlib.Omega.{arith}
 use lib.ListN.{length, drop}
 use Rattle.access.specs.Le.{le16}
-use Rattle.definition.specs.Base as definition
-use Rattle.definition.specs.Base.{isSome, if_then_else_}
+use Rattle.prelude.specs.Base as definition
+use Rattle.prelude.specs.Base.{isSome, if_then_else_}
 use Rattle.definition.specs.Refusals.{refusalNumber, storeToNoAddress}
 use Rattle.definition.specs.Operations.{Operation, operationNumber}
 use Rattle.definition.specs.Value.{Value, ActionKind, SemanticAction, operationOf}

@@ -11,7 +11,7 @@ use lib.ListN.{length, getD, drop}
 use lib.Dec.{eqb}
 use borrow.Author.Tests.{eqb-true, eqb-false, ne-eqb}
 use Rattle.access.specs.Le.{le16}
-use Rattle.definition.specs.Base.{orElse, andThen, if_then_else_}
+use Rattle.prelude.specs.Base.{orElse, andThen, if_then_else_}
 use Rattle.definition.specs.Value.{Value, SemanticAction}
 use Rattle.definition.specs.Ast.{PcodeExpr, Statement}
 use Rattle.definition.specs.SectionFile.{parsed, exprWithin}

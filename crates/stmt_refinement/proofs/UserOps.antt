@@ -10,7 +10,7 @@ use lib.Seq.{drop-drop, getD-set-same, getD-set-other}
 use lib.Dec.{leb}
 use borrow.Author.Tests.{eq-eqb, leb-true}
 use Rattle.access.specs.Le.{le16}
-use Rattle.definition.specs.Base.{base-opens, if_then_else_}
+use Rattle.prelude.specs.Base.{base-opens, if_then_else_}
 use Rattle.definition.specs.Refusals.{refusalNumber, listFull}
 use Rattle.definition.specs.Operations.{Operation, operationNumber, operations-opens}
 use Rattle.definition.specs.Value.{Value, SemanticAction, operationOf}

@@ -14,7 +14,7 @@ use Rattle.definition.specs.Walk.{State, Env, Outcome, done, stopped, on}
 use Rattle.list_pushes.specs.declared.push.Read.{Read}
 use Rattle.list_pushes.specs.declared.push.Pushed.{Pushed}
 use Rattle.list_values.specs.Base.{Listed, listed, thenL}
-use Rattle.definition.specs.Base.{if_then_else_}
+use Rattle.prelude.specs.Base.{if_then_else_}
 use Rattle.list_pushes.specs.Pushes.{ReadOut, read, PushedOut, pushed}
 use Rattle.list_refinement.specs.Encoding.{encV}
 use Rattle.list_refinement.proofs.Seen.{Seen, no, yes, seenRead, seenPushed, seenPush, outcome}

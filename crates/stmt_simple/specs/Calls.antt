@@ -8,7 +8,7 @@ use Rattle.list_pushes.specs.declared.push.State.{State}
 use Rattle.list_pushes.specs.declared.push.Env.{Env}
 use Rattle.list_pushes.specs.declared.push.Pushed.{Pushed}
 use Rattle.list_values.specs.Base.{Listed, listed, thenL}
-use Rattle.definition.specs.Base.{if_then_else_}
+use Rattle.prelude.specs.Base.{if_then_else_}
 use Rattle.access.specs.Loops.{run}
 use Rattle.list_values.specs.Values.{absent, noOutput, valueAt, putValue}
 use Rattle.list_pushes.specs.Pushes.{onRead, onPush, push}

@@ -5,7 +5,7 @@ use Rattle.list_checker.proofs.head_fits.Reads as reads
 use Rattle.list_checker.proofs.head_fits.Lts as lts
 use Rattle.list_checker.proofs.operation_fits.Reads as operation-fits-reads
 use native.Mathlib.Omega.{arith}
-use Rattle.definition.specs.Base.{if_then_else_}
+use Rattle.prelude.specs.Base.{if_then_else_}
 use Rattle.list_checker.specs.Action.{kindFit}
 use Rattle.list_checker.proofs.FitLaws.{head-op, head-kind, head-none}
 

@@ -7,7 +7,7 @@ use native.Mathlib.Omega.{arith}
 use Prim.Native.Nat.{_+_, _-_, _*_, _≤_}
 use mathlib.Core.Path.{_≡_, refl}
 use lib.ListN.{length, drop}
-use Rattle.definition.specs.Base.{sum}
+use Rattle.prelude.specs.Base.{sum}
 use Rattle.file_blocks.proofs.BlockLaws.{sum-start, sum-more, sum-end}
 
 abbrev Inv-loop : tie.InvT-loop

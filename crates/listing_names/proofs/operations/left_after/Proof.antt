@@ -5,7 +5,7 @@ use Rattle.listing_names.proofs.operations.left_after.Reads as reads
 use Rattle.listing_names.proofs.operations.left_after.Lts as lts
 use Rattle.listing_names.specs.Words.{leftAfter}
 use borrow.Author.Tests.{eq-eqb, ne-eqb}
-use Rattle.definition.specs.Base.{if_then_else_}
+use Rattle.prelude.specs.Base.{if_then_else_}
 use native.Mathlib.Omega.{arith}
 
 returns : tie.Need-returns

@@ -10,7 +10,7 @@ use native.Mathlib.Omega.{arith}
 use mathlib.Core.Path.{_∙_, refl}
 use Rattle.listing_names.specs.Operations.{operationText, operationNames}
 use Rattle.definition.specs.Spellings.{bytesOf}
-use Rattle.definition.specs.Base.{if_then_else_}
+use Rattle.prelude.specs.Base.{if_then_else_}
 use Rattle.listing_names.specs.Words.{first, widest}
 
 word-requires : tie.Need-word-requires
