@@ -4,7 +4,6 @@ use mathlib.Core.List.{List, [], _∷_}
 use Rattle.definition.specs.Operations.{Operation}
 use Rattle.definition.specs.Refusals.{Refusal}
 use Rattle.definition.specs.Value.{Kind, ActionKind, ExportKind}
-use Rattle.definition.specs.Scope.{SymbolKind}
 
 unfoldable pub operations : List Operation
 operations =
@@ -44,11 +43,6 @@ unfoldable pub actionKinds : List ActionKind
 actionKinds =
     ActionKind.Op Operation.IntMul ∷ ActionKind.AddressOf ∷ ActionKind.LoadRegister ∷ ActionKind.StoreRegister
     ∷ ActionKind.DelaySlot ∷ ActionKind.Build ∷ []
-
-unfoldable pub symbolKinds : List SymbolKind
-symbolKinds =
-    SymbolKind.Space ∷ SymbolKind.Register ∷ SymbolKind.BitRange ∷ SymbolKind.Table ∷ SymbolKind.UserOp
-    ∷ SymbolKind.Macro ∷ SymbolKind.Other ∷ []
 
 unfoldable pub exportKinds : List ExportKind
 exportKinds =

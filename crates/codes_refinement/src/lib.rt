@@ -4,7 +4,6 @@ use codes::action_kind;
 use codes::export_kind;
 use codes::operation;
 use codes::refusal;
-use codes::symbol_kind;
 use codes::value_kind;
 ghost use mathlib.Core.Path.{_≡_};
 ghost use mathlib.Core.List.{map};
@@ -12,8 +11,7 @@ ghost use Rattle.definition.specs.Operations.{operationNumber};
 ghost use Rattle.definition.specs.Refusals.{refusalNumber};
 ghost use Rattle.definition.specs.Value.{kindNumber};
 ghost use Rattle.definition.specs.ActionList.{actionKindNumber, exportNumber};
-ghost use Rattle.definition.specs.Scope.{symbolNumber};
-ghost use Rattle.codes_refinement.specs.Lists.{operations, refusals, valueKinds, actionKinds, symbolKinds, exportKinds};
+ghost use Rattle.codes_refinement.specs.Lists.{operations, refusals, valueKinds, actionKinds, exportKinds};
 
 fn operations() -> [u64; 61]
     ensures { λ r. ⌜ r ≡ map operationNumber operations ⌝ }
@@ -151,20 +149,6 @@ fn action_kinds() -> [u64; 6]
         action_kind::STORE_REGISTER,
         action_kind::DELAY_SLOT,
         action_kind::BUILD,
-    ]
-}
-
-fn symbol_kinds() -> [u64; 7]
-    ensures { λ r. ⌜ r ≡ map symbolNumber symbolKinds ⌝ }
-{
-    [
-        symbol_kind::SPACE,
-        symbol_kind::REGISTER,
-        symbol_kind::BIT_RANGE,
-        symbol_kind::TABLE,
-        symbol_kind::USER_OP,
-        symbol_kind::MACRO,
-        symbol_kind::OTHER,
     ]
 }
 

@@ -6,14 +6,14 @@ use mathlib.Core.Option.{Option, none, some}
 use lib.ListN.{take, drop, getD, getElem?}
 use lib.Dec.{eqb, leb, ltb}
 use Rattle.prelude.specs.Base.{if_then_else_, _or_, orElse, andThen}
-use Rattle.definition.specs.Refusals.{Refusal, undefined, addressOfNonLocal, addressOfOffset, constantPool, argumentCount, macroInExpression, subpieceArgument, slicePastEnd, constSpace, noDefaultSpace, otherSpace, shiftTooFar}
+use Rattle.definition.specs.Refusals.{addressOfNonLocal, addressOfOffset, constantPool, argumentCount, macroInExpression, subpieceArgument, slicePastEnd, constSpace, noDefaultSpace, otherSpace, shiftTooFar}
 use Rattle.definition.specs.Operations.{Operation}
 use Rattle.definition.specs.Value.{Value, local, constant, withSize, truncate, ActionKind}
-use Rattle.definition.specs.Ast.{PcodeOp, PcodeExpr, Args, noArgs, arg, SpaceKind, Space as SpaceEntry, Section}
+use Rattle.definition.specs.Ast.{PcodeOp, PcodeExpr, Args, noArgs, arg, SpaceKind, Space}
 use Rattle.definition.specs.Spellings.{Inbuilt, translateInbuiltFunc, spellings-opens}
 use Rattle.definition.specs.Sizes.{setSize}
 use Rattle.definition.specs.Walk.{ExprValue, Walk, _>>=_, _>>_, pure, refuse, require, expect, section, sizing, knownSize, sliced, addTmp, outputOr, push, op, opNoOutput}
-use Rattle.definition.specs.Scope.{SymbolKind, Symbol, isSymbol, lookup, lookupKind, resolveIdent, scope-opens}
+use Rattle.definition.specs.Scope.{Symbol, lookup, asSpace, resolveIdent, scope-opens}
 
 -- Masks have the low n bits set, all 64 from n = 64.
 
@@ -134,19 +134,12 @@ asLocal (ExprValue.BitRange v from bits) = none
 
 -- Addresses.
 
-unfoldable pub spaceKind : Option SpaceEntry → Refusal → Walk SpaceKind
-spaceKind (some x) r = pure (x .kind)
-spaceKind none r = refuse r
-
 -- the named space, else the default one
-unfoldable pub resolveSpace : Option ℕ → Walk SpaceKind
+unfoldable pub resolveSpace : Option ℕ → Walk Space
+resolveSpace (some n) = lookup n >>= asSpace
 resolveSpace none = do
   sec ← section
-  spaceKind (andThen (sec .defaultSpace) (getElem? (sec .spaces))) noDefaultSpace
-resolveSpace (some n) = do
-  id ← lookupKind SymbolKind.Space n
-  sec ← section
-  spaceKind (getElem? (sec .spaces) id) undefined
+  expect noDefaultSpace (andThen (sec .defaultSpace) (getElem? (sec .spaces)))
 
 unfoldable pub inConstSpace : Option ℕ → ExprValue → Walk ExprValue
 inConstSpace size (ExprValue.Local v) = pure (ExprValue.Local (withSize (size or v .size) v))
@@ -169,9 +162,9 @@ isName n none = false
 
 unfoldable pub addressIn : Option ℕ → Option ℕ → ExprValue → Walk ExprValue
 addressIn space size x = do
-  kind ← resolveSpace space
+  to ← resolveSpace space
   pointer ← readValue x none
-  reference kind pointer (orElse 0 size)
+  reference (to .kind) pointer (orElse 0 size)
 
 unfoldable pub resolveAddress : Option ℕ → Option ℕ → Walk ExprValue → Walk ExprValue
 resolveAddress space size pointer = do
@@ -282,10 +275,13 @@ subpiece name args = do
 
 unfoldable pub callSymbol : ℕ → Args → Walk (List ExprValue) → Option Symbol → Walk ExprValue
 callSymbol name args resolved none = subpiece name args
-callSymbol name args resolved (some y) =
-    if isSymbol SymbolKind.UserOp y then resolved >>= callUserOp (y .id) else
-    if isSymbol SymbolKind.Macro y then refuse macroInExpression else
-    subpiece name args
+callSymbol name args resolved (some (Symbol.UserOp i)) = resolved >>= callUserOp i
+callSymbol name args resolved (some (Symbol.Macro i m)) = refuse macroInExpression
+callSymbol name args resolved (some (Symbol.Space i x)) = subpiece name args
+callSymbol name args resolved (some (Symbol.Register i x)) = subpiece name args
+callSymbol name args resolved (some (Symbol.BitRange i x)) = subpiece name args
+callSymbol name args resolved (some (Symbol.Table i x)) = subpiece name args
+callSymbol name args resolved (some (Symbol.Other i)) = subpiece name args
 
 unfoldable pub callInbuilt : Inbuilt → Args → Walk (List Value) → Walk ExprValue
 callInbuilt f args values = do
@@ -334,5 +330,5 @@ unfoldable mutual
     pure (v ∷ vs)
 
 unfoldable pub expressions-opens : Unit {0}
-unfolding scope-opens spellings-opens copyTo setStated takeKnown takeStated byteAligned shiftAndMask readSlice readValue readAll sliceRead sliceBits asLocal spaceKind resolveSpace inConstSpace reference isName addressIn resolveAddress translatePcodeOp binary resolveOp passArgs callUserOp argCount asInteger onlyInteger subpiece callSymbol callInbuilt callNamed resolveCall resolveExpr
+unfolding scope-opens spellings-opens copyTo setStated takeKnown takeStated byteAligned shiftAndMask readSlice readValue readAll sliceRead sliceBits asLocal resolveSpace inConstSpace reference isName addressIn resolveAddress translatePcodeOp binary resolveOp passArgs callUserOp argCount asInteger onlyInteger subpiece callSymbol callInbuilt callNamed resolveCall resolveExpr
 expressions-opens = tt

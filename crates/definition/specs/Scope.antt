@@ -1,68 +1,71 @@
 -- THE SCOPE: what a name means, locals and labels; the section's own scope and a macro's.
 use Prim.Native.Nat.{ℕ, suc, _+_}
-use mathlib.Core.Bool.{Bool, true, false, not}
+use mathlib.Core.Bool.{true, false, not}
 use mathlib.Core.List.{List, [], _∷_, _++_, map}
 use mathlib.Core.Option.{Option, none, some}
-use lib.ListN.{getElem?}
 use lib.Dec.{eqb, leb}
 use Rattle.prelude.specs.Base.{if_then_else_, _or_, andThen, isSome, first, base-opens}
 use Rattle.definition.specs.Refusals.{Refusal, undefined, wrongKind, redeclared, tooManyLabels, labelTwice}
 use Rattle.definition.specs.Value.{Kind, Value, local}
 use Rattle.definition.specs.Ast.{Space as SpaceEntry, Register as RegisterEntry, BitRange as BitRangeEntry, Table as TableEntry, Macro as MacroEntry, Field as FieldEntry, Subtable as SubtableEntry, Section}
-use Rattle.definition.specs.Walk.{ExprValue, Label, Scope, State, Env, Outcome, done, Walk, _>>=_, _>>_, pure, refuse, require, expect, section, state, change, withScope, withLabel, addTmp, walk-opens}
+use Rattle.definition.specs.Walk.{ExprValue, Label, Scope, State, Walk, _>>=_, _>>_, pure, refuse, require, section, state, change, withScope, withLabel, addTmp, walk-opens}
 
 unfoldable pub find : {A : Type 0} → ℕ → List (ℕ × A) → Option A
 find n entries = first (λ e. if eqb n (e .0) then some (e .1) else none) entries
 
 -- Globals.
 
-pub data SymbolKind : Type 0 where
-  Space Register BitRange Table UserOp Macro Other : SymbolKind
+-- a symbol: its place in its kind's list, and its entry there
+pub data Symbol : Type 0 where
+  Space : ℕ → SpaceEntry → Symbol
+  Register : ℕ → RegisterEntry → Symbol
+  BitRange : ℕ → BitRangeEntry → Symbol
+  Table : ℕ → TableEntry → Symbol
+  UserOp : ℕ → Symbol
+  Macro : ℕ → MacroEntry → Symbol
+  Other : ℕ → Symbol
 
-unfoldable pub symbolNumber : SymbolKind → ℕ
-symbolNumber SymbolKind.Space = 0
-symbolNumber SymbolKind.Register = 1
-symbolNumber SymbolKind.BitRange = 2
-symbolNumber SymbolKind.Table = 3
-symbolNumber SymbolKind.UserOp = 4
-symbolNumber SymbolKind.Macro = 5
-symbolNumber SymbolKind.Other = 6
-
--- a symbol: its kind, and its place in that kind's list
-pub record Symbol : Type 0 where
-  pub kind : SymbolKind
-  pub id : ℕ
-
-unfoldable pub isSymbol : SymbolKind → Symbol → Bool
-isSymbol k y = eqb (symbolNumber k) (symbolNumber (y .kind))
-
--- the symbols of a list's names, counted from i
-unfoldable pub symbols : SymbolKind → ℕ → List ℕ → List (ℕ × Symbol)
-symbols k i [] = []
-symbols k i (n ∷ ns) = (n, record { kind = k; id = i }) ∷ symbols k (suc i) ns
+-- the symbols of a list's entries by their names, counted from i
+unfoldable pub symbols : {A : Type 0} → (A → ℕ) → (ℕ → A → Symbol) → ℕ → List A → List (ℕ × Symbol)
+symbols name symbol i [] = []
+symbols name symbol i (x ∷ xs) = (name x, symbol i x) ∷ symbols name symbol (suc i) xs
 
 unfoldable pub globals : Section → List (ℕ × Symbol)
 globals sec =
-    symbols SymbolKind.Space 0 (map (λ (x : SpaceEntry). x .name) (sec .spaces))
-    ++ symbols SymbolKind.Register 0 (map (λ (x : RegisterEntry). x .name) (sec .registers))
-    ++ symbols SymbolKind.BitRange 0 (map (λ (x : BitRangeEntry). x .name) (sec .bitRanges))
-    ++ symbols SymbolKind.Table 0 (map (λ (x : TableEntry). x .name) (sec .tables))
-    ++ symbols SymbolKind.UserOp 0 (sec .userOps)
-    ++ symbols SymbolKind.Macro 0 (map (λ (x : MacroEntry). x .name) (sec .macros))
-    ++ symbols SymbolKind.Other 0 (sec .others)
+    symbols (λ (x : SpaceEntry). x .name) Symbol.Space 0 (sec .spaces)
+    ++ symbols (λ (x : RegisterEntry). x .name) Symbol.Register 0 (sec .registers)
+    ++ symbols (λ (x : BitRangeEntry). x .name) Symbol.BitRange 0 (sec .bitRanges)
+    ++ symbols (λ (x : TableEntry). x .name) Symbol.Table 0 (sec .tables)
+    ++ symbols (λ (n : ℕ). n) (λ i n. Symbol.UserOp i) 0 (sec .userOps)
+    ++ symbols (λ (x : MacroEntry). x .name) Symbol.Macro 0 (sec .macros)
+    ++ symbols (λ (n : ℕ). n) (λ i n. Symbol.Other i) 0 (sec .others)
 
 unfoldable pub lookup : ℕ → Walk (Option Symbol)
 lookup n = do
   sec ← section
   pure (find n (globals sec))
 
--- the place of a symbol of that kind
-unfoldable pub lookupKind : SymbolKind → ℕ → Walk ℕ
-lookupKind k n = do
-  found ← lookup n
-  y ← expect undefined found
-  require (isSymbol k y) wrongKind
-  pure (y .id)
+-- the space that was found
+unfoldable pub asSpace : Option Symbol → Walk SpaceEntry
+asSpace none = refuse undefined
+asSpace (some (Symbol.Space i x)) = pure x
+asSpace (some (Symbol.Register i x)) = refuse wrongKind
+asSpace (some (Symbol.BitRange i x)) = refuse wrongKind
+asSpace (some (Symbol.Table i x)) = refuse wrongKind
+asSpace (some (Symbol.UserOp i)) = refuse wrongKind
+asSpace (some (Symbol.Macro i x)) = refuse wrongKind
+asSpace (some (Symbol.Other i)) = refuse wrongKind
+
+-- the place of the table that was found
+unfoldable pub asTable : Option Symbol → Walk ℕ
+asTable none = refuse undefined
+asTable (some (Symbol.Table i x)) = pure i
+asTable (some (Symbol.Space i x)) = refuse wrongKind
+asTable (some (Symbol.Register i x)) = refuse wrongKind
+asTable (some (Symbol.BitRange i x)) = refuse wrongKind
+asTable (some (Symbol.UserOp i)) = refuse wrongKind
+asTable (some (Symbol.Macro i x)) = refuse wrongKind
+asTable (some (Symbol.Other i)) = refuse wrongKind
 
 -- What a name means to an expression, or why not.
 
@@ -70,17 +73,19 @@ pub data Meaning : Type 0 where
   means : ExprValue → Meaning
   wrong : Refusal → Meaning
 
-unfoldable pub registerBits : Option BitRangeEntry → Meaning
-registerBits (some b) = means (ExprValue.BitRange (local Kind.Register (b .register)) (b .firstBit) (b .bitCount))
-registerBits none = wrong undefined
+unfoldable pub registerBits : BitRangeEntry → ExprValue
+registerBits b = ExprValue.BitRange (local Kind.Register (b .register)) (b .firstBit) (b .bitCount)
 
 -- a global register or bit range
-unfoldable pub globalMeaning : Section → Option Symbol → Meaning
-globalMeaning sec none = wrong undefined
-globalMeaning sec (some y) =
-    if isSymbol SymbolKind.Register y then means (ExprValue.Local (local Kind.Register (y .id))) else
-    if isSymbol SymbolKind.BitRange y then registerBits (getElem? (sec .bitRanges) (y .id)) else
-    wrong wrongKind
+unfoldable pub globalMeaning : Option Symbol → Meaning
+globalMeaning none = wrong undefined
+globalMeaning (some (Symbol.Register i x)) = means (ExprValue.Local (local Kind.Register i))
+globalMeaning (some (Symbol.BitRange i b)) = means (registerBits b)
+globalMeaning (some (Symbol.Space i x)) = wrong wrongKind
+globalMeaning (some (Symbol.Table i x)) = wrong wrongKind
+globalMeaning (some (Symbol.UserOp i)) = wrong wrongKind
+globalMeaning (some (Symbol.Macro i x)) = wrong wrongKind
+globalMeaning (some (Symbol.Other i)) = wrong wrongKind
 
 -- a macro parameter, else inst_next, else inst_start, else a local
 unfoldable pub innerMeaning : Section → Scope → ℕ → Option ExprValue
@@ -92,7 +97,7 @@ innerMeaning sec x n =
 
 unfoldable pub meaningOf : Section → Option ExprValue → ℕ → Meaning
 meaningOf sec (some x) n = means x
-meaningOf sec none n = globalMeaning sec (find n (globals sec))
+meaningOf sec none n = globalMeaning (find n (globals sec))
 
 unfoldable pub meaning : ℕ → Walk Meaning
 meaning n = do
@@ -171,5 +176,5 @@ unfoldable pub macroScope : List ℕ → List ExprValue → Scope
 macroScope params args = record { params = bindParams params args []; mapping = []; labels = [] }
 
 unfoldable pub scope-opens : Unit {0}
-unfolding base-opens walk-opens find symbolNumber isSymbol symbols globals lookup lookupKind registerBits globalMeaning innerMeaning meaningOf meaning meant resolveIdent namedTmp labelOr getOrInsertLabel resolveLabel locals sectionScope bindParams macroScope
+unfolding base-opens walk-opens find symbols globals lookup asSpace asTable registerBits globalMeaning innerMeaning meaningOf meaning meant resolveIdent namedTmp labelOr getOrInsertLabel resolveLabel locals sectionScope bindParams macroScope
 scope-opens = tt

@@ -3,16 +3,16 @@ use Prim.Native.Nat.{ℕ, zero, suc, _+_, _*_, _-_, _/_, _%_, _^_}
 use mathlib.Core.Bool.{Bool, true, false, not}
 use mathlib.Core.List.{List, [], _∷_, map}
 use mathlib.Core.Option.{Option, none, some}
-use lib.ListN.{length, take, getElem?}
+use lib.ListN.{length, take}
 use lib.Dec.{eqb, leb, ltb}
 use Rattle.prelude.specs.Base.{if_then_else_, andThen, isSome, position, sum}
-use Rattle.definition.specs.Refusals.{Refusal, tooManyStatements, macroTooDeep, afterExport, undefined, wrongKind, absentTable, delaySlotArgument, macroArguments, storeToNoAddress, jumpToNonLocal, notAssignable, shiftTooFar}
+use Rattle.definition.specs.Refusals.{tooManyStatements, macroTooDeep, afterExport, undefined, wrongKind, absentTable, delaySlotArgument, macroArguments, storeToNoAddress, jumpToNonLocal, notAssignable, shiftTooFar}
 use Rattle.definition.specs.Operations.{Operation}
 use Rattle.definition.specs.Value.{Kind, Value, isKind, constant, ActionKind, ExportKind, Export}
-use Rattle.definition.specs.Ast.{PcodeExpr, Args, JumpLabel, BranchDst, BranchHint, Statement, Macro, Subtable, Section}
+use Rattle.definition.specs.Ast.{PcodeExpr, Args, JumpLabel, BranchDst, BranchHint, Statement, Macro, Subtable}
 use Rattle.definition.specs.Sizes.{Sizing, pointerSize}
 use Rattle.definition.specs.Walk.{ExprValue, State, Walk, _>>=_, _>>_, pure, refuse, require, expect, section, state, change, withScope, withExport, knownSize, sliced, addTmp, push, op, opNoOutput}
-use Rattle.definition.specs.Scope.{SymbolKind, Symbol, isSymbol, lookup, lookupKind, Meaning, means, wrong, meaning, resolveIdent, namedTmp, getOrInsertLabel, resolveLabel, macroScope}
+use Rattle.definition.specs.Scope.{Symbol, lookup, asTable, Meaning, means, wrong, meaning, resolveIdent, namedTmp, getOrInsertLabel, resolveLabel, macroScope}
 use Rattle.definition.specs.Expressions.{mask, setStated, takeStated, byteAligned, readValue, valueOf, readAll, asLocal, resolveAddress, onlyInteger, resolveExpr, resolveArgs, expressions-opens}
 
 -- Targets.
@@ -146,7 +146,7 @@ exportOf x none = do
 
 unfoldable pub build : ℕ → Walk (Unit {0})
 build name = do
-  table ← lookupKind SymbolKind.Table name
+  table ← lookup name >>= asTable
   sec ← section
   i ← expect absentTable (position (λ (x : Subtable). eqb table (x .table)) 0 (sec .subtables))
   push (record { kind = ActionKind.Build; number = i; inputs = []; output = none })
@@ -197,20 +197,21 @@ userOpStatement id args = do
   opNoOutput Operation.PcodeOp id vs
 
 module _ (enter : ℕ → Macro → List ExprValue → Walk (Unit {0})) where
-  unfoldable pub macroStatement : ℕ → Option Macro → Args → Walk (Unit {0})
-  macroStatement id none args = refuse undefined
-  macroStatement id (some m) args = do
+  unfoldable pub macroStatement : ℕ → Macro → Args → Walk (Unit {0})
+  macroStatement id m args = do
     xs ← resolveArgs args
     require (eqb (length (m .params)) (length xs)) macroArguments
     enter id m xs
 
   unfoldable pub symbolStatement : Args → Option Symbol → Walk (Unit {0})
   symbolStatement args none = refuse undefined
-  symbolStatement args (some y) = do
-    sec ← section
-    if isSymbol SymbolKind.UserOp y then userOpStatement (y .id) args else
-        if isSymbol SymbolKind.Macro y then macroStatement (y .id) (getElem? (sec .macros) (y .id)) args else
-        refuse wrongKind
+  symbolStatement args (some (Symbol.UserOp i)) = userOpStatement i args
+  symbolStatement args (some (Symbol.Macro i m)) = macroStatement i m args
+  symbolStatement args (some (Symbol.Space i x)) = refuse wrongKind
+  symbolStatement args (some (Symbol.Register i x)) = refuse wrongKind
+  symbolStatement args (some (Symbol.BitRange i x)) = refuse wrongKind
+  symbolStatement args (some (Symbol.Table i x)) = refuse wrongKind
+  symbolStatement args (some (Symbol.Other i)) = refuse wrongKind
 
   unfoldable pub callStatement : ℕ → Args → Walk (Unit {0})
   callStatement name args = do

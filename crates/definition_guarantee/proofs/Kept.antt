@@ -263,13 +263,6 @@ unfolding if_then_else_
 keep-if true m r h g = h
 keep-if false m r h g = g
 
--- both branches, with the test's outcome
-pub keep-test : {A : Type 0} {e : Env} {n : ℕ} {P : ℕ → A → Type 0} (b : Bool) (m r : Walk A) → (b ≡ true → Keeps e n P m)
-    → (b ≡ false → Keeps e n P r) → Keeps e n P (if b then m else r)
-unfolding if_then_else_
-keep-test true m r h g = h refl
-keep-test false m r h g = g refl
-
 pub keep-section : {e : Env} {n : ℕ} → Keeps e n (λ k sec. sec ≡ e .section) section
 keep-section = record { keeps = λ s c o. (later-refl, o, refl) }
 

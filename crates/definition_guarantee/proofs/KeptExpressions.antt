@@ -1,82 +1,38 @@
 -- Every expression keeps the state in order, and what it means fits.
 use Prim.Native.Nat.{ℕ, zero, suc, _+_, _*_, _/_, _≤_, _<_}
 use mathlib.Core.Path.{_≡_, refl, sym, _∙_, ap, subst}
-use mathlib.Core.Bool.{Bool, true, false}
-use mathlib.Core.List.{List, [], _∷_, _++_, map}
+use mathlib.Core.List.{List, [], _∷_}
 use mathlib.Core.Option.{Option, none, some}
 use native.Mathlib.Omega.{arith}
 use lib.Dec.{eqb}
-use lib.ListN.{length, take, drop, getElem?, length-take, length-drop}
-use Rattle.prelude.specs.Base.{if_then_else_, _or_, orElse, andThen}
-use Rattle.definition.specs.Refusals.{Refusal, wrongKind}
+use lib.ListN.{length, take, drop, length-take, length-drop}
+use Rattle.prelude.specs.Base.{_or_, orElse, andThen}
+use Rattle.definition.specs.Refusals.{Refusal}
 use Rattle.definition.specs.Operations.{Operation, operationNumber}
 use Rattle.definition.specs.Value.{Kind, Value, local, constant, operationOf}
-use Rattle.definition.specs.Ast.{PcodeExpr, Args, noArgs, arg, SpaceKind, Space as SpaceEntry, Register as RegisterEntry, BitRange as BitRangeEntry, Table as TableEntry, Macro as MacroEntry, Section}
+use Rattle.definition.specs.Ast.{PcodeExpr, Args, noArgs, arg, SpaceKind, BitRange as BitRangeEntry, Section}
 use Rattle.definition.specs.Spellings.{Inbuilt, translateInbuiltFunc}
-use Rattle.definition.specs.Walk.{ExprValue, Scope, State, Env, on, Walk, section, op}
-use Rattle.definition.specs.Scope.{find, SymbolKind, symbolNumber, Symbol, isSymbol, symbols, globals, lookup, lookupKind, Meaning, means, wrong, registerBits, globalMeaning, innerMeaning, meaningOf, meaning, meant, resolveIdent}
-use Rattle.definition.specs.Expressions.{mask, copyTo, setStated, takeKnown, takeStated, shiftAndMask, readSlice, readValue, valueOf, readAll, sliceRead, sliceBits, asLocal, spaceKind, resolveSpace, inConstSpace, reference, addressIn, resolveAddress, Order, asWritten, swapped, translatePcodeOp, binary, resolveOp, passArgs, callUserOp, argCount, subpiece, callSymbol, callInbuilt, callNamed, resolveCall, resolveExpr, resolveArgs, resolveArgValues}
+use Rattle.definition.specs.Walk.{ExprValue, Scope, State, Env, on, Walk, _>>=_, expect, section, op}
+use Rattle.definition.specs.Scope.{find, Symbol, globals, lookup, asSpace, asTable, Meaning, means, wrong, registerBits, globalMeaning, innerMeaning, meaningOf, meaning, meant, resolveIdent}
+use Rattle.definition.specs.Expressions.{mask, copyTo, setStated, takeKnown, takeStated, shiftAndMask, readSlice, readValue, valueOf, readAll, sliceRead, sliceBits, asLocal, resolveSpace, inConstSpace, reference, addressIn, resolveAddress, Order, asWritten, swapped, translatePcodeOp, binary, resolveOp, passArgs, callUserOp, argCount, subpiece, callSymbol, callInbuilt, callNamed, resolveCall, resolveExpr, resolveArgs, resolveArgValues}
 use Rattle.definition.specs.Checker.{numberFits}
 use Rattle.definition_guarantee.specs.Tests.{Each}
-use Rattle.definition_guarantee.proofs.Tests.{never, le-of, eq-of, each-at, each-append, first-from, then-some, chosen, none-some}
+use Rattle.definition_guarantee.proofs.Tests.{le-of, eq-of, each-at, then-some, chosen, none-some}
 use Rattle.definition_guarantee.proofs.Layouts.{laidOut}
 use Rattle.definition_guarantee.proofs.WholeList.{placing}
 use Rattle.definition_guarantee.specs.Limits.{SizeWithin, ExprWithin, ArgsWithin, WithinLimits}
-use Rattle.definition_guarantee.proofs.Kept.{fits-more, Applicable, part, ValueFits, OptionFits, ExprFits, values-more, option-more, expr-more, count, ScopeFits, Kept, later-refl, Keeps, keep-bind, keep-then, keep-pure, keep-refuse, keep-require, keep-expect, keep-if, keep-test, keep-section, keep-setSize, keep-known, keep-sliced, exprs-more}
+use Rattle.definition_guarantee.proofs.Globals.{find-each, FoundPlaced, found-placed}
+use Rattle.definition_guarantee.proofs.Kept.{fits-more, Applicable, part, ValueFits, OptionFits, ExprFits, values-more, option-more, expr-more, count, ScopeFits, Kept, later-refl, Keeps, keep-bind, keep-then, keep-pure, keep-refuse, keep-require, keep-expect, keep-if, keep-section, keep-setSize, keep-known, keep-sliced, exprs-more}
 use Rattle.definition_guarantee.proofs.Pushes.{keep-addTmp, keep-outputOr, keep-push, keep-op, keep-opNoOutput}
 use Rattle.definition_guarantee.proofs.Shapes.{local-fits, constant-fits, copy-applies, right-applies, and-applies, load-applies, user-applies, OrderApplies, operator-applies, inbuilt-applies, arg-applies, address-laid, load-laid}
 
 -- what a name is found to be
-
-pub find-each : {A : Type 0} (P : A → Type 0) (n : ℕ) (xs : List (ℕ × A)) (a : A) → Each (λ (p : ℕ × A). P (p .1)) xs → find n xs ≡ some a
-    → P a
-unfolding find
-find-each {A} P n xs a h e =
-    let q = first-from _ xs a e in
-    subst P (chosen (eqb n (q .1 .0)) (q .1 .1) a (q .3)) (each-at (λ (p : ℕ × A). P (p .1)) xs (q .0) (q .1) h (q .2))
 
 or-some : {A : Type 0} (P : A → Type 0) (x y : Option A) (a : A) → ((b : A) → x ≡ some b → P b) → ((b : A) → y ≡ some b → P b)
     → x or y ≡ some a → P a
 unfolding _or_
 or-some P (some b) y a f g e = f a e
 or-some P none y a f g e = g a e
-
--- a user op's place is below 256
-abbrev pub SymbolFits : Symbol → Type 0
-SymbolFits y = isSymbol SymbolKind.UserOp y ≡ true → y .id < 256
-
-symbols-fit : (k : SymbolKind) (i : ℕ) (ns : List ℕ)
-    → (eqb (symbolNumber SymbolKind.UserOp) (symbolNumber k) ≡ true → i + length ns ≤ 256)
-    → Each (λ (p : ℕ × Symbol). SymbolFits (p .1)) (symbols k i ns)
-unfolding symbols isSymbol
-symbols-fit k i [] h = tt
-symbols-fit k i (n ∷ ns) h = ((λ d. let l = h d in omega arith), symbols-fit k (suc i) ns (λ d. let l = h d in omega arith))
-
-record SymbolsFit (xs : List (ℕ × Symbol)) : Type 0 where
-  fit : Each (λ (p : ℕ × Symbol). SymbolFits (p .1)) xs
-
-join : {xs ys : List (ℕ × Symbol)} → SymbolsFit xs → SymbolsFit ys → SymbolsFit (xs ++ ys)
-join {xs} {ys} f g = record { fit = each-append (λ (p : ℕ × Symbol). SymbolFits (p .1)) xs ys (f .fit) (g .fit) }
-
-of-kind : (k : SymbolKind) (ns : List ℕ) → (eqb (symbolNumber SymbolKind.UserOp) (symbolNumber k) ≡ true → length ns ≤ 256)
-    → SymbolsFit (symbols k 0 ns)
-of-kind k ns h = record { fit = symbols-fit k 0 ns (λ d. let l = h d in omega arith) }
-
-globals-fit : (sec : Section) → WithinLimits sec → SymbolsFit (globals sec)
-unfolding globals symbolNumber
-globals-fit sec w =
-    join (join (join (join (join (join
-    (of-kind SymbolKind.Space (map (λ (x : SpaceEntry). x .name) (sec .spaces)) (λ d. never d))
-    (of-kind SymbolKind.Register (map (λ (x : RegisterEntry). x .name) (sec .registers)) (λ d. never d)))
-    (of-kind SymbolKind.BitRange (map (λ (x : BitRangeEntry). x .name) (sec .bitRanges)) (λ d. never d)))
-    (of-kind SymbolKind.Table (map (λ (x : TableEntry). x .name) (sec .tables)) (λ d. never d)))
-    (of-kind SymbolKind.UserOp (sec .userOps) (λ d. w .userOps)))
-    (of-kind SymbolKind.Macro (map (λ (x : MacroEntry). x .name) (sec .macros)) (λ d. never d)))
-    (of-kind SymbolKind.Other (sec .others) (λ d. never d))
-
-abbrev pub OptionSymbolFits : Option Symbol → Type 0
-OptionSymbolFits none = Unit {0}
-OptionSymbolFits (some y) = SymbolFits y
 
 -- a location's number that any section allows
 register-fits : (e : Env) (k n : ℕ) → ValueFits e k (local Kind.Register n)
@@ -115,38 +71,50 @@ module _ (e : Env) (w : WithinLimits (e .section)) where
   Meant k (means x) = ExprFits e k x
   Meant k (wrong r) = Unit {0}
 
-  pub keep-lookup : {n : ℕ} (name : ℕ) → Keeps e n (λ k y. OptionSymbolFits y) (lookup name)
+  pub keep-lookup : {n : ℕ} (name : ℕ) → Keeps e n (λ k y. FoundPlaced (e .section) y) (lookup name)
   unfolding lookup
   keep-lookup name = keep-bind _ _ keep-section λ k l sec d. keep-pure _ λ j m. subst
-      (λ (x : Section). OptionSymbolFits (find name (globals x))) (sym d) (go (find name (globals (e .section))) refl)
-    where
-      go : (x : Option Symbol) → find name (globals (e .section)) ≡ x → OptionSymbolFits x
-      go none h = tt
-      go (some y) h = find-each SymbolFits name (globals (e .section)) y (globals-fit (e .section) w .fit) h
+      (λ (x : Section). FoundPlaced (e .section) (find name (globals x))) (sym d)
+      (found-placed (e .section) name (find name (globals (e .section))) refl)
 
-  pub keep-lookupKind : {n : ℕ} (kind : SymbolKind) (name : ℕ) → Keeps e n (λ k y. Unit {0}) (lookupKind kind name)
-  unfolding lookupKind
-  keep-lookupKind kind name = keep-bind _ _ (keep-lookup name) λ k l y p. keep-bind _ _ (keep-expect _ y) λ k l x p. keep-then _ _
-      (keep-require _ _) λ k l p. keep-pure _ λ j m. tt
+  keep-asSpace : {n : ℕ} (y : Option Symbol) → Keeps e n (λ k _. Unit {0}) (asSpace y)
+  unfolding asSpace
+  keep-asSpace none = keep-refuse _
+  keep-asSpace (some (Symbol.Space i x)) = keep-pure _ λ k l. tt
+  keep-asSpace (some (Symbol.Register i x)) = keep-refuse _
+  keep-asSpace (some (Symbol.BitRange i x)) = keep-refuse _
+  keep-asSpace (some (Symbol.Table i x)) = keep-refuse _
+  keep-asSpace (some (Symbol.UserOp i)) = keep-refuse _
+  keep-asSpace (some (Symbol.Macro i x)) = keep-refuse _
+  keep-asSpace (some (Symbol.Other i)) = keep-refuse _
 
-  bits-meant : (k : ℕ) (i : ℕ) (x : Option BitRangeEntry) → getElem? (e .section .bitRanges) i ≡ x → Meant k (registerBits x)
-  unfolding registerBits
-  bits-meant k i none d = tt
-  bits-meant k i (some b) d = (
+  keep-asTable : {n : ℕ} (y : Option Symbol) → Keeps e n (λ k _. Unit {0}) (asTable y)
+  unfolding asTable
+  keep-asTable none = keep-refuse _
+  keep-asTable (some (Symbol.Table i x)) = keep-pure _ λ k l. tt
+  keep-asTable (some (Symbol.Space i x)) = keep-refuse _
+  keep-asTable (some (Symbol.Register i x)) = keep-refuse _
+  keep-asTable (some (Symbol.BitRange i x)) = keep-refuse _
+  keep-asTable (some (Symbol.UserOp i)) = keep-refuse _
+  keep-asTable (some (Symbol.Macro i x)) = keep-refuse _
+  keep-asTable (some (Symbol.Other i)) = keep-refuse _
+
+  pub keep-table : {n : ℕ} (name : ℕ) → Keeps e n (λ k _. Unit {0}) (lookup name >>= asTable)
+  keep-table name = keep-bind _ _ (keep-lookup name) λ k l y p. keep-asTable y
+
+  global-meant : (k : ℕ) (y : Option Symbol) → FoundPlaced (e .section) y → Meant k (globalMeaning y)
+  unfolding globalMeaning registerBits
+  global-meant k none p = tt
+  global-meant k (some (Symbol.Register i x)) p = register-fits e k i
+  global-meant k (some (Symbol.BitRange i b)) p = (
     register-fits e k (b .register),
-    each-at (λ (x : BitRangeEntry). x .bitCount ≤ 8192) (e .section .bitRanges) i b (w .bitRanges) d,
+    each-at (λ (x : BitRangeEntry). x .bitCount ≤ 8192) (e .section .bitRanges) i b (w .bitRanges) p,
   )
-
-  global-meant : (k : ℕ) (y : Option Symbol) → Meant k (globalMeaning (e .section) y)
-  unfolding globalMeaning if_then_else_
-  global-meant k none = tt
-  global-meant k (some y) = go (isSymbol SymbolKind.Register y) (isSymbol SymbolKind.BitRange y)
-    where
-      go : (a b : Bool) → Meant k (if a then means (ExprValue.Local (local Kind.Register (y .id))) else
-          (if b then registerBits (getElem? (e .section .bitRanges) (y .id)) else wrong wrongKind))
-      go true b = register-fits e k (y .id)
-      go false true = bits-meant k (y .id) (getElem? (e .section .bitRanges) (y .id)) refl
-      go false false = tt
+  global-meant k (some (Symbol.Space i x)) p = tt
+  global-meant k (some (Symbol.Table i x)) p = tt
+  global-meant k (some (Symbol.UserOp i)) p = tt
+  global-meant k (some (Symbol.Macro i x)) p = tt
+  global-meant k (some (Symbol.Other i)) p = tt
 
   inner-fits : (k : ℕ) (x : Scope) (name : ℕ) (y : ExprValue) → ScopeFits e k x → innerMeaning (e .section) x name ≡ some y
       → ExprFits e k y
@@ -166,7 +134,9 @@ module _ (e : Env) (w : WithinLimits (e .section)) where
       go : (s : State) → Kept e s → (x : Option ExprValue) → innerMeaning (e .section) (s .scope) name ≡ x
           → Meant (count s) (meaningOf (e .section) x name)
       go s o (some y) d = inner-fits (count s) (s .scope) name y (o .scope) d
-      go s o none d = global-meant (count s) (find name (globals (e .section)))
+      go s o none d =
+          let y = find name (globals (e .section)) in
+          global-meant (count s) y (found-placed (e .section) name y refl)
 
   pub keep-ident : {n : ℕ} (name : ℕ) → Keeps e n (λ k x. ExprFits e k x) (resolveIdent name)
   unfolding resolveIdent meant
@@ -290,16 +260,15 @@ module _ (e : Env) (w : WithinLimits (e .section)) where
 
   -- addresses
 
-  keep-spaceKind : {n : ℕ} (x : Option SpaceEntry) (r : Refusal) → Keeps e n (λ k _. Unit {0}) (spaceKind x r)
-  unfolding spaceKind
-  keep-spaceKind (some x) r = keep-pure _ λ k l. tt
-  keep-spaceKind none r = keep-refuse r
+  keep-given : {A : Type 0} {n : ℕ} (r : Refusal) (x : Option A) → Keeps e n (λ k _. Unit {0}) (expect r x)
+  unfolding expect
+  keep-given r (some a) = keep-pure a λ k l. tt
+  keep-given r none = keep-refuse r
 
   keep-space : {n : ℕ} (x : Option ℕ) → Keeps e n (λ k _. Unit {0}) (resolveSpace x)
   unfolding resolveSpace
-  keep-space none = keep-bind _ _ keep-section λ k l sec d. keep-spaceKind _ _
-  keep-space (some name) = keep-bind _ _ (keep-lookupKind SymbolKind.Space name) λ k l id p. keep-bind _ _ keep-section
-      λ k₁ l₁ sec d. keep-spaceKind _ _
+  keep-space (some name) = keep-bind _ _ (keep-lookup name) λ k l y p. keep-asSpace y
+  keep-space none = keep-bind _ _ keep-section λ k l sec d. keep-given _ _
 
   keep-inConst : {n : ℕ} (z : Option ℕ) (x : ExprValue) → SizeWithin z → ExprFits e n x
       → Keeps e n (λ k y. ExprFits e k y) (inConstSpace z x)
@@ -325,9 +294,9 @@ module _ (e : Env) (w : WithinLimits (e .section)) where
       → Keeps e n (λ k y. ExprFits e k y) (addressIn space z x)
   unfolding addressIn
   keep-addressIn {n} space z x h f =
-      keep-bind _ _ (keep-space space) λ k l kind p.
+      keep-bind _ _ (keep-space space) λ k l to p.
       keep-bind _ _ (keep-read x none (expr-more e n k l x f) tt) λ k₁ l₁ v q.
-      keep-reference kind v (orElse 0 z) h q
+      keep-reference (to .kind) v (orElse 0 z) h q
 
   pub keep-address : {n : ℕ} (space z : Option ℕ) (m : Walk ExprValue) → SizeWithin z → Keeps e n (λ k x. ExprFits e k x) m
       → Keeps e n (λ k y. ExprFits e k y) (resolveAddress space z m)
@@ -400,13 +369,19 @@ module _ (e : Env) (w : WithinLimits (e .section)) where
   abbrev Arguments : ℕ → ℕ → Walk (List ExprValue) → Type 0
   Arguments n c m = (k : ℕ) → n ≤ k → Keeps e k (Exprs c) m
 
-  keep-callSymbol : {n : ℕ} (name : ℕ) (xs : Args) (m : Walk (List ExprValue)) (y : Option Symbol) → argCount xs ≤ 8 → OptionSymbolFits y
+  keep-callSymbol : {n : ℕ} (name : ℕ) (xs : Args) (m : Walk (List ExprValue)) (y : Option Symbol) → argCount xs ≤ 8 → FoundPlaced (e .section) y
       → Arguments n (argCount xs) m → Keeps e n (λ k y. ExprFits e k y) (callSymbol name xs m y)
   unfolding callSymbol
   keep-callSymbol name xs m none c h f = keep-subpiece name xs
-  keep-callSymbol {n} name xs m (some y) c h f =
-      keep-test _ _ _ (λ d. keep-bind _ _ (f n (omega arith)) λ k l zs p. keep-userOp (y .id) zs (h d) (rw (p .1) c) (p .0))
-      (λ d. keep-if _ _ _ (keep-refuse _) (keep-subpiece name xs))
+  keep-callSymbol {n} name xs m (some (Symbol.UserOp i)) c h f =
+      let s = w .userOps in
+      keep-bind _ _ (f n (omega arith)) λ k l zs p. keep-userOp i zs (omega arith) (rw (p .1) c) (p .0)
+  keep-callSymbol name xs m (some (Symbol.Macro i x)) c h f = keep-refuse _
+  keep-callSymbol name xs m (some (Symbol.Space i x)) c h f = keep-subpiece name xs
+  keep-callSymbol name xs m (some (Symbol.Register i x)) c h f = keep-subpiece name xs
+  keep-callSymbol name xs m (some (Symbol.BitRange i x)) c h f = keep-subpiece name xs
+  keep-callSymbol name xs m (some (Symbol.Table i x)) c h f = keep-subpiece name xs
+  keep-callSymbol name xs m (some (Symbol.Other i)) c h f = keep-subpiece name xs
 
   keep-callInbuilt : {n : ℕ} (f : Inbuilt) (xs : Args) (m : Walk (List Value)) → Applicable (f .op) 0 (f .arguments)
       → ((k : ℕ) → n ≤ k → Keeps e k (Values (argCount xs)) m) → Keeps e n (λ k y. ExprFits e k y) (callInbuilt f xs m)

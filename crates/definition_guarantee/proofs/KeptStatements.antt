@@ -1,6 +1,6 @@
 -- Every statement, and so the whole walk, keeps the state in order.
 use Prim.Native.Nat.{ℕ, zero, suc, _+_, _/_, _≤_, _<_}
-use mathlib.Core.Path.{_≡_, refl, sym, ap, subst}
+use mathlib.Core.Path.{_≡_, refl, subst}
 use mathlib.Core.Bool.{Bool, true, false}
 use mathlib.Core.List.{List, [], _∷_}
 use mathlib.Core.Option.{Option, none, some}
@@ -14,7 +14,7 @@ use Rattle.definition.specs.Value.{Kind, kindNumber, Value, isKind, constant, o
 use Rattle.definition.specs.Ast.{PcodeExpr, Args, JumpLabel, BranchDst, BranchHint, Statement, Macro, Field, Subtable, Section}
 use Rattle.definition.specs.Sizes.{pointerSize}
 use Rattle.definition.specs.Walk.{ExprValue, Label, Env, Walk, _>>=_, refuse, section, state, change, withExport}
-use Rattle.definition.specs.Scope.{SymbolKind, Symbol, Meaning, means, wrong}
+use Rattle.definition.specs.Scope.{Symbol, Meaning, means, wrong}
 use Rattle.definition.specs.Expressions.{mask, resolveExpr, argCount}
 use Rattle.definition.specs.Statements.{Destination, asDestination, asName, targetName, dstMeaning, dstNamed, resolveDst, store, maskBut, writeBits, readTo, copyInto, asReference, storeRegister, storeIn, storeAt, exportOf, build, hintNumber, jumpValue, directAddress, resolveBranch, delaySlot, userOpStatement, macroStatement, symbolStatement, callStatement, resolveStatement, begun, counted, begin, resolveAll, enterMacro, resolveBody}
 use Rattle.definition.specs.Checker.{numberFits}
@@ -23,10 +23,11 @@ use Rattle.definition_guarantee.proofs.Tests.{never, each-at, then-some
 use Rattle.definition_guarantee.proofs.Layouts.{laidOut}
 use Rattle.definition_guarantee.proofs.WholeList.{placing, build-laid}
 use Rattle.definition_guarantee.specs.Limits.{SizeWithin, ExprWithin, ArgsWithin, JumpWithin, DestinationWithin, StatementWithin, WithinLimits}
-use Rattle.definition_guarantee.proofs.Kept.{small-section, fits-more, ValueFits, ExprFits, expr-more, later-refl, Keeps, keep-bind, keep-then, keep-pure, keep-refuse, keep-require, keep-expect, keep-if, keep-test, keep-section, keep-known, keep-sliced, exprs-more, keep-untouched}
+use Rattle.definition_guarantee.proofs.Globals.{FoundPlaced}
+use Rattle.definition_guarantee.proofs.Kept.{small-section, fits-more, ValueFits, ExprFits, expr-more, later-refl, Keeps, keep-bind, keep-then, keep-pure, keep-refuse, keep-require, keep-expect, keep-if, keep-section, keep-known, keep-sliced, exprs-more, keep-untouched}
 use Rattle.definition_guarantee.proofs.Pushes.{keep-addTmp, keep-push, keep-op, keep-opNoOutput}
 use Rattle.definition_guarantee.proofs.Shapes.{constant-fits, left-applies, and-applies, or-applies, extend-applies, store-applies, branch-applies, goto-applies, invalid-applies, call-applies, store-laid, delay-laid}
-use Rattle.definition_guarantee.proofs.KeptExpressions.{keep-expr, keep-args, OptionSymbolFits, as-local, keep-lookup, keep-lookupKind, keep-meaning, keep-ident, keep-setStated, keep-takeStated, keep-read, keep-valueOf, keep-readAll, keep-address}
+use Rattle.definition_guarantee.proofs.KeptExpressions.{keep-expr, keep-args, as-local, keep-lookup, keep-table, keep-meaning, keep-ident, keep-setStated, keep-takeStated, keep-read, keep-valueOf, keep-readAll, keep-address}
 use Rattle.definition_guarantee.proofs.KeptLabels.{keep-label, keep-placed, keep-namedTmp, keep-macro}
 
 -- nothing more is known of a statement
@@ -212,7 +213,7 @@ module _ (e : Env) (w : WithinLimits (e .section)) where
   keep-build : {n : ℕ} (name : ℕ) → Keeps e n Nothing (build name)
   unfolding build placing orElse andThen operationOf
   keep-build {n} name =
-      keep-bind _ _ (keep-lookupKind e w SymbolKind.Table name) λ k l t _.
+      keep-bind _ _ (keep-table e w name) λ k l t _.
       keep-bind _ _ keep-section λ k₁ l₁ sec d.
       keep-bind _ _ (keep-expect _ _) λ k₂ l₂ i p.
       keep-push _ (laidOut (build-laid k₂ _ i (subst (λ (x : Section). i < length (x .subtables)) d
@@ -285,25 +286,26 @@ module _ (e : Env) (w : WithinLimits (e .section)) where
       → Keeps e n Nothing (enter id m xs)
 
   module _ (enter : ℕ → Macro → List ExprValue → Walk (Unit {0})) (enters : Enters enter) where
-    keep-macroStatement : {n : ℕ} (id : ℕ) (x : Option Macro) (xs : Args) → getElem? (e .section .macros) id ≡ x → ArgsWithin xs
-        → Keeps e n Nothing (macroStatement enter id x xs)
+    keep-macroStatement : {n : ℕ} (id : ℕ) (m : Macro) (xs : Args) → getElem? (e .section .macros) id ≡ some m → ArgsWithin xs
+        → Keeps e n Nothing (macroStatement enter id m xs)
     unfolding macroStatement
-    keep-macroStatement id none xs d a = keep-refuse _
-    keep-macroStatement {n} id (some m) xs d a =
+    keep-macroStatement {n} id m xs d a =
         keep-bind _ _ (keep-args e w xs a n) λ k l ys p.
         keep-then _ _ (keep-require _ _) λ k₁ l₁ q.
         enters id m ys k₁ (each-at (λ (x : Macro). Each StatementWithin (x .body)) (e .section .macros) id m (w .macros) d)
         (exprs-more e k k₁ l₁ ys (p .0))
 
-    keep-symbolStatement : {n : ℕ} (xs : Args) (y : Option Symbol) → OptionSymbolFits y → argCount xs ≤ 8 → ArgsWithin xs
+    keep-symbolStatement : {n : ℕ} (xs : Args) (y : Option Symbol) → FoundPlaced (e .section) y → argCount xs ≤ 8 → ArgsWithin xs
         → Keeps e n Nothing (symbolStatement enter xs y)
     unfolding symbolStatement
     keep-symbolStatement xs none h c a = keep-refuse _
-    keep-symbolStatement xs (some y) h c a =
-        keep-bind _ _ keep-section λ k l sec d.
-        keep-test _ _ _ (λ q. keep-userOpStatement (y .id) xs (h q) c a)
-        (λ q. keep-if _ _ _ (keep-macroStatement (y .id) (getElem? (sec .macros) (y .id)) xs
-        (ap (λ (x : Section). getElem? (x .macros) (y .id)) (sym d)) a) (keep-refuse _))
+    keep-symbolStatement xs (some (Symbol.UserOp i)) h c a = let s = w .userOps in keep-userOpStatement i xs (omega arith) c a
+    keep-symbolStatement xs (some (Symbol.Macro i m)) h c a = keep-macroStatement i m xs h a
+    keep-symbolStatement xs (some (Symbol.Space i x)) h c a = keep-refuse _
+    keep-symbolStatement xs (some (Symbol.Register i x)) h c a = keep-refuse _
+    keep-symbolStatement xs (some (Symbol.BitRange i x)) h c a = keep-refuse _
+    keep-symbolStatement xs (some (Symbol.Table i x)) h c a = keep-refuse _
+    keep-symbolStatement xs (some (Symbol.Other i)) h c a = keep-refuse _
 
     keep-callStatement : {n : ℕ} (name : ℕ) (xs : Args) → argCount xs ≤ 8 → ArgsWithin xs
         → Keeps e n Nothing (callStatement enter name xs)

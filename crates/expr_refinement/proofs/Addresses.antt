@@ -1,6 +1,6 @@
 -- The place that a pointer in a space refers to, as the definition has it.
 use Prim.Native.Nat.{ℕ, zero, suc, _+_, _*_, _%_, _≤_, _<_}
-use mathlib.Core.Path.{_≡_, refl, sym, subst}
+use mathlib.Core.Path.{_≡_, refl, sym, _∙_, subst}
 use mathlib.Core.Bool.{Bool, true, false}
 use mathlib.Core.List.{List}
 use mathlib.Core.Option.{Option, none, some}
@@ -13,9 +13,9 @@ use Rattle.prelude.specs.Base as definition
 use Rattle.prelude.specs.Base.{_or_, orElse, andThen, base-opens, if_then_else_}
 use Rattle.definition.specs.Refusals.{Refusal, refusalNumber, undefined, wrongKind, noDefaultSpace}
 use Rattle.definition.specs.Value.{Value}
-use Rattle.definition.specs.Ast.{SpaceKind}
-use Rattle.definition.specs.Walk.{ExprValue, State, Env, Outcome, done, stopped, on, require, expect}
-use Rattle.definition.specs.Scope.{find, SymbolKind, symbolNumber, Symbol, isSymbol, globals, lookup, lookupKind}
+use Rattle.definition.specs.Ast.{SpaceKind, Space as SpaceEntry}
+use Rattle.definition.specs.Walk.{ExprValue, State, Env, Outcome, done, stopped, on, expect}
+use Rattle.definition.specs.Scope.{find, Symbol, globals, lookup, asSpace}
 use Rattle.definition.specs.Expressions as d
 use Rattle.definition.specs.ActionList.{orNone}
 use Rattle.list_values.specs.declared.value.Value.{Value as WordValue}
@@ -25,6 +25,8 @@ use Rattle.list_pushes.specs.declared.push.Read.{Read}
 use Rattle.list_values.specs.Sizes.{entry}
 use Rattle.list_pushes.specs.Pushes.{ReadOut, read}
 use Rattle.file_refinement.specs.Holds.{Holds, spaceAt, spaceKind, symbolWord, absentAt}
+use Rattle.definition_guarantee.proofs.Tests.{some-same}
+use Rattle.definition_guarantee.proofs.Globals.{place-below, FoundPlaced, found-placed}
 use Rattle.list_refinement.specs.Encoding.{encV, Sound}
 use Rattle.list_refinement.proofs.Seen.{yes, no, seenRead}
 use Rattle.expr_terms.specs.declared.answers.Expr.{Expr}
@@ -35,7 +37,7 @@ use Rattle.expr_terms.specs.Addresses.{orSize, inConstSpace, kindOfSpace, space
 use Rattle.expr_refinement.proofs.Encodings.{encX, Small, SoundX, count, Stood}
 use Rattle.expr_refinement.proofs.Answers.{bind, acts, temps, word, seenExpr, refines-stopped}
 use Rattle.expr_refinement.proofs.Below.{Spare, Below}
-use Rattle.expr_refinement.proofs.Scopes.{eqb-swap, global-is, symbol-placed, Placed, word-nonzero, word-kind, word-place}
+use Rattle.expr_refinement.proofs.Scopes.{eqb-swap, global-is, word-nonzero, word-kind, word-place}
 use Rattle.expr_refinement.proofs.Reading.{read-operand}
 use Rattle.expr_refinement.proofs.Slices.{Means, means-done}
 
@@ -52,8 +54,8 @@ kind-of (suc zero) = register
 kind-of (suc (suc n)) = let p : suc (suc n) ≡ 2 + n = omega arith in subst (IsKind SpaceKind.OtherSpace) (sym p) (other n)
 
 -- what the words find is what the definition's walk finds
-pub data Finds (st : State) : Space → Outcome SpaceKind → Type 0 where
-  found : (k : SpaceKind) (n : ℕ) → IsKind k n → Finds st (Space.Kind n) (done k st)
+pub data Finds (st : State) : Space → Outcome SpaceEntry → Type 0 where
+  found : (x : SpaceEntry) (n : ℕ) → IsKind (x .kind) n → Finds st (Space.Kind n) (done x st)
   lost : (r : Refusal) (n : ℕ) → n ≡ refusalNumber r → Finds st (Space.No n) (stopped r (st .sizing .begun) 0)
 
 or-size : (a b : Option ℕ) → Small a → orSize (orNone a) (orNone b) ≡ orNone (a or b)
@@ -80,44 +82,42 @@ module _ (s t : List ℕ) (e : Env) (holds : Holds s t (e .section)) (st : State
       let q : i * 5 % 1048576 ≡ 5 * i = omega arith in
       rw (p, q)
 
-  space-finds : (i : ℕ) → i < length (e .section .spaces) → (r : Refusal) → Finds st (kindOfSpace s t i) (d.spaceKind (getElem? (e .section .spaces) i) r e st)
-  unfolding kindOfSpace d.spaceKind spaceAt
-  space-finds i h r =
+  space-finds : (i : ℕ) (x : SpaceEntry) → getElem? (e .section .spaces) i ≡ some x → Finds st (kindOfSpace s t i) (done x st)
+  unfolding kindOfSpace spaceAt
+  space-finds i x q =
+      let h = place-below (e .section .spaces) i x q in
       let z : getD t 3328 0 + (2 + 3) * i ≡ getD t 3328 0 + 5 * i = omega arith in
-      rw (space-place i h, holds .spaces .element i h, z) (found _ _ (kind-of _))
+      rw (space-place i h, ← some-same (sym (holds .spaces .element i h) ∙ q), z) (found _ _ (kind-of _))
 
-  named-finds : (name : ℕ) (y : Option Symbol) → find name (globals (e .section)) ≡ y
-      → Finds st (spaceOf s t (symbolWord y)) (on e (on e (expect undefined y e st) (λ y. λ e st. on e (require (isSymbol SymbolKind.Space y) wrongKind e st) λ _. λ e st. done (y .id) st)) λ id. λ e st. d.spaceKind (getElem? (e .section .spaces) id) undefined e st)
-  named-finds name none q = unfold spaceOf symbolWord if_then_else_ expect on in lost undefined 22 (unfold refusalNumber in refl)
-  named-finds name (some y) q = by-kind (y .kind) (y .id) (symbol-placed (e .section) name y q)
-    where
-      by-kind : (k : SymbolKind) (i : ℕ) → Placed (e .section) k i
-          → Finds st (spaceOf s t (symbolWord (some (record { kind = k; id = i })))) (on e (on e (expect undefined (some (record { kind = k; id = i })) e st) (λ y. λ e st. on e (require (isSymbol SymbolKind.Space y) wrongKind e st) λ _. λ e st. done (y .id) st)) λ id. λ e st. d.spaceKind (getElem? (e .section .spaces) id) undefined e st)
-      by-kind SymbolKind.Space i h = unfold spaceOf symbolWord if_then_else_ expect on require isSymbol symbolNumber in rw (word-nonzero 0 i, word-kind 0 i (omega arith), word-place 0 i (omega arith)) (space-finds i h undefined)
-      by-kind SymbolKind.Register i h = unfold spaceOf symbolWord if_then_else_ expect on require isSymbol symbolNumber in rw (word-nonzero 1 i, word-kind 1 i (omega arith)) (lost wrongKind 23 (unfold refusalNumber in refl))
-      by-kind SymbolKind.BitRange i h = unfold spaceOf symbolWord if_then_else_ expect on require isSymbol symbolNumber in rw (word-nonzero 2 i, word-kind 2 i (omega arith)) (lost wrongKind 23 (unfold refusalNumber in refl))
-      by-kind SymbolKind.Table i h = unfold spaceOf symbolWord if_then_else_ expect on require isSymbol symbolNumber in rw (word-nonzero 3 i, word-kind 3 i (omega arith)) (lost wrongKind 23 (unfold refusalNumber in refl))
-      by-kind SymbolKind.UserOp i h = unfold spaceOf symbolWord if_then_else_ expect on require isSymbol symbolNumber in rw (word-nonzero 4 i, word-kind 4 i (omega arith)) (lost wrongKind 23 (unfold refusalNumber in refl))
-      by-kind SymbolKind.Macro i h = unfold spaceOf symbolWord if_then_else_ expect on require isSymbol symbolNumber in rw (word-nonzero 5 i, word-kind 5 i (omega arith)) (lost wrongKind 23 (unfold refusalNumber in refl))
-      by-kind SymbolKind.Other i h = unfold spaceOf symbolWord if_then_else_ expect on require isSymbol symbolNumber in rw (word-nonzero 6 i, word-kind 6 i (omega arith)) (lost wrongKind 23 (unfold refusalNumber in refl))
+  named-finds : (y : Option Symbol) → FoundPlaced (e .section) y → Finds st (spaceOf s t (symbolWord y)) (asSpace y e st)
+  unfolding spaceOf symbolWord if_then_else_ asSpace
+  named-finds none h = lost undefined 22 (unfold refusalNumber in refl)
+  named-finds (some (Symbol.Space i x)) h = rw (word-nonzero 0 i, word-kind 0 i (omega arith), word-place 0 i (omega arith)) (space-finds i x h)
+  named-finds (some (Symbol.Register i x)) h = rw (word-nonzero 1 i, word-kind 1 i (omega arith)) (lost wrongKind 23 (unfold refusalNumber in refl))
+  named-finds (some (Symbol.BitRange i x)) h = rw (word-nonzero 2 i, word-kind 2 i (omega arith)) (lost wrongKind 23 (unfold refusalNumber in refl))
+  named-finds (some (Symbol.Table i x)) h = rw (word-nonzero 3 i, word-kind 3 i (omega arith)) (lost wrongKind 23 (unfold refusalNumber in refl))
+  named-finds (some (Symbol.UserOp i)) h = rw (word-nonzero 4 i, word-kind 4 i (omega arith)) (lost wrongKind 23 (unfold refusalNumber in refl))
+  named-finds (some (Symbol.Macro i x)) h = rw (word-nonzero 5 i, word-kind 5 i (omega arith)) (lost wrongKind 23 (unfold refusalNumber in refl))
+  named-finds (some (Symbol.Other i)) h = rw (word-nonzero 6 i, word-kind 6 i (omega arith)) (lost wrongKind 23 (unfold refusalNumber in refl))
 
   default-finds : (b : Bool) → eqb (le16 s 24) 65535 ≡ b → absentAt s 24 ≡ (definition.if_then_else_ b none (some (le16 s 24)))
-      → Finds st (if b then Space.No 39 else kindOfSpace s t (le16 s 24)) (d.spaceKind (andThen (definition.if_then_else_ b none (some (le16 s 24))) (getElem? (e .section .spaces))) noDefaultSpace e st)
-  unfolding if_then_else_ base-opens d.spaceKind
+      → Finds st (if b then Space.No 39 else kindOfSpace s t (le16 s 24)) (expect noDefaultSpace (andThen (definition.if_then_else_ b none (some (le16 s 24))) (getElem? (e .section .spaces))) e st)
+  unfolding if_then_else_ base-opens expect
   default-finds true q h = lost noDefaultSpace 39 (unfold refusalNumber in refl)
   default-finds false q h =
       let g : absentAt s 24 ≡ some (le16 s 24) = h in
       let k : le16 s 24 < le16 s 4 = holds .limits .defaultSpace (le16 s 24) g in
       let l : length (e .section .spaces) ≡ le16 s 4 = holds .spaces .count in
-      space-finds (le16 s 24) (omega arith) noDefaultSpace
+      let x = holds .spaces .element (le16 s 24) (omega arith) in
+      rw x (space-finds (le16 s 24) _ x)
 
   pub space-found : (space : Option ℕ) → ((y : ℕ) → space ≡ some y → y < 1024) → Finds st (resolveSpace s t (orNone space)) (d.resolveSpace space e st)
-  unfolding resolveSpace d.resolveSpace orNone orElse if_then_else_ defaultSpace namedSpace lookupKind lookup on
+  unfolding resolveSpace d.resolveSpace orNone orElse if_then_else_ defaultSpace namedSpace lookup on
   space-found none h =
-      subst (λ (x : Option ℕ). Finds st (if eqb (le16 s 24) 65535 then Space.No 39 else kindOfSpace s t (le16 s 24)) (d.spaceKind (andThen x (getElem? (e .section .spaces))) noDefaultSpace e st)) (sym (holds .defaultSpace)) (default-finds (eqb (le16 s 24) 65535) refl refl)
+      subst (λ (x : Option ℕ). Finds st (if eqb (le16 s 24) 65535 then Space.No 39 else kindOfSpace s t (le16 s 24)) (expect noDefaultSpace (andThen x (getElem? (e .section .spaces))) e st)) (sym (holds .defaultSpace)) (default-finds (eqb (le16 s 24) 65535) refl refl)
   space-found (some n) h =
       let k = h n refl in
-      rw (ne-eqb n 65535 (λ q. omega arith), global-is s t (e .section) holds n k) (named-finds n (find n (globals (e .section))) refl)
+      rw (ne-eqb n 65535 (λ q. omega arith), global-is s t (e .section) holds n k) (named-finds (find n (globals (e .section))) (found-placed (e .section) n _ refl))
 
   pub const-is : (space : Option ℕ) → ((y : ℕ) → space ≡ some y → y < 1024) → eqb (orNone space) (le16 s 30) ≡ d.isName (e .section .const) space
   unfolding orNone orElse d.isName
@@ -183,8 +183,8 @@ module _ (s t : List ℕ) (e : Env) (front tail marks rest : List ℕ) (we : Wor
   unfolding addressIn d.addressIn
   address-in st f space size x k l h = go (resolveSpace s t (orNone space)) (d.resolveSpace space e st) (space-found s t e holds st space k)
     where
-      go : (y : Space) (o : Outcome SpaceKind) → Finds st y o → Answers st (inSpace y s t (A st) (M st) we (orNone size) (encX x) next (W st)) (on e o (λ kind. λ e st. on e (d.readValue x none e st) λ pointer. d.reference kind pointer (orElse 0 size)))
-      go y o (found k n i) = unfold inSpace on in referred st f k n i size x l h
+      go : (y : Space) (o : Outcome SpaceEntry) → Finds st y o → Answers st (inSpace y s t (A st) (M st) we (orNone size) (encX x) next (W st)) (on e o (λ to. λ e st. on e (d.readValue x none e st) λ pointer. d.reference (to .kind) pointer (orElse 0 size)))
+      go y o (found to n i) = unfold inSpace on in referred st f (to .kind) n i size x l h
       go y o (lost r n q) = unfold inSpace on in refused st n r q
 
   -- the place that a pointer, already resolved, refers to

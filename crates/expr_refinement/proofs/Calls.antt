@@ -15,7 +15,7 @@ use Rattle.definition.specs.Ast.{Args, Section}
 use Rattle.definition.specs.Spellings.{translateInbuiltFunc}
 use Rattle.definition.specs.Walk as w
 use Rattle.definition.specs.Walk.{ExprValue, State, Env, Outcome, done, stopped, on, Walk, require, expect}
-use Rattle.definition.specs.Scope.{find, SymbolKind, symbolNumber, Symbol, isSymbol, globals, Meaning, means, wrong, innerMeaning, meaningOf, meaning, meant, resolveIdent}
+use Rattle.definition.specs.Scope.{find, Symbol, globals, Meaning, means, wrong, innerMeaning, meaningOf, meaning, meant, resolveIdent}
 use Rattle.definition.specs.Expressions as d
 use Rattle.list_values.specs.declared.value.Value.{Value as WordValue}
 use Rattle.list_pushes.specs.declared.push.State.{State as WordState}
@@ -67,24 +67,24 @@ on-assoc e (stopped r ordinal errors) f g = refl
 -- a user op, a macro or none of these
 unfoldable pub symbolCallee : Option Symbol → Callee
 symbolCallee none = callee 3 0
-symbolCallee (some y) =
-    if isSymbol SymbolKind.UserOp y then callee 1 (y .id) else
-    if isSymbol SymbolKind.Macro y then callee 2 34 else
-    callee 3 0
+symbolCallee (some (Symbol.UserOp i)) = callee 1 i
+symbolCallee (some (Symbol.Macro i x)) = callee 2 34
+symbolCallee (some (Symbol.Space i x)) = callee 3 0
+symbolCallee (some (Symbol.Register i x)) = callee 3 0
+symbolCallee (some (Symbol.BitRange i x)) = callee 3 0
+symbolCallee (some (Symbol.Table i x)) = callee 3 0
+symbolCallee (some (Symbol.Other i)) = callee 3 0
 
 symbol-callee : (y : Option Symbol) → symbolOf (symbolWord y) ≡ symbolCallee y
 unfolding symbolOf symbolWord symbolCallee if_then_else_
 symbol-callee none = refl
-symbol-callee (some y) = kind (y .kind) (y .id)
-  where
-    kind : (k : SymbolKind) (i : ℕ) → symbolOf (1 + symbolNumber k + 8 * i) ≡ symbolCallee (some (record { kind = k; id = i }))
-    kind SymbolKind.Space i = unfold symbolOf symbolCallee if_then_else_ symbolNumber isSymbol in rw (word-nonzero 0 i, word-kind 0 i (omega arith))
-    kind SymbolKind.Register i = unfold symbolOf symbolCallee if_then_else_ symbolNumber isSymbol in rw (word-nonzero 1 i, word-kind 1 i (omega arith))
-    kind SymbolKind.BitRange i = unfold symbolOf symbolCallee if_then_else_ symbolNumber isSymbol in rw (word-nonzero 2 i, word-kind 2 i (omega arith))
-    kind SymbolKind.Table i = unfold symbolOf symbolCallee if_then_else_ symbolNumber isSymbol in rw (word-nonzero 3 i, word-kind 3 i (omega arith))
-    kind SymbolKind.UserOp i = unfold symbolOf symbolCallee if_then_else_ symbolNumber isSymbol in rw (word-nonzero 4 i, word-kind 4 i (omega arith), word-place 4 i (omega arith))
-    kind SymbolKind.Macro i = unfold symbolOf symbolCallee if_then_else_ symbolNumber isSymbol in rw (word-nonzero 5 i, word-kind 5 i (omega arith))
-    kind SymbolKind.Other i = unfold symbolOf symbolCallee if_then_else_ symbolNumber isSymbol in rw (word-nonzero 6 i, word-kind 6 i (omega arith))
+symbol-callee (some (Symbol.Space i x)) = rw (word-nonzero 0 i, word-kind 0 i (omega arith))
+symbol-callee (some (Symbol.Register i x)) = rw (word-nonzero 1 i, word-kind 1 i (omega arith))
+symbol-callee (some (Symbol.BitRange i x)) = rw (word-nonzero 2 i, word-kind 2 i (omega arith))
+symbol-callee (some (Symbol.Table i x)) = rw (word-nonzero 3 i, word-kind 3 i (omega arith))
+symbol-callee (some (Symbol.UserOp i)) = rw (word-nonzero 4 i, word-kind 4 i (omega arith), word-place 4 i (omega arith))
+symbol-callee (some (Symbol.Macro i x)) = rw (word-nonzero 5 i, word-kind 5 i (omega arith))
+symbol-callee (some (Symbol.Other i)) = rw (word-nonzero 6 i, word-kind 6 i (omega arith))
 
 getD-some : {A : Type 0} (l : List A) (i : ℕ) (a z : A) → getElem? l i ≡ some a → getD l i z ≡ a
 getD-some [] i a z h = let q : _≡_ {A = ℕ} 0 1 = cc in absurd (omega arith)

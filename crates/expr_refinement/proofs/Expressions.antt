@@ -22,7 +22,7 @@ use Rattle.definition.specs.Walk as w
 use Rattle.definition.specs.Walk.{ExprValue, State, Env, Outcome, done, stopped, on, expect}
 use Rattle.definition.specs.Scope as scope
 use Rattle.definition.specs.Spellings.{Inbuilt, translateInbuiltFunc}
-use Rattle.definition.specs.Scope.{find, SymbolKind, Symbol, isSymbol, globals, Meaning, means, wrong, meaning, meant}
+use Rattle.definition.specs.Scope.{find, Symbol, globals, Meaning, means, wrong, meaning, meant}
 use Rattle.definition.specs.Expressions as d
 use Rattle.definition.specs.ActionList.{orNone}
 use Rattle.list_values.specs.declared.value.Value.{Value as WordValue}
@@ -492,14 +492,15 @@ module _ (s t : List ℕ) (e : Env) (p front tail marks rest : List ℕ) (we : W
 
         symbol-case : pos + 4 ≤ length s → (y : Option Symbol)
             → Answers next st (words.callNamed (resolveExpr deep s t p we) s t p we pos (le16 s (pos + 1)) num (symbolCallee y) (A st) (M st) (W st)) (d.callSymbol (le16 s (pos + 1)) (i .args) (d.resolveArgs (i .args)) y e st)
-        symbol-case l none = unfold words.callNamed symbolCallee if_then_else_ d.callSymbol in piece-case l
-        symbol-case l (some y) = unfold symbolCallee d.callSymbol in by (isSymbol SymbolKind.UserOp y) (isSymbol SymbolKind.Macro y)
-          where
-            by : (a b : Bool) → Answers next st (words.callNamed (resolveExpr deep s t p we) s t p we pos (le16 s (pos + 1)) num (if a then calls.callee 1 (y .id) else (if b then calls.callee 2 34 else calls.callee 3 0)) (A st) (M st) (W st))
-                ((definition.if_then_else_ a (λ e1 st1. on e1 (d.resolveArgs (i .args) e1 st1) (d.callUserOp (y .id))) (definition.if_then_else_ b (w.refuse macroInExpression) (d.subpiece (le16 s (pos + 1)) (i .args)))) e st)
-            by true b = unfold words.callNamed if_then_else_ base-opens in user-case (y .id) l
-            by false true = unfold words.callNamed if_then_else_ base-opens in stops next st 34 macroInExpression (unfold refusalNumber in refl)
-            by false false = unfold words.callNamed if_then_else_ base-opens in piece-case l
+        unfolding words.callNamed symbolCallee if_then_else_ d.callSymbol
+        symbol-case l none = piece-case l
+        symbol-case l (some (Symbol.UserOp id)) = user-case id l
+        symbol-case l (some (Symbol.Macro id m)) = stops next st 34 macroInExpression (unfold refusalNumber in refl)
+        symbol-case l (some (Symbol.Space id x)) = piece-case l
+        symbol-case l (some (Symbol.Register id x)) = piece-case l
+        symbol-case l (some (Symbol.BitRange id x)) = piece-case l
+        symbol-case l (some (Symbol.Table id x)) = piece-case l
+        symbol-case l (some (Symbol.Other id)) = piece-case l
 
         -- a built-in function
         one-case : (g : Inbuilt) → ((v : Value) → Applies (g .op) (v ∷ [])) → pos + 4 ≤ length s → num ≡ 1

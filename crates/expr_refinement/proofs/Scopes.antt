@@ -4,24 +4,26 @@ use Prim.Native.Nat.{ℕ, zero, suc, _+_, _-_, _*_, _/_, _%_, _≤_, _<_}
 use mathlib.Core.Path.{_≡_, refl, sym, _∙_, ap, subst}
 use mathlib.Core.Logic.{_≢_, _⊎_, inl, inr}
 use mathlib.Core.Bool.{Bool, true, false}
-use mathlib.Core.List.{List, [], _∷_, _++_, map}
+use mathlib.Core.List.{List, [], _∷_}
 use mathlib.Core.Option.{Option, none, some}
 use native.Mathlib.Omega.{arith}
-use lib.ListN.{length, getD, getElem?, length-map}
+use lib.ListN.{length, getD, getElem?}
 use lib.Dec.{eqb, ltb}
 use borrow.Author.Tests.{eqb-true, eqb-false, ne-eqb, eq-eqb, lt-ltb}
 use Rattle.prelude.specs.Base as definition
 use Rattle.prelude.specs.Base.{_or_, andThen, orElse, first, base-opens, if_then_else_}
 use Rattle.definition.specs.Refusals.{refusalNumber}
 use Rattle.definition.specs.Value.{Kind, kindNumber, Value, local, Temporary}
-use Rattle.definition.specs.Ast.{Space as SpaceEntry, Register as RegisterEntry, BitRange as BitRangeEntry, Table as TableEntry, Macro as MacroEntry, Section}
+use Rattle.definition.specs.Ast.{BitRange as BitRangeEntry, Section}
 use Rattle.definition.specs.Walk.{ExprValue, State, Env, on}
 use Rattle.definition.specs.Scope as d
-use Rattle.definition.specs.Scope.{find, SymbolKind, symbolNumber, Symbol, isSymbol, symbols, globals, Meaning, means, wrong, registerBits, globalMeaning, innerMeaning, meaningOf}
+use Rattle.definition.specs.Scope.{find, Symbol, globals, Meaning, means, wrong, registerBits, globalMeaning, innerMeaning, meaningOf}
 use Rattle.definition.specs.ActionList.{orNone}
 use Rattle.list_pushes.specs.declared.push.Env.{Env as WordEnv}
 use Rattle.list_values.specs.Sizes.{entry}
 use Rattle.file_refinement.specs.Holds.{Holds, bitRangeAt, symbolWord}
+use Rattle.definition_guarantee.proofs.Tests.{some-same}
+use Rattle.definition_guarantee.proofs.Globals.{place-below, FoundPlaced, found-placed}
 use Rattle.list_refinement.specs.Encoding.{encV, temporariesIn, Sound, SoundTmp, Each}
 use Rattle.list_refinement.proofs.Marks.{tmp-at, tmp-name, tmp-mark}
 use Rattle.expr_scope.specs.declared.scope.ExprValue.{ExprValue as WordExpr}
@@ -154,16 +156,6 @@ module _ (s t : List ℕ) (e : Env) (p front tail marks rest : List ℕ) (we : W
 
 -- Globals.
 
--- a symbol's place is within its kind's list
-abbrev pub Placed : Section → SymbolKind → ℕ → Type 0
-Placed sec SymbolKind.Space i = i < length (sec .spaces)
-Placed sec SymbolKind.Register i = i < length (sec .registers)
-Placed sec SymbolKind.BitRange i = i < length (sec .bitRanges)
-Placed sec SymbolKind.Table i = Unit {0}
-Placed sec SymbolKind.UserOp i = Unit {0}
-Placed sec SymbolKind.Macro i = Unit {0}
-Placed sec SymbolKind.Other i = Unit {0}
-
 pub find-each : {A : Type 0} (P : A → Type 0) (n : ℕ) (xs : List (ℕ × A)) (a : A) → Each (λ (x : ℕ × A). P (x .1)) xs → find n xs ≡ some a → P a
 unfolding find first base-opens
 find-each P n [] a h q = let z : _≡_ {A = ℕ} 0 1 = cc in absurd (omega arith)
@@ -172,37 +164,6 @@ find-each {A} P n (x ∷ xs) a h q = go (eqb n (x .0)) (find-each P n xs a (h .1
     go : (b : Bool) → (find n xs ≡ some a → P a) → (definition.if_then_else_ b (some (x .1)) none) or (find n xs) ≡ some a → P a
     go true f q = let r : x .1 ≡ a = cc in subst P r (h .0)
     go false f q = f q
-
-each-both : {A : Type 0} (P : A → Type 0) (xs ys : List A) → Each P xs → Each P ys → Each P (xs ++ ys)
-each-both P [] ys h g = g
-each-both P (x ∷ xs) ys h g = (h .0, each-both P xs ys (h .1) g)
-
-module _ (sec : Section) where
-  record Fits (xs : List (ℕ × Symbol)) : Type 0 where
-    fit : Each (λ (x : ℕ × Symbol). Placed sec (x .1 .kind) (x .1 .id)) xs
-
-  join : (xs ys : List (ℕ × Symbol)) → Fits xs → Fits ys → Fits (xs ++ ys)
-  join xs ys f g = record { fit = each-both _ xs ys (f .fit) (g .fit) }
-
-  of-kind : (k : SymbolKind) (i : ℕ) (ns : List ℕ) → ((j : ℕ) → j < i + length ns → Placed sec k j) → Fits (symbols k i ns)
-  unfolding symbols
-  of-kind k i [] h = record { fit = tt }
-  of-kind k i (n ∷ ns) h = record { fit = (h i (omega arith), of-kind k (suc i) ns (λ j l. h j (omega arith)) .fit) }
-
-  globals-fit : Fits (globals sec)
-  unfolding globals
-  globals-fit =
-      join _ _ (join _ _ (join _ _ (join _ _ (join _ _ (join _ _
-      (of-kind SymbolKind.Space 0 (map (λ (x : SpaceEntry). x .name) (sec .spaces)) (λ j l. omega (arith, length-map (sec .spaces) (λ (x : SpaceEntry). x .name))))
-      (of-kind SymbolKind.Register 0 (map (λ (x : RegisterEntry). x .name) (sec .registers)) (λ j l. omega (arith, length-map (sec .registers) (λ (x : RegisterEntry). x .name)))))
-      (of-kind SymbolKind.BitRange 0 (map (λ (x : BitRangeEntry). x .name) (sec .bitRanges)) (λ j l. omega (arith, length-map (sec .bitRanges) (λ (x : BitRangeEntry). x .name)))))
-      (of-kind SymbolKind.Table 0 (map (λ (x : TableEntry). x .name) (sec .tables)) (λ j l. tt)))
-      (of-kind SymbolKind.UserOp 0 (sec .userOps) (λ j l. tt)))
-      (of-kind SymbolKind.Macro 0 (map (λ (x : MacroEntry). x .name) (sec .macros)) (λ j l. tt)))
-      (of-kind SymbolKind.Other 0 (sec .others) (λ j l. tt))
-
-  pub symbol-placed : (n : ℕ) (y : Symbol) → find n (globals sec) ≡ some y → Placed sec (y .kind) (y .id)
-  symbol-placed n y h = find-each (λ (y : Symbol). Placed sec (y .kind) (y .id)) n (globals sec) y (globals-fit .fit) h
 
 -- the word of a symbol
 pub word-nonzero : (k i : ℕ) → eqb (1 + k + 8 * i) 0 ≡ false
@@ -232,31 +193,25 @@ module _ (s t : List ℕ) (sec : Section) (holds : Holds s t sec) where
       let q : i * 8 % 1048576 ≡ 8 * i = omega arith in
       rw (p, q)
 
-  range-is : (i : ℕ) → i < length (sec .bitRanges) → WordMeaning.Means (bitRange s t i) ≡ encM (registerBits (getElem? (sec .bitRanges) i))
-  unfolding bitRange bitsAt encM encX registerBits kindNumber orNone orElse bitRangeAt
-  range-is i h =
+  range-is : (i : ℕ) (b : BitRangeEntry) → getElem? (sec .bitRanges) i ≡ some b → bitRange s t i ≡ encX (registerBits b)
+  unfolding bitRange bitsAt encX registerBits kindNumber orNone orElse bitRangeAt
+  range-is i b q =
+      let h = place-below (sec .bitRanges) i b q in
       let z : getD t 3330 0 + (2 + 6) * i ≡ getD t 3330 0 + 8 * i = omega arith in
-      let a : getD t 3330 0 + 8 * i + 2 + 2 ≡ getD t 3330 0 + 8 * i + 4 = omega arith in
-      let b : getD t 3330 0 + 8 * i + 2 + 4 ≡ getD t 3330 0 + 8 * i + 6 = omega arith in
-      rw (range-place i h, holds .bitRanges .element i h, a, b)
+      let c : getD t 3330 0 + 8 * i + 2 + 2 ≡ getD t 3330 0 + 8 * i + 4 = omega arith in
+      let d : getD t 3330 0 + 8 * i + 2 + 4 ≡ getD t 3330 0 + 8 * i + 6 = omega arith in
+      rw (range-place i h, ← some-same (sym (holds .bitRanges .element i h) ∙ q), z, c, d)
 
-  module _ (name : ℕ) (y : Option Symbol) (is : find name (globals sec) ≡ y) where
-    pub global-means : words.globalMeaning s t (symbolWord y) ≡ encM (globalMeaning sec y)
-    unfolding words.globalMeaning symbolWord globalMeaning
-    global-means = go y is
-      where
-        kind : (k : SymbolKind) (i : ℕ) → Placed sec k i → words.globalMeaning s t (1 + symbolNumber k + 8 * i) ≡ encM (globalMeaning sec (some (record { kind = k; id = i })))
-        kind SymbolKind.Space i h = unfold if_then_else_ symbolNumber isSymbol base-opens encM refusalNumber in rw (word-nonzero 0 i, word-kind 0 i (omega arith))
-        kind SymbolKind.Register i h = unfold if_then_else_ symbolNumber isSymbol base-opens encM encX kindNumber orNone orElse in rw (word-nonzero 1 i, word-kind 1 i (omega arith), word-place 1 i (omega arith))
-        kind SymbolKind.BitRange i h = unfold if_then_else_ symbolNumber isSymbol base-opens in rw (word-nonzero 2 i, word-kind 2 i (omega arith), word-place 2 i (omega arith)) (range-is i h)
-        kind SymbolKind.Table i h = unfold if_then_else_ symbolNumber isSymbol base-opens encM refusalNumber in rw (word-nonzero 3 i, word-kind 3 i (omega arith))
-        kind SymbolKind.UserOp i h = unfold if_then_else_ symbolNumber isSymbol base-opens encM refusalNumber in rw (word-nonzero 4 i, word-kind 4 i (omega arith))
-        kind SymbolKind.Macro i h = unfold if_then_else_ symbolNumber isSymbol base-opens encM refusalNumber in rw (word-nonzero 5 i, word-kind 5 i (omega arith))
-        kind SymbolKind.Other i h = unfold if_then_else_ symbolNumber isSymbol base-opens encM refusalNumber in rw (word-nonzero 6 i, word-kind 6 i (omega arith))
-
-        go : (y : Option Symbol) → find name (globals sec) ≡ y → words.globalMeaning s t (symbolWord y) ≡ encM (globalMeaning sec y)
-        go none q = unfold if_then_else_ encM refusalNumber in refl
-        go (some y) q = kind (y .kind) (y .id) (symbol-placed sec name y q)
+  pub global-means : (y : Option Symbol) → FoundPlaced sec y → words.globalMeaning s t (symbolWord y) ≡ encM (globalMeaning y)
+  unfolding words.globalMeaning symbolWord globalMeaning if_then_else_ encM refusalNumber
+  global-means none h = refl
+  global-means (some (Symbol.Space i x)) h = rw (word-nonzero 0 i, word-kind 0 i (omega arith))
+  global-means (some (Symbol.Register i x)) h = unfold encX kindNumber orNone orElse in rw (word-nonzero 1 i, word-kind 1 i (omega arith), word-place 1 i (omega arith))
+  global-means (some (Symbol.BitRange i b)) h = rw (word-nonzero 2 i, word-kind 2 i (omega arith), word-place 2 i (omega arith), range-is i b h)
+  global-means (some (Symbol.Table i x)) h = rw (word-nonzero 3 i, word-kind 3 i (omega arith))
+  global-means (some (Symbol.UserOp i)) h = rw (word-nonzero 4 i, word-kind 4 i (omega arith))
+  global-means (some (Symbol.Macro i x)) h = rw (word-nonzero 5 i, word-kind 5 i (omega arith))
+  global-means (some (Symbol.Other i)) h = rw (word-nonzero 6 i, word-kind 6 i (omega arith))
 
 module _ (s t : List ℕ) (e : Env) (p front tail marks rest : List ℕ) (we : WordEnv) (holds : Holds s t (e .section)) (spare : ℕ) (st : State) (scoped : Scoped s t e p front tail marks rest we st) (name : ℕ) (known : name < 1024) where
   inner-is : words.innerMeaning s t (temps (e .section) front tail marks rest st) we (word (e .section) front tail marks rest st) name
@@ -273,7 +228,7 @@ module _ (s t : List ℕ) (e : Env) (p front tail marks rest : List ℕ) (we : W
       go true b v = unfold if_then_else_ base-opens meaningOf encM encX kindNumber orNone orElse in refl
       go false true v = unfold if_then_else_ base-opens meaningOf encM encX kindNumber orNone orElse in refl
       go false false (some v) = unfold if_then_else_ base-opens meaningOf encM encX foundOr encF in refl
-      go false false none = unfold if_then_else_ base-opens meaningOf foundOr encF in global-means s t (e .section) holds name (find name (globals (e .section))) refl
+      go false false none = unfold if_then_else_ base-opens meaningOf foundOr encF in global-means s t (e .section) holds (find name (globals (e .section))) (found-placed (e .section) name _ refl)
 
   pub ident-is : words.resolveIdent s t p (temps (e .section) front tail marks rest st) we (word (e .section) front tail marks rest st) name ≡ encM (meaningOf (e .section) (innerMeaning (e .section) (st .scope) name) name)
   unfolding words.resolveIdent paramOr found innerMeaning words.innerMeaning
@@ -293,24 +248,16 @@ module _ (s t : List ℕ) (e : Env) (p front tail marks rest : List ℕ) (we : W
   SoundM (wrong r) = Unit {0}
 
   module _ (ranges : BitRangesFit (e .section)) (stood : Stood (e .section) tail marks rest spare st) where
-    bits-sound : (i : ℕ) (b : Option BitRangeEntry) → getElem? (e .section .bitRanges) i ≡ b → SoundM (registerBits b)
-    unfolding registerBits
-    bits-sound i none q = tt
-    bits-sound i (some b) q = (record { number = ranges .register i b q; offset = omega arith; size = unfold orElse in omega arith }, ranges .bits i b q)
-
-    global-sound : (y : Option Symbol) → find name (globals (e .section)) ≡ y → SoundM (globalMeaning (e .section) y)
-    unfolding globalMeaning
-    global-sound none q = tt
-    global-sound (some y) q = kind (y .kind) (y .id) (symbol-placed (e .section) name y q)
-      where
-        kind : (k : SymbolKind) (i : ℕ) → Placed (e .section) k i → SoundM (globalMeaning (e .section) (some (record { kind = k; id = i })))
-        kind SymbolKind.Space i h = unfold symbolNumber isSymbol base-opens in tt
-        kind SymbolKind.Register i h = unfold symbolNumber isSymbol base-opens in record { number = h; offset = omega arith; size = omega arith }
-        kind SymbolKind.BitRange i h = unfold symbolNumber isSymbol base-opens in bits-sound i (getElem? (e .section .bitRanges) i) refl
-        kind SymbolKind.Table i h = unfold symbolNumber isSymbol base-opens in tt
-        kind SymbolKind.UserOp i h = unfold symbolNumber isSymbol base-opens in tt
-        kind SymbolKind.Macro i h = unfold symbolNumber isSymbol base-opens in tt
-        kind SymbolKind.Other i h = unfold symbolNumber isSymbol base-opens in tt
+    global-sound : (y : Option Symbol) → FoundPlaced (e .section) y → SoundM (globalMeaning y)
+    unfolding globalMeaning registerBits
+    global-sound none h = tt
+    global-sound (some (Symbol.Space i x)) h = tt
+    global-sound (some (Symbol.Register i x)) h = record { number = place-below (e .section .registers) i x h; offset = omega arith; size = unfold orElse in omega arith }
+    global-sound (some (Symbol.BitRange i b)) h = (record { number = ranges .register i b h; offset = omega arith; size = unfold orElse in omega arith }, ranges .bits i b h)
+    global-sound (some (Symbol.Table i x)) h = tt
+    global-sound (some (Symbol.UserOp i)) h = tt
+    global-sound (some (Symbol.Macro i x)) h = tt
+    global-sound (some (Symbol.Other i)) h = tt
 
     pub meaning-sound : SoundM (meaningOf (e .section) (innerMeaning (e .section) (st .scope) name) name)
     unfolding innerMeaning
@@ -322,7 +269,7 @@ module _ (s t : List ℕ) (e : Env) (p front tail marks rest : List ℕ) (we : W
         go none h true b v k = unfold base-opens meaningOf in record { number = tt; offset = omega arith; size = omega arith }
         go none h false true v k = unfold base-opens meaningOf in record { number = tt; offset = omega arith; size = omega arith }
         go none h false false (some v) k = unfold base-opens meaningOf in find-each (Sound (e .section) (count st)) name (st .scope .mapping) v (stood .mapping) k
-        go none h false false none k = unfold base-opens meaningOf in global-sound (find name (globals (e .section))) refl
+        go none h false false none k = unfold base-opens meaningOf in global-sound (find name (globals (e .section))) (found-placed (e .section) name _ refl)
 
     meant-refines : (next : ℕ) (x : Meaning) → SoundM x
         → Refines (e .section) front tail marks rest spare st (λ (x : ExprValue). (encX x, next)) (SoundX (e .section)) (seenExpr (resolved (meansAt (encM x) next (word (e .section) front tail marks rest st)) (acts (e .section) front tail marks rest st) (temps (e .section) front tail marks rest st))) (d.meant x e st)

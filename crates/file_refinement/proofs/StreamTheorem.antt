@@ -15,7 +15,7 @@ use Rattle.definition.specs.Refusals.{Refusal, refusalNumber}
 use Rattle.definition.specs.Ast.{Space, Register, BitRange, Table, Macro, Section}
 use Rattle.definition.specs.SectionFile.{Parsed, parsed, refused, on}
 use Rattle.definition.specs.SectionFile as d
-use Rattle.definition.specs.Scope.{SymbolKind, symbolNumber, Symbol, symbols, find, globals}
+use Rattle.definition.specs.Scope.{Symbol, symbols, find, globals}
 use Rattle.access.specs.Le.{le16}
 use Rattle.file_syntax.specs.Cursors.{cursor}
 use Rattle.file_section.specs.Names.{Reading, reading, names}
@@ -28,7 +28,7 @@ use Rattle.file_refinement.proofs.Agree.{Agrees, went, stopped, refusal
 use Rattle.file_refinement.proofs.AgreeNames.{headerAt, header-agrees, Fills, goes, stops}
 use Rattle.file_refinement.proofs.AgreeLists.{marked, stampOf}
 use Rattle.file_refinement.proofs.AgreeEntries.{stamp-global, stamp-local}
-use Rattle.file_refinement.proofs.AgreeStream.{Steps, stream-fills, spaceName, registerName, bitRangeName, tableName, macroName, ownName, fieldName, subtableName, map-own}
+use Rattle.file_refinement.proofs.AgreeStream.{Steps, stream-fills, spaceName, registerName, bitRangeName, tableName, macroName, ownName, fieldName, subtableName}
 
 -- an answer and the definition's reading: both accept, or both refuse with one number
 data Answered (s t0 : List ℕ) (x : Parsed Section) (a : Answer) : Type 0 where
@@ -104,16 +104,17 @@ marked-in : (k : ℕ) (ns : List ℕ) (x old : ℕ) → k < 7 → length ns ≤ 
 unfolding marked orMark
 marked-in k ns x old h l = rw (stamp-in k 0 ns x h (omega arith))
 
-find-in : (K : SymbolKind) (i : ℕ) (ns : List ℕ) (rest : List (ℕ × Symbol)) (x : ℕ) → symbolWord (find x (symbols K i ns ++ rest)) ≡ orMark (markIn (symbolNumber K) i ns x) (symbolWord (find x rest))
-unfolding find first symbols symbolWord markIn stampOf position orMark if_then_else_ _or_
-find-in K i [] rest x = refl
-find-in K i (n ∷ ns) rest x = go (eqb x n) (find-in K (suc i) ns rest x)
-  where
-    go : (b : Bool) → symbolWord (first (λ (e : ℕ × Symbol). if eqb x (e .0) then some (e .1) else none) (symbols K (suc i) ns ++ rest)) ≡ orMark (stampOf (λ j. 1 + symbolNumber K + 8 * j) (position (eqb x) (suc i) ns)) (symbolWord (first (λ (e : ℕ × Symbol). if eqb x (e .0) then some (e .1) else none) rest)) →
-        symbolWord ((if b then some (record { kind = K; id = i }) else none) or first (λ (e : ℕ × Symbol). if eqb x (e .0) then some (e .1) else none) (symbols K (suc i) ns ++ rest))
-        ≡ orMark (stampOf (λ j. 1 + symbolNumber K + 8 * j) (if b then some i else position (eqb x) (suc i) ns)) (symbolWord (first (λ (e : ℕ × Symbol). if eqb x (e .0) then some (e .1) else none) rest))
-    go true e = rw (ne-eqb (1 + symbolNumber K + 8 * i) 0 (λ z. omega arith))
-    go false e = e
+-- symbols of one kind, by the number that its words have
+module _ {A : Type 0} (name : A → ℕ) (symbol : ℕ → A → Symbol) (k : ℕ) (numbered : (i : ℕ) (y : A) → symbolWord (some (symbol i y)) ≡ 1 + k + 8 * i) where
+  find-in : (i : ℕ) (ys : List A) (rest : List (ℕ × Symbol)) (x : ℕ) → symbolWord (find x (symbols name symbol i ys ++ rest)) ≡ orMark (markIn k i (map name ys) x) (symbolWord (find x rest))
+  unfolding find first symbols symbolWord markIn stampOf position orMark if_then_else_ _or_
+  find-in i [] rest x = refl
+  find-in i (y ∷ ys) rest x = go (eqb x (name y)) (find-in (suc i) ys rest x)
+    where
+      go : (b : Bool) → symbolWord (find x (symbols name symbol (suc i) ys ++ rest)) ≡ orMark (stampOf (λ j. 1 + k + 8 * j) (position (eqb x) (suc i) (map name ys))) (symbolWord (find x rest)) →
+          symbolWord ((if b then some (symbol i y) else none) or find x (symbols name symbol (suc i) ys ++ rest)) ≡ orMark (stampOf (λ j. 1 + k + 8 * j) (if b then some i else position (eqb x) (suc i) (map name ys))) (symbolWord (find x rest))
+      go true e = rw (numbered i y, ne-eqb (1 + k + 8 * i) 0 (λ z. omega arith))
+      go false e = e
 
 nothing-found : (x : ℕ) → symbolWord (find x []) ≡ 0
 unfolding find first symbolWord
@@ -282,25 +283,51 @@ module _ (s t0 t : List ℕ) (sec : Section) (short : length s < 65536) (clear :
   global-6 : (x : ℕ) → x < 1024 → getD (h .t8) (1024 + x) 0 ≡ orMark (orMark (orMark (orMark (orMark (orMark (orMark 0 (markIn 0 0 (map spaceName (sec .spaces)) x)) (markIn 1 0 (map registerName (sec .registers)) x)) (markIn 2 0 (map bitRangeName (sec .bitRanges)) x)) (markIn 3 0 (map tableName (sec .tables)) x)) (markIn 4 0 (map ownName (sec .userOps)) x)) (markIn 5 0 (map macroName (sec .macros)) x)) (markIn 6 0 (map ownName (sec .others)) x)
   global-6 x l = h .others .marks x l ∙ marked-in 6 (map ownName (sec .others)) x _ (omega arith) few-others ∙ ap (λ (y : ℕ). orMark y (markIn 6 0 (map ownName (sec .others)) x)) (global-5 x l)
 
-  others-found : (x : ℕ) → symbolWord (find x (symbols SymbolKind.Other 0 (sec .others))) ≡ orMark (markIn 6 0 (map ownName (sec .others)) x) (0)
-  unfolding symbolNumber
-  others-found x =
-      ap (λ (l : List (ℕ × Symbol)). symbolWord (find x l)) (sym (append-nil (symbols SymbolKind.Other 0 (sec .others))))
-      ∙ find-in SymbolKind.Other 0 (sec .others) [] x
-      ∙ ap (λ (y : ℕ). orMark y (symbolWord (find x []))) (ap (λ (ns : List ℕ). markIn 6 0 ns x) (sym (map-own (sec .others))))
+  -- the globals from each kind on
+  abbrev from-others : List (ℕ × Symbol)
+  from-others = symbols ownName (λ i n. Symbol.Other i) 0 (sec .others)
+
+  abbrev from-macros : List (ℕ × Symbol)
+  from-macros = symbols macroName Symbol.Macro 0 (sec .macros) ++ from-others
+
+  abbrev from-userOps : List (ℕ × Symbol)
+  from-userOps = symbols ownName (λ i n. Symbol.UserOp i) 0 (sec .userOps) ++ from-macros
+
+  abbrev from-tables : List (ℕ × Symbol)
+  from-tables = symbols tableName Symbol.Table 0 (sec .tables) ++ from-userOps
+
+  abbrev from-bitRanges : List (ℕ × Symbol)
+  from-bitRanges = symbols bitRangeName Symbol.BitRange 0 (sec .bitRanges) ++ from-tables
+
+  abbrev from-registers : List (ℕ × Symbol)
+  from-registers = symbols registerName Symbol.Register 0 (sec .registers) ++ from-bitRanges
+
+  abbrev from-spaces : List (ℕ × Symbol)
+  from-spaces = symbols spaceName Symbol.Space 0 (sec .spaces) ++ from-registers
+
+  globals-from : globals sec ≡ from-spaces
+  unfolding globals
+  globals-from = listed-right (symbols spaceName Symbol.Space 0 (sec .spaces)) (symbols registerName Symbol.Register 0 (sec .registers)) (symbols bitRangeName Symbol.BitRange 0 (sec .bitRanges)) (symbols tableName Symbol.Table 0 (sec .tables))
+      (symbols ownName (λ i n. Symbol.UserOp i) 0 (sec .userOps)) (symbols macroName Symbol.Macro 0 (sec .macros)) (symbols ownName (λ i n. Symbol.Other i) 0 (sec .others))
+
+  others-word : (x : ℕ) → symbolWord (find x from-others) ≡ orMark (markIn 6 0 (map ownName (sec .others)) x) (0)
+  unfolding symbolWord
+  others-word x =
+      ap (λ (l : List (ℕ × Symbol)). symbolWord (find x l)) (sym (append-nil from-others))
+      ∙ find-in ownName (λ i n. Symbol.Other i) 6 (λ i n. refl) 0 (sec .others) [] x
       ∙ ap (orMark (markIn 6 0 (map ownName (sec .others)) x)) (nothing-found x)
 
   globals-word : (x : ℕ) → symbolWord (find x (globals sec)) ≡ orMark (markIn 0 0 (map spaceName (sec .spaces)) x) (orMark (markIn 1 0 (map registerName (sec .registers)) x) (orMark (markIn 2 0 (map bitRangeName (sec .bitRanges)) x) (orMark (markIn 3 0 (map tableName (sec .tables)) x) (orMark (markIn 4 0 (map ownName (sec .userOps)) x) (orMark (markIn 5 0 (map macroName (sec .macros)) x) (orMark (markIn 6 0 (map ownName (sec .others)) x) (0)))))))
-  unfolding globals symbolNumber
+  unfolding symbolWord
   globals-word x =
-      ap (λ (l : List (ℕ × Symbol)). symbolWord (find x l)) (listed-right (symbols SymbolKind.Space 0 (map spaceName (sec .spaces))) (symbols SymbolKind.Register 0 (map registerName (sec .registers))) (symbols SymbolKind.BitRange 0 (map bitRangeName (sec .bitRanges))) (symbols SymbolKind.Table 0 (map tableName (sec .tables))) (symbols SymbolKind.UserOp 0 (sec .userOps)) (symbols SymbolKind.Macro 0 (map macroName (sec .macros))) (symbols SymbolKind.Other 0 (sec .others))) ∙
-      find-in SymbolKind.Space 0 (map spaceName (sec .spaces)) (symbols SymbolKind.Register 0 (map registerName (sec .registers)) ++ (symbols SymbolKind.BitRange 0 (map bitRangeName (sec .bitRanges)) ++ (symbols SymbolKind.Table 0 (map tableName (sec .tables)) ++ (symbols SymbolKind.UserOp 0 (sec .userOps) ++ (symbols SymbolKind.Macro 0 (map macroName (sec .macros)) ++ (symbols SymbolKind.Other 0 (sec .others))))))) x ∙ ap (orMark (markIn 0 0 (map spaceName (sec .spaces)) x)) (
-      find-in SymbolKind.Register 0 (map registerName (sec .registers)) (symbols SymbolKind.BitRange 0 (map bitRangeName (sec .bitRanges)) ++ (symbols SymbolKind.Table 0 (map tableName (sec .tables)) ++ (symbols SymbolKind.UserOp 0 (sec .userOps) ++ (symbols SymbolKind.Macro 0 (map macroName (sec .macros)) ++ (symbols SymbolKind.Other 0 (sec .others)))))) x ∙ ap (orMark (markIn 1 0 (map registerName (sec .registers)) x)) (
-      find-in SymbolKind.BitRange 0 (map bitRangeName (sec .bitRanges)) (symbols SymbolKind.Table 0 (map tableName (sec .tables)) ++ (symbols SymbolKind.UserOp 0 (sec .userOps) ++ (symbols SymbolKind.Macro 0 (map macroName (sec .macros)) ++ (symbols SymbolKind.Other 0 (sec .others))))) x ∙ ap (orMark (markIn 2 0 (map bitRangeName (sec .bitRanges)) x)) (
-      find-in SymbolKind.Table 0 (map tableName (sec .tables)) (symbols SymbolKind.UserOp 0 (sec .userOps) ++ (symbols SymbolKind.Macro 0 (map macroName (sec .macros)) ++ (symbols SymbolKind.Other 0 (sec .others)))) x ∙ ap (orMark (markIn 3 0 (map tableName (sec .tables)) x)) (
-      find-in SymbolKind.UserOp 0 (sec .userOps) (symbols SymbolKind.Macro 0 (map macroName (sec .macros)) ++ (symbols SymbolKind.Other 0 (sec .others))) x ∙ ap (λ (y : ℕ). orMark y (symbolWord (find x (symbols SymbolKind.Macro 0 (map macroName (sec .macros)) ++ (symbols SymbolKind.Other 0 (sec .others)))))) (ap (λ (ns : List ℕ). markIn 4 0 ns x) (sym (map-own (sec .userOps)))) ∙ ap (orMark (markIn 4 0 (map ownName (sec .userOps)) x)) (
-      find-in SymbolKind.Macro 0 (map macroName (sec .macros)) (symbols SymbolKind.Other 0 (sec .others)) x ∙ ap (orMark (markIn 5 0 (map macroName (sec .macros)) x)) (
-      others-found x))))))
+      ap (λ (l : List (ℕ × Symbol)). symbolWord (find x l)) globals-from ∙
+      find-in spaceName Symbol.Space 0 (λ i y. refl) 0 (sec .spaces) from-registers x ∙ ap (orMark (markIn 0 0 (map spaceName (sec .spaces)) x)) (
+      find-in registerName Symbol.Register 1 (λ i y. refl) 0 (sec .registers) from-bitRanges x ∙ ap (orMark (markIn 1 0 (map registerName (sec .registers)) x)) (
+      find-in bitRangeName Symbol.BitRange 2 (λ i y. refl) 0 (sec .bitRanges) from-tables x ∙ ap (orMark (markIn 2 0 (map bitRangeName (sec .bitRanges)) x)) (
+      find-in tableName Symbol.Table 3 (λ i y. refl) 0 (sec .tables) from-userOps x ∙ ap (orMark (markIn 3 0 (map tableName (sec .tables)) x)) (
+      find-in ownName (λ i n. Symbol.UserOp i) 4 (λ i n. refl) 0 (sec .userOps) from-macros x ∙ ap (orMark (markIn 4 0 (map ownName (sec .userOps)) x)) (
+      find-in macroName Symbol.Macro 5 (λ i y. refl) 0 (sec .macros) from-others x ∙ ap (orMark (markIn 5 0 (map macroName (sec .macros)) x)) (
+      others-word x))))))
 
   globals-held : (x : ℕ) → x < 1024 → getD t (1024 + x) 0 ≡ symbolWord (find x (globals sec))
   globals-held x l =

@@ -9,7 +9,7 @@ use Rattle.prelude.specs.Base.{if_then_else_, position}
 use Rattle.definition.specs.Ast.{SpaceKind, Space, Register, BitRange, Table, Macro, Field, Subtable, Statement, Section}
 use Rattle.definition.specs.SectionFile.{parsed, listOf}
 use Rattle.definition.specs.SectionFile as d
-use Rattle.definition.specs.Scope.{Symbol, symbolNumber, find, globals}
+use Rattle.definition.specs.Scope.{Symbol, find, globals}
 use Rattle.access.specs.Le.{le16}
 
 -- a u16 at p, 65,535 where absent
@@ -76,10 +76,16 @@ pub record Listed {A : Type 0} (s t : List ℕ) (k wide : ℕ) (f : ℕ → ℕ 
   pub count : length xs ≡ le16 s (4 + 2 * k)
   pub element : (j : ℕ) → j < length xs → getElem? xs j ≡ some (f (le16 s (getD t (3328 + k) 0 + (2 + wide) * j)) (getD t (3328 + k) 0 + (2 + wide) * j + 2))
 
--- the word that marks a global's name
+-- the word that marks a global's name: the number of its kind, and its place
 unfoldable pub symbolWord : Option Symbol → ℕ
 symbolWord none = 0
-symbolWord (some y) = 1 + symbolNumber (y .kind) + 8 * y .id
+symbolWord (some (Symbol.Space i x)) = 1 + 0 + 8 * i
+symbolWord (some (Symbol.Register i x)) = 1 + 1 + 8 * i
+symbolWord (some (Symbol.BitRange i x)) = 1 + 2 + 8 * i
+symbolWord (some (Symbol.Table i x)) = 1 + 3 + 8 * i
+symbolWord (some (Symbol.UserOp i)) = 1 + 4 + 8 * i
+symbolWord (some (Symbol.Macro i x)) = 1 + 5 + 8 * i
+symbolWord (some (Symbol.Other i)) = 1 + 6 + 8 * i
 
 -- the word that marks a field's or a subtable's name
 unfoldable pub localWord : Option ℕ → Option ℕ → ℕ

@@ -1,28 +1,30 @@
 -- Builds: the name's table is found among the globals, and the first subtable of that table is built.
-use Prim.Native.Nat.{ℕ, zero, suc, _+_, _*_, _%_, _≤_, _<_}
-use mathlib.Core.Path.{_≡_, refl}
+use Prim.Native.Nat.{ℕ, suc, _+_, _*_, _%_, _≤_, _<_}
+use mathlib.Core.Path.{_≡_, refl, sym, _∙_}
 use mathlib.Core.Bool.{Bool, true, false}
 use mathlib.Core.List.{List, [], _∷_}
 use mathlib.Core.Option.{Option, none, some}
 use native.Mathlib.Omega.{arith}
-use lib.ListN.{length, getD, getElem?}
-use lib.Dec.{eqb, ltb}
-use borrow.Author.Tests.{lt-ltb, le-ltb, ltb-true, ltb-false}
+use lib.ListN.{length, getElem?}
+use lib.Dec.{eqb}
+use borrow.Author.Tests.{lt-ltb, le-ltb}
 use Rattle.access.specs.Le.{le16}
 use Rattle.prelude.specs.Base as definition
 use Rattle.prelude.specs.Base.{orElse, position, base-opens, if_then_else_}
 use Rattle.definition.specs.Refusals.{Refusal, refusalNumber, undefined, wrongKind, absentTable}
 use Rattle.definition.specs.Value.{ActionKind, SemanticAction, operationOf}
 use Rattle.definition.specs.Ast.{Subtable}
-use Rattle.definition.specs.Walk.{State, Env, Outcome, done, stopped, on, require, expect}
+use Rattle.definition.specs.Walk.{State, Env, Outcome, stopped, on, expect}
 use Rattle.definition.specs.Walk as walks
-use Rattle.definition.specs.Scope.{find, SymbolKind, symbolNumber, Symbol, isSymbol, globals, lookup, lookupKind}
+use Rattle.definition.specs.Scope.{find, Symbol, globals, lookup, asTable}
 use Rattle.definition.specs.Statements as d
 use Rattle.definition.specs.ActionList.{orNone, actionKindNumber, operationWord}
 use Rattle.list_pushes.specs.declared.push.Env.{Env as WordEnv}
 use Rattle.list_values.specs.Base.{Listed, listed, thenL}
 use Rattle.list_values.specs.Sizes.{entry}
 use Rattle.file_refinement.specs.Holds.{subtableAt, symbolWord}
+use Rattle.definition_guarantee.proofs.Tests.{some-same}
+use Rattle.definition_guarantee.proofs.Globals.{place-below}
 use Rattle.list_refinement.proofs.Lists.{firstOf, secondOf, outputOf}
 use Rattle.expr_terms.specs.Answers.{after}
 use Rattle.stmt_walk.specs.declared.walk.Walk.{Walk}
@@ -60,16 +62,6 @@ subtable-found s t table i (x ∷ xs) h =
     go true q = refl
     go false q = let k : suc i + length xs ≡ i + suc (length xs) = omega arith in rw k at q
 
-pub kind-small : (k : SymbolKind) → symbolNumber k < 8
-unfolding symbolNumber
-kind-small SymbolKind.Space = omega arith
-kind-small SymbolKind.Register = omega arith
-kind-small SymbolKind.BitRange = omega arith
-kind-small SymbolKind.Table = omega arith
-kind-small SymbolKind.UserOp = omega arith
-kind-small SymbolKind.Macro = omega arith
-kind-small SymbolKind.Other = omega arith
-
 module _ (s t : List ℕ) (e : Env) (front tail marks rest : List ℕ) (we : WordEnv) (given : Given s t e front tail rest we) (spare : ℕ) (room : Spare spare tail) (b : Beside) (st : State) (stood : Stood (e .section) tail marks rest spare st) (pos : ℕ) where
   abbrev A : List ℕ
   A = acts (e .section) front tail marks rest st
@@ -103,43 +95,38 @@ module _ (s t : List ℕ) (e : Env) (front tail marks rest : List ℕ) (we : Wor
 
   placed : (j : ℕ) (x : Subtable) → getElem? (e .section .subtables) j ≡ some x → le16 s (entry t 8 ((0 + j) % 65536 * 4) + 2) ≡ x .table
   unfolding entry subtableAt
-  placed j x q = go (ltb j (length (e .section .subtables))) refl
-    where
-      go : (b : Bool) → ltb j (length (e .section .subtables)) ≡ b → le16 s (entry t 8 ((0 + j) % 65536 * 4) + 2) ≡ x .table
-      go true h = inside (ltb-is h)
-        where
-          ltb-is : ltb j (length (e .section .subtables)) ≡ true → j < length (e .section .subtables)
-          ltb-is h = ltb-true j (length (e .section .subtables)) h
+  placed j x q =
+      let l = place-below (e .section .subtables) j x q in
+      let c : length (e .section .subtables) ≤ 32 = rw (given .holds .subtables .count) (given .holds .limits .subtables) in
+      let a : (0 + j) % 65536 * 4 % 1048576 ≡ (2 + 2) * j = omega arith in
+      rw (a, ← some-same (sym (given .holds .subtables .element j l) ∙ q))
 
-          inside : j < length (e .section .subtables) → le16 s (entry t 8 ((0 + j) % 65536 * 4) + 2) ≡ x .table
-          inside l =
-              let c : length (e .section .subtables) ≤ 32 = rw (given .holds .subtables .count) (given .holds .limits .subtables) in
-              let k = given .holds .subtables .element j l in
-              let a : (0 + j) % 65536 * 4 % 1048576 ≡ (2 + 2) * j = omega arith in
-              let g : subtableAt s (le16 s (getD t (3328 + 8) 0 + (2 + 2) * j)) (getD t (3328 + 8) 0 + (2 + 2) * j + 2) ≡ x = cc in
-              rw (a, ← g)
-      go false h = absurd (outside (e .section .subtables) j x (ltb-false j (length (e .section .subtables)) h) q)
-        where
-          outside : (xs : List Subtable) (j : ℕ) (x : Subtable) → length xs ≤ j → getElem? xs j ≡ some x → ⊥
-          outside [] j x l q = let z : _≡_ {A = ℕ} 0 1 = cc in absurd (omega arith)
-          outside (y ∷ ys) zero x l q = absurd (omega arith)
-          outside (y ∷ ys) (suc j) x l q = outside ys j x (omega arith) q
+  abbrev subtableOf : ℕ → Option ℕ
+  subtableOf table = position (λ (x : Subtable). eqb table (x .table)) 0 (e .section .subtables)
+
+  build-table : (table : ℕ) → Builds (buildTable s t A table pos w) (on e (expect absentTable (subtableOf table) e st) λ i. walks.push (building i))
+  unfolding buildTable
+  build-table table =
+      let z : 0 + length (e .section .subtables) ≡ length (e .section .subtables) = omega arith in
+      rw (← given .holds .subtables .count, subtable-found s t table 0 (e .section .subtables) placed, z)
+      (build-found (subtableOf table) (λ j q. omega (arith, position-below (λ (x : Subtable). eqb table (x .table)) 0 (e .section .subtables) j q)))
+
+  other-kind : (k i : ℕ) → k < 8 → eqb k 3 ≡ false → Builds (buildSymbol (1 + k + 8 * i) s t A pos w) (stopped wrongKind (st .sizing .begun) 0)
+  unfolding buildSymbol if_then_else_
+  other-kind k i h l = rw (word-nonzero k i, word-kind k i h, l) (stops 23 wrongKind (unfold refusalNumber in refl))
 
   build-symbol : (y : Option Symbol)
-      → Builds (buildSymbol (symbolWord y) s t A pos w)
-      (on e (on e (expect undefined y e st) (λ y. λ e st. on e (require (isSymbol SymbolKind.Table y) wrongKind e st) λ _. λ e st. done (y .id) st)) λ table. λ e st. on e (expect absentTable (position (λ (x : Subtable). eqb table (x .table)) 0 (e .section .subtables)) e st) λ i. walks.push (building i))
-  unfolding buildSymbol symbolWord if_then_else_ symbolNumber
-  build-symbol none = unfold expect on in stops 22 undefined (unfold refusalNumber in refl)
-  build-symbol (some y) = unfold expect on isSymbol in rw (word-nonzero (symbolNumber (y .kind)) (y .id), word-kind (symbolNumber (y .kind)) (y .id) (kind-small (y .kind)), word-place (symbolNumber (y .kind)) (y .id) (kind-small (y .kind)), eqb-swap (symbolNumber (y .kind)) 3) (go (eqb 3 (symbolNumber (y .kind))))
-    where
-      go : (c : Bool) → Builds (if c then buildTable s t A (y .id) pos w else listed (stop 23 w) A)
-          (on e (on e (require c wrongKind e st) λ _. λ e st. done (y .id) st) λ table. λ e st. on e (expect absentTable (position (λ (x : Subtable). eqb table (x .table)) 0 (e .section .subtables)) e st) λ i. walks.push (building i))
-      go true = unfold buildTable require on if_then_else_ in
-          let z : 0 + length (e .section .subtables) ≡ length (e .section .subtables) = omega arith in
-          rw (← given .holds .subtables .count, subtable-found s t (y .id) 0 (e .section .subtables) placed, z)
-          (build-found (position (λ (x : Subtable). eqb (y .id) (x .table)) 0 (e .section .subtables)) (λ j q. omega (arith, position-below (λ (x : Subtable). eqb (y .id) (x .table)) 0 (e .section .subtables) j q)))
-      go false = unfold require on if_then_else_ in stops 23 wrongKind (unfold refusalNumber in refl)
+      → Builds (buildSymbol (symbolWord y) s t A pos w) (on e (asTable y e st) λ table. λ e st. on e (expect absentTable (position (λ (x : Subtable). eqb table (x .table)) 0 (e .section .subtables)) e st) λ i. walks.push (building i))
+  unfolding symbolWord asTable on
+  build-symbol none = unfold buildSymbol if_then_else_ in stops 22 undefined (unfold refusalNumber in refl)
+  build-symbol (some (Symbol.Table i x)) = unfold buildSymbol if_then_else_ in rw (word-nonzero 3 i, word-kind 3 i (omega arith), word-place 3 i (omega arith)) (build-table i)
+  build-symbol (some (Symbol.Space i x)) = other-kind 0 i (omega arith) refl
+  build-symbol (some (Symbol.Register i x)) = other-kind 1 i (omega arith) refl
+  build-symbol (some (Symbol.BitRange i x)) = other-kind 2 i (omega arith) refl
+  build-symbol (some (Symbol.UserOp i)) = other-kind 4 i (omega arith) refl
+  build-symbol (some (Symbol.Macro i x)) = other-kind 5 i (omega arith) refl
+  build-symbol (some (Symbol.Other i)) = other-kind 6 i (omega arith) refl
 
   pub build-is : le16 s (pos + 1) < 1024 → Builds (build s t A pos w) (d.build (le16 s (pos + 1)) e st)
-  unfolding build d.build lookupKind lookup on
-  build-is h = rw (global-is s t (e .section) (given .holds) (le16 s (pos + 1)) h) (unfold on symbolNumber in build-symbol (find (le16 s (pos + 1)) (globals (e .section))))
+  unfolding build d.build lookup on
+  build-is h = rw (global-is s t (e .section) (given .holds) (le16 s (pos + 1)) h) (build-symbol (find (le16 s (pos + 1)) (globals (e .section))))

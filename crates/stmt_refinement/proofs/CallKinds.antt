@@ -10,14 +10,14 @@ use lib.Dec.{eqb}
 use borrow.Author.Tests.{ne-eqb}
 use Rattle.access.specs.Le.{le16}
 use Rattle.prelude.specs.Base as definition
-use Rattle.prelude.specs.Base.{base-opens, if_then_else_}
+use Rattle.prelude.specs.Base.{if_then_else_}
 use Rattle.definition.specs.Refusals.{Refusal, refusalNumber, undefined, wrongKind, delaySlotArgument}
 use Rattle.definition.specs.Value.{ActionKind, SemanticAction, operationOf}
 use Rattle.definition.specs.Ast.{Args, Statement, Macro}
 use Rattle.definition.specs.SectionFile.{parsed, exprWithin, argsOf, statement}
 use Rattle.definition.specs.Walk as walks
 use Rattle.definition.specs.Walk.{ExprValue, State, Env, Outcome, stopped, on, require, expect}
-use Rattle.definition.specs.Scope.{find, SymbolKind, symbolNumber, Symbol, isSymbol, globals, lookup}
+use Rattle.definition.specs.Scope.{find, Symbol, globals, lookup}
 use Rattle.definition.specs.Expressions as expressions
 use Rattle.definition.specs.Statements as d
 use Rattle.definition.specs.ActionList.{orNone, actionKindNumber, operationWord}
@@ -117,20 +117,16 @@ module _ (s t : List ℕ) (e : Env) (p front tail marks rest : List ℕ) (we : W
       unfolding otherCall symbolOf
       other-kind k i h l q = rw (word-nonzero k i, word-kind k i h, l, q) (unfold if_then_else_ in stops 23 wrongKind (unfold refusalNumber in refl))
 
-      by-kind : (k : SymbolKind) (i : ℕ) → eqb (symbolOf (1 + symbolNumber k + 8 * i) .kind) 2 ≡ false → Ends (otherCall (symbolOf (1 + symbolNumber k + 8 * i)) s t p A M we pos n w) (d.symbolStatement enter args (some (record { kind = k; id = i })) e from)
-      unfolding d.symbolStatement symbolNumber isSymbol on base-opens
-      by-kind SymbolKind.Space i c = other-kind 0 i (omega arith) refl refl
-      by-kind SymbolKind.Register i c = other-kind 1 i (omega arith) refl refl
-      by-kind SymbolKind.BitRange i c = other-kind 2 i (omega arith) refl refl
-      by-kind SymbolKind.Table i c = other-kind 3 i (omega arith) refl refl
-      by-kind SymbolKind.UserOp i c = unfold symbolOf otherCall if_then_else_ in rw (word-nonzero 4 i, word-kind 4 i (omega arith), word-place 4 i (omega arith)) (user-op i)
-      by-kind SymbolKind.Macro i c = let z : true ≡ false = unfold symbolOf if_then_else_ in (rw (word-nonzero 5 i, word-kind 5 i (omega arith)) at c) in let y : _≡_ {A = ℕ} 0 1 = cc in absurd (omega arith)
-      by-kind SymbolKind.Other i c = other-kind 6 i (omega arith) refl refl
-
       by-symbol : (o : Option Symbol) → eqb (symbolOf (symbolWord o) .kind) 2 ≡ false → Ends (otherCall (symbolOf (symbolWord o)) s t p A M we pos n w) (d.symbolStatement enter args o e from)
-      unfolding symbolWord
-      by-symbol none c = unfold symbolOf otherCall if_then_else_ d.symbolStatement in stops 22 undefined (unfold refusalNumber in refl)
-      by-symbol (some y) c = by-kind (y .kind) (y .id) c
+      unfolding symbolWord d.symbolStatement
+      by-symbol none c = unfold symbolOf otherCall if_then_else_ in stops 22 undefined (unfold refusalNumber in refl)
+      by-symbol (some (Symbol.Space i x)) c = other-kind 0 i (omega arith) refl refl
+      by-symbol (some (Symbol.Register i x)) c = other-kind 1 i (omega arith) refl refl
+      by-symbol (some (Symbol.BitRange i x)) c = other-kind 2 i (omega arith) refl refl
+      by-symbol (some (Symbol.Table i x)) c = other-kind 3 i (omega arith) refl refl
+      by-symbol (some (Symbol.UserOp i)) c = unfold symbolOf otherCall if_then_else_ in rw (word-nonzero 4 i, word-kind 4 i (omega arith), word-place 4 i (omega arith)) (user-op i)
+      by-symbol (some (Symbol.Macro i x)) c = let z : true ≡ false = unfold symbolOf if_then_else_ in (rw (word-nonzero 5 i, word-kind 5 i (omega arith)) at c) in let y : _≡_ {A = ℕ} 0 1 = cc in absurd (omega arith)
+      by-symbol (some (Symbol.Other i)) c = other-kind 6 i (omega arith) refl refl
 
       by-name : (a : Bool) → eqb ((if a then called 0 0 else symbolOf (symbolWord (find name (globals (e .section))))) .kind) 2 ≡ false
           → Ends (otherCall (if a then called 0 0 else symbolOf (symbolWord (find name (globals (e .section))))) s t p A M we pos n w)

@@ -1,27 +1,28 @@
 -- A statement that calls a macro: its arguments are resolved and counted as in the definition, then the macro is entered.
-use Prim.Native.Nat.{ℕ, zero, suc, _+_, _-_, _*_, _/_, _≤_, _<_}
+use Prim.Native.Nat.{ℕ, _+_, _-_, _*_, _/_, _≤_, _<_}
 use mathlib.Core.Path.{_≡_, refl, sym, _∙_, ap, subst}
 use mathlib.Core.Bool.{Bool, true, false}
-use mathlib.Core.List.{List, [], _∷_, _++_, map}
+use mathlib.Core.List.{List, []}
 use mathlib.Core.Option.{Option, none, some}
 use native.Mathlib.Nat.{add-zero}
 use native.Mathlib.Omega.{arith}
-use lib.ListN.{length, getD, drop, replicate, getElem?, length-replicate, length-map}
+use lib.ListN.{length, getD, drop, replicate, getElem?, length-replicate}
 use lib.Dec.{eqb}
 use borrow.Author.Tests.{eqb-true}
 use Rattle.access.specs.Le.{le16}
 use Rattle.prelude.specs.Base as definition
-use Rattle.prelude.specs.Base.{orElse, base-opens, if_then_else_}
+use Rattle.prelude.specs.Base.{orElse, if_then_else_}
 use Rattle.definition.specs.Refusals.{refusalNumber, macroArguments}
-use Rattle.definition.specs.Ast.{Args, Statement, Space as SpaceEntry, Register as RegisterEntry, BitRange as BitRangeEntry, Table as TableEntry, Macro, Section}
+use Rattle.definition.specs.Ast.{Args, Statement, Macro}
 use Rattle.definition.specs.SectionFile.{parsed, exprWithin, argsOf, statement}
 use Rattle.definition.specs.Walk.{ExprValue, State, Env, Outcome, done, stopped, on, require}
 use Rattle.definition.specs.Scope as scope
-use Rattle.definition.specs.Scope.{find, SymbolKind, symbolNumber, Symbol, isSymbol, symbols, globals, lookup}
+use Rattle.definition.specs.Scope.{find, Symbol, globals, lookup}
 use Rattle.definition.specs.Expressions as expressions
 use Rattle.definition.specs.Statements as d
 use Rattle.definition.specs.ActionList.{orNone}
 use Rattle.definition_guarantee.specs.Limits.{ArgsWithin, StatementWithin, WithinLimits}
+use Rattle.definition_guarantee.proofs.Globals.{FoundPlaced, found-placed}
 use Rattle.definition_guarantee.proofs.Kept.{Kept, ExprFits, Ends}
 use Rattle.definition_guarantee.proofs.KeptExpressions.{keep-args}
 use Rattle.list_pushes.specs.declared.push.Env.{Env as WordEnv}
@@ -42,7 +43,7 @@ use Rattle.expr_refinement.proofs.Encodings.{SoundX, count}
 use Rattle.expr_refinement.proofs.Answers.{acts, temps, word, seenArgs, Reached, Refines}
 use Rattle.expr_refinement.proofs.Below.{Spare}
 use Rattle.expr_refinement.proofs.Positions.{drop-same}
-use Rattle.expr_refinement.proofs.Scopes.{ParamsIn, find-each, word-nonzero, word-kind, word-place, global-is}
+use Rattle.expr_refinement.proofs.Scopes.{ParamsIn, word-nonzero, word-kind, word-place, global-is}
 use Rattle.expr_refinement.proofs.Expressions.{after-is, filledArgs, filled-in, resolve-args, resolve-expr}
 use Rattle.stmt_refinement.proofs.Views.{Beside}
 use Rattle.stmt_refinement.proofs.Given.{Given, walkOf, below}
@@ -169,54 +170,12 @@ module _ (s t : List ℕ) (e : Env) (front tail rest : List ℕ) (spare : ℕ) (
       let g = r .stops q i j refl in
       Follows.stops q ordinal ls a1 m1 (rw (g .0, g .1, h .begun)) (rw (begun-word, y))
 
-  pub macro-statement-follows : Goes-on st (macroStatement (enterMacro deep s t) s t p ls (A st) (M st) we pos id n w) (d.macroStatement (enterOf deep) id (some m) args e st)
+  pub macro-statement-follows : Goes-on st (macroStatement (enterMacro deep s t) s t p ls (A st) (M st) we pos id n w) (d.macroStatement (enterOf deep) id m args e st)
   unfolding macroStatement macroArgs d.macroStatement
   macro-statement-follows =
       rw (after-is pos 4 (omega (arith, given .short)) (omega arith))
       (resolved-args (resolveArgs (resolveExpr 32 s t p we) n 0 (pos + 4) (A st) (M st) (replicate 64 0) (W st)) (expressions.resolveArgs args e st) args-are
       (keep-args e limits args within (count st) .keeps st (omega arith) (h .between .kept)))
-
--- A macro's symbol has its place in the list of macros.
-
-abbrev PlacedMacro : Section → Symbol → Type 0
-PlacedMacro sec y = isSymbol SymbolKind.Macro y ≡ true → y .id < length (sec .macros)
-
-record Placed (sec : Section) (ys : List (ℕ × Symbol)) : Type 0 where
-  each : Each (λ (y : ℕ × Symbol). PlacedMacro sec (y .1)) ys
-
-join : (sec : Section) (xs ys : List (ℕ × Symbol)) → Placed sec xs → Placed sec ys → Placed sec (xs ++ ys)
-join sec [] ys f g = g
-join sec (x ∷ xs) ys f g = record { each = (f .each .0, join sec xs ys (record { each = f .each .1 }) g .each) }
-
-others : (sec : Section) (k : SymbolKind) → eqb 5 (symbolNumber k) ≡ false → (i : ℕ) (ns : List ℕ) → Placed sec (symbols k i ns)
-unfolding symbols isSymbol
-others sec k h i [] = record { each = tt }
-others sec k h i (n ∷ ns) = record { each = ((λ q. let z : false ≡ true = sym h ∙ (unfold symbolNumber in q) in let y : _≡_ {A = ℕ} 0 1 = cc in absurd (omega arith)), others sec k h (suc i) ns .each) }
-
-macros : (sec : Section) (i : ℕ) (ns : List ℕ) → i + length ns ≤ length (sec .macros) → Placed sec (symbols SymbolKind.Macro i ns)
-unfolding symbols
-macros sec i [] h = record { each = tt }
-macros sec i (n ∷ ns) h = record { each = ((λ q. omega arith), macros sec (suc i) ns (omega arith) .each) }
-
-placed : (sec : Section) → Placed sec (globals sec)
-unfolding globals symbolNumber
-placed sec =
-    join sec _ _ (join sec _ _ (join sec _ _ (join sec _ _ (join sec _ _ (join sec _ _
-    (others sec SymbolKind.Space refl 0 (map (λ (x : SpaceEntry). x .name) (sec .spaces)))
-    (others sec SymbolKind.Register refl 0 (map (λ (x : RegisterEntry). x .name) (sec .registers))))
-    (others sec SymbolKind.BitRange refl 0 (map (λ (x : BitRangeEntry). x .name) (sec .bitRanges))))
-    (others sec SymbolKind.Table refl 0 (map (λ (x : TableEntry). x .name) (sec .tables))))
-    (others sec SymbolKind.UserOp refl 0 (sec .userOps)))
-    (macros sec 0 (map (λ (x : Macro). x .name) (sec .macros)) (omega (arith, length-map (sec .macros) (λ (x : Macro). x .name)))))
-    (others sec SymbolKind.Other refl 0 (sec .others))
-
-element : {A : Type 0} (xs : List A) (i : ℕ) → i < length xs → (x : A) × (getElem? xs i ≡ some x)
-element [] i h = absurd (omega arith)
-element (x ∷ xs) zero h = (x, refl)
-element (x ∷ xs) (suc i) h = element xs i (omega arith)
-
-macro-is : (sec : Section) (name id : ℕ) → find name (globals sec) ≡ some (record { kind = SymbolKind.Macro; id = id }) → (m : Macro) × (getElem? (sec .macros) id ≡ some m)
-macro-is sec name id q = element (sec .macros) id (find-each (PlacedMacro sec) name (globals sec) (record { kind = SymbolKind.Macro; id = id }) (placed sec .each) q (unfold isSymbol symbolNumber in refl))
 
 -- the word of another symbol calls no macro
 not-macro : (k i : ℕ) → k < 8 → eqb k 5 ≡ false → eqb (symbolOf (1 + k + 8 * i) .kind) 2 ≡ true → ⊥
@@ -237,30 +196,25 @@ module _ (s t : List ℕ) (e : Env) (front tail rest : List ℕ) (spare : ℕ) (
   Calls c o = Follows s t e front tail rest we spare p ls marks b st next
       (callNamed (enterMacro deep s t) c s t p ls (acts (e .section) front tail marks rest st) (temps (e .section) front tail marks rest st) we pos (getD s (pos + 3) 0) (walkOf b (word (e .section) front tail marks rest st))) o
 
-  by-kind : (k : SymbolKind) (i : ℕ) → find name (globals (e .section)) ≡ some (record { kind = k; id = i }) → eqb (symbolOf (1 + symbolNumber k + 8 * i) .kind) 2 ≡ true
-      → Calls (symbolOf (1 + symbolNumber k + 8 * i)) (d.symbolStatement (enterOf deep) args (some (record { kind = k; id = i })) e st)
-  by-kind SymbolKind.Space i q c = absurd (not-macro 0 i (omega arith) refl (unfold symbolNumber in c))
-  by-kind SymbolKind.Register i q c = absurd (not-macro 1 i (omega arith) refl (unfold symbolNumber in c))
-  by-kind SymbolKind.BitRange i q c = absurd (not-macro 2 i (omega arith) refl (unfold symbolNumber in c))
-  by-kind SymbolKind.Table i q c = absurd (not-macro 3 i (omega arith) refl (unfold symbolNumber in c))
-  by-kind SymbolKind.UserOp i q c = absurd (not-macro 4 i (omega arith) refl (unfold symbolNumber in c))
-  by-kind SymbolKind.Macro i q c =
-      let m = macro-is (e .section) name i q in
-      unfold symbolOf symbolNumber isSymbol if_then_else_ callNamed d.symbolStatement on base-opens in
-      rw (word-nonzero 5 i, word-kind 5 i (omega arith), word-place 5 i (omega arith), m .1)
-      (macro-statement-follows s t e front tail rest spare room limits deep enters we p ls marks b st ordinal h i (m .0) (m .1) pos args next reads few starts inside within)
-  by-kind SymbolKind.Other i q c = absurd (not-macro 6 i (omega arith) refl (unfold symbolNumber in c))
-
-  by-symbol : (o : Option Symbol) → find name (globals (e .section)) ≡ o → eqb (symbolOf (symbolWord o) .kind) 2 ≡ true → Calls (symbolOf (symbolWord o)) (d.symbolStatement (enterOf deep) args o e st)
-  unfolding symbolWord
+  by-symbol : (o : Option Symbol) → FoundPlaced (e .section) o → eqb (symbolOf (symbolWord o) .kind) 2 ≡ true → Calls (symbolOf (symbolWord o)) (d.symbolStatement (enterOf deep) args o e st)
+  unfolding symbolWord d.symbolStatement
   by-symbol none q c = unfold symbolOf if_then_else_ in (let y : _≡_ {A = ℕ} 0 1 = cc in absurd (omega arith))
-  by-symbol (some y) q c = by-kind (y .kind) (y .id) q c
+  by-symbol (some (Symbol.Macro i m)) q c =
+      unfold symbolOf if_then_else_ callNamed in
+      rw (word-nonzero 5 i, word-kind 5 i (omega arith), word-place 5 i (omega arith))
+      (macro-statement-follows s t e front tail rest spare room limits deep enters we p ls marks b st ordinal h i m q pos args next reads few starts inside within)
+  by-symbol (some (Symbol.Space i x)) q c = absurd (not-macro 0 i (omega arith) refl c)
+  by-symbol (some (Symbol.Register i x)) q c = absurd (not-macro 1 i (omega arith) refl c)
+  by-symbol (some (Symbol.BitRange i x)) q c = absurd (not-macro 2 i (omega arith) refl c)
+  by-symbol (some (Symbol.Table i x)) q c = absurd (not-macro 3 i (omega arith) refl c)
+  by-symbol (some (Symbol.UserOp i)) q c = absurd (not-macro 4 i (omega arith) refl c)
+  by-symbol (some (Symbol.Other i)) q c = absurd (not-macro 6 i (omega arith) refl c)
 
   by-name : (a : Bool) → eqb ((if a then called 0 0 else symbolOf (symbolWord (find name (globals (e .section))))) .kind) 2 ≡ true
       → Calls (if a then called 0 0 else symbolOf (symbolWord (find name (globals (e .section))))) ((definition.if_then_else_ a (d.delaySlot (expressions.onlyInteger args)) (λ e1 st1. on e1 (lookup name e1 st1) (d.symbolStatement (enterOf deep) args))) e st)
   unfolding if_then_else_ lookup on
   by-name true c = let y : _≡_ {A = ℕ} 0 1 = cc in absurd (omega arith)
-  by-name false c = by-symbol (find name (globals (e .section))) refl c
+  by-name false c = by-symbol (find name (globals (e .section))) (found-placed (e .section) name _ refl) c
 
   pub macro-call-follows : eqb (calledOf s t name .kind) 2 ≡ true → Follows s t e front tail rest we spare p ls marks b st next
       (callStatement (enterMacro deep s t) s t p ls (acts (e .section) front tail marks rest st) (temps (e .section) front tail marks rest st) we pos (walkOf b (word (e .section) front tail marks rest st))) (d.callStatement (enterOf deep) name args e st)
