@@ -108,10 +108,14 @@ copyInto x (Destination.RamRef pointer size) = do
 copyInto x (Destination.BitRange to from bits) =
     if byteAligned from bits then sliced (from / 8) (bits / 8) to >>= readTo x else writeBits x to from bits
 
--- what an address is a reference to: RAM or a register
-unfoldable pub asReference : ExprValue → Option Export
-asReference (ExprValue.RamRef pointer size) = some (record { kind = ExportKind.RamRef; value = pointer; accessSize = size })
-asReference (ExprValue.RegisterRef pointer size) = some (record { kind = ExportKind.RegisterRef; value = pointer; accessSize = size })
+-- References: a pointer into RAM or into the register space, and the size of what it points to.
+
+pub data Reference : Type 0 where
+  toRam toRegister : (pointer : Value) (size : ℕ) → Reference
+
+unfoldable pub asReference : ExprValue → Option Reference
+asReference (ExprValue.RamRef pointer size) = some (toRam pointer size)
+asReference (ExprValue.RegisterRef pointer size) = some (toRegister pointer size)
 asReference (ExprValue.Local v) = none
 asReference (ExprValue.Unbound v) = none
 asReference (ExprValue.Const n z) = none
@@ -124,20 +128,23 @@ storeRegister size pointer v = do
   v ← setStated size v
   push (record { kind = ActionKind.StoreRegister; number = size; inputs = pointer ∷ v ∷ []; output = none })
 
-unfoldable pub storeIn : ExportKind → ℕ → Value → Value → Walk (Unit {0})
-storeIn ExportKind.Computed size pointer v = refuse storeToNoAddress
-storeIn ExportKind.RamRef size pointer v = store size pointer v
-storeIn ExportKind.RegisterRef size pointer v = storeRegister size pointer v
+unfoldable pub storeIn : Reference → Value → Walk (Unit {0})
+storeIn (toRam pointer size) v = store size pointer v
+storeIn (toRegister pointer size) v = storeRegister size pointer v
 
 unfoldable pub storeAt : Value → ExprValue → Walk (Unit {0})
 storeAt v x = do
   to ← expect storeToNoAddress (asReference x)
-  storeIn (to .kind) (to .accessSize) (to .value) v
+  storeIn to v
 
 -- The export: a reference stays one, anything else is read.
 
-unfoldable pub exportOf : ExprValue → Option Export → Walk Export
-exportOf x (some reference) = pure reference
+unfoldable pub exported : Reference → Export
+exported (toRam pointer size) = record { kind = ExportKind.RamRef; value = pointer; accessSize = size }
+exported (toRegister pointer size) = record { kind = ExportKind.RegisterRef; value = pointer; accessSize = size }
+
+unfoldable pub exportOf : ExprValue → Option Reference → Walk Export
+exportOf x (some reference) = pure (exported reference)
 exportOf x none = do
   v ← readValue x none
   pure (record { kind = ExportKind.Computed; value = v; accessSize = 0 })
@@ -299,5 +306,5 @@ resolveBody zero ordinal body = resolveAll (resolveStatement λ id m xs. refuse 
 resolveBody (suc depth) ordinal body = resolveAll (resolveStatement (enterMacro (resolveBody depth))) ordinal body
 
 unfoldable pub statements-opens : Unit {0}
-unfolding expressions-opens asDestination asName targetName dstMeaning dstNamed resolveDst store writeBits readTo copyInto asReference storeRegister storeIn storeAt exportOf build hintNumber jumpValue directAddress resolveBranch delaySlot userOpStatement macroStatement symbolStatement callStatement resolveStatement ordinalAfter begun counted begin resolveAll enterMacro resolveBody
+unfolding expressions-opens asDestination asName targetName dstMeaning dstNamed resolveDst store writeBits readTo copyInto asReference storeRegister storeIn storeAt exported exportOf build hintNumber jumpValue directAddress resolveBranch delaySlot userOpStatement macroStatement symbolStatement callStatement resolveStatement ordinalAfter begun counted begin resolveAll enterMacro resolveBody
 statements-opens = tt

@@ -16,7 +16,7 @@ use Rattle.definition.specs.Sizes.{pointerSize}
 use Rattle.definition.specs.Walk.{ExprValue, Label, Env, Walk, _>>=_, refuse, section, state, change, withExport}
 use Rattle.definition.specs.Scope.{Symbol, Meaning, means, wrong}
 use Rattle.definition.specs.Expressions.{mask, resolveExpr, argCount}
-use Rattle.definition.specs.Statements.{Destination, asDestination, asName, targetName, dstMeaning, dstNamed, resolveDst, store, maskBut, writeBits, readTo, copyInto, asReference, storeRegister, storeIn, storeAt, exportOf, build, hintNumber, jumpValue, directAddress, resolveBranch, delaySlot, userOpStatement, macroStatement, symbolStatement, callStatement, resolveStatement, begun, counted, begin, resolveAll, enterMacro, resolveBody}
+use Rattle.definition.specs.Statements.{Destination, asDestination, asName, targetName, dstMeaning, dstNamed, resolveDst, store, maskBut, writeBits, readTo, copyInto, Reference, toRam, toRegister, asReference, storeRegister, storeIn, storeAt, exportOf, build, hintNumber, jumpValue, directAddress, resolveBranch, delaySlot, userOpStatement, macroStatement, symbolStatement, callStatement, resolveStatement, begun, counted, begin, resolveAll, enterMacro, resolveBody}
 use Rattle.definition.specs.Checker.{numberFits}
 use Rattle.definition_guarantee.specs.Tests.{Each}
 use Rattle.definition_guarantee.proofs.Tests.{never, each-at, then-some, none-some, some-same}
@@ -171,38 +171,40 @@ module _ (e : Env) (w : WithinLimits (e .section)) where
       keep-if _ _ _ (keep-bind _ _ (keep-sliced (from / 8) (bits / 8) to (omega arith) (g .0)) λ k l v p. keep-readTo x v
       (expr-more e n k l x f) p) (keep-writeBits x to from bits f (g .0))
 
-  abbrev ReferenceFits : ℕ → Export → Type 0
-  ReferenceFits k x = ValueFits e k (x .value) × (x .accessSize ≤ 1024)
-
   -- a reference: RAM's size fits a word, a register's is within limits
-  keep-storeIn : {n : ℕ} (x : ExprValue) (to : Export) (v : Value) → asReference x ≡ some to → ExprFits e n x → ValueFits e n v
-      → Keeps e n Nothing (storeIn (to .kind) (to .accessSize) (to .value) v)
-  unfolding asReference storeIn storeRegister placing orElse andThen operationOf
-  keep-storeIn {n} (ExprValue.RamRef pointer z) to v d f g =
-      subst (λ (y : Export). Keeps e n Nothing (storeIn (y .kind) (y .accessSize) (y .value) v)) (some-same d)
-      (keep-store z pointer v (f .1) (f .0) g)
-  keep-storeIn {n} (ExprValue.RegisterRef pointer z) to v d f g =
+  abbrev ReferenceFits : ℕ → Reference → Type 0
+  ReferenceFits k (toRam pointer z) = ValueFits e k pointer × (z < 65535)
+  ReferenceFits k (toRegister pointer z) = ValueFits e k pointer × (z ≤ 1024)
+
+  reference-fits : (n : ℕ) (x : ExprValue) (to : Reference) → asReference x ≡ some to → ExprFits e n x → ReferenceFits n to
+  unfolding asReference
+  reference-fits n (ExprValue.RamRef pointer z) to d f = subst (ReferenceFits n) (some-same d) f
+  reference-fits n (ExprValue.RegisterRef pointer z) to d f = subst (ReferenceFits n) (some-same d) f
+  reference-fits n (ExprValue.Local u) to d f = none-some {x = none} refl d
+  reference-fits n (ExprValue.Unbound u) to d f = none-some {x = none} refl d
+  reference-fits n (ExprValue.Const c z) to d f = none-some {x = none} refl d
+  reference-fits n (ExprValue.Apply operation c vs) to d f = none-some {x = none} refl d
+  reference-fits n (ExprValue.AddressOf u z) to d f = none-some {x = none} refl d
+  reference-fits n (ExprValue.BitRange u from bits) to d f = none-some {x = none} refl d
+
+  keep-storeIn : {n : ℕ} (to : Reference) (v : Value) → ReferenceFits n to → ValueFits e n v → Keeps e n Nothing (storeIn to v)
+  unfolding storeIn storeRegister placing orElse andThen operationOf
+  keep-storeIn (toRam pointer z) v f g = keep-store z pointer v (f .1) (f .0) g
+  keep-storeIn {n} (toRegister pointer z) v f g =
       let s = f .1 in
-      subst (λ (y : Export). Keeps e n Nothing (storeIn (y .kind) (y .accessSize) (y .value) v)) (some-same d)
-      (keep-bind _ _ (keep-setStated e w z v (omega arith) g) λ k l u p. keep-push _
-      (laidOut (store-laid k _ z pointer u (f .1) (fits-more {n = n} {k = k} l (f .0)) p)) refl)
-  keep-storeIn (ExprValue.Local u) to v d f g = none-some {x = none} refl d
-  keep-storeIn (ExprValue.Unbound u) to v d f g = none-some {x = none} refl d
-  keep-storeIn (ExprValue.Const c z) to v d f g = none-some {x = none} refl d
-  keep-storeIn (ExprValue.Apply operation c vs) to v d f g = none-some {x = none} refl d
-  keep-storeIn (ExprValue.AddressOf u z) to v d f g = none-some {x = none} refl d
-  keep-storeIn (ExprValue.BitRange u from bits) to v d f g = none-some {x = none} refl d
+      keep-bind _ _ (keep-setStated e w z v (omega arith) g) λ k l u p. keep-push _
+      (laidOut (store-laid k _ z pointer u s (fits-more {n = n} {k = k} l (f .0)) p)) refl
 
   keep-storeAt : {n : ℕ} (v : Value) (x : ExprValue) → ValueFits e n v → ExprFits e n x → Keeps e n Nothing (storeAt v x)
   unfolding storeAt
-  keep-storeAt {n} v x f g = keep-bind _ _ (keep-expect _ _) λ k l to d. keep-storeIn x to v d (expr-more e n k l x g)
-      (fits-more {n = n} {k = k} l f)
+  keep-storeAt {n} v x f g = keep-bind _ _ (keep-expect _ _) λ k l to d. keep-storeIn to v
+      (reference-fits k x to d (expr-more e n k l x g)) (fits-more {n = n} {k = k} l f)
 
   -- the export
 
-  keep-exportOf : {n : ℕ} (x : ExprValue) (r : Option Export) → ExprFits e n x → Keeps e n (λ k _. Unit {0}) (exportOf x r)
+  keep-exportOf : {n : ℕ} (x : ExprValue) (r : Option Reference) → ExprFits e n x → Keeps e n (λ k _. Unit {0}) (exportOf x r)
   unfolding exportOf
-  keep-exportOf x (some r) f = keep-pure r λ k l. tt
+  keep-exportOf x (some r) f = keep-pure _ λ k l. tt
   keep-exportOf x none f = keep-bind _ _ (keep-read e w x none f tt) λ k l v p. keep-pure _ λ _ _. tt
 
   keep-export : {n : ℕ} (x : Export) → Keeps e n Nothing (change (withExport x))

@@ -96,7 +96,7 @@ module _ (s t : List ℕ) (e : Env) (front tail marks rest : List ℕ) (we : Wor
 
     export-of : (st : State) → Stands st → (x : ExprValue) → SoundX (e .section) (count st) x
         → Exports st next (begunIn w) (exportOf s t (A st) (M st) we (encX x) next (W st) w) (d.exportOf x (d.asReference x) e st)
-    unfolding exportOf d.exportOf d.asReference exportNumber encX seenStep
+    unfolding exportOf d.exportOf d.exported d.asReference exportNumber encX seenStep
     export-of st f (ExprValue.RamRef v z) h = refines-done (e .section) front tail marks rest spare st (λ (x : Export). (next, withExported x b)) (SoundExport (e .section)) (record { kind = ExportKind.RamRef; value = v; accessSize = z }) (next, withExported (record { kind = ExportKind.RamRef; value = v; accessSize = z }) b) f (record { value = h .0; size = h .1 }) refl
     export-of st f (ExprValue.RegisterRef v z) h = refines-done (e .section) front tail marks rest spare st (λ (x : Export). (next, withExported x b)) (SoundExport (e .section)) (record { kind = ExportKind.RegisterRef; value = v; accessSize = z }) (next, withExported (record { kind = ExportKind.RegisterRef; value = v; accessSize = z }) b) f (record { value = h .0; size = h .1 }) refl
     export-of st f (ExprValue.Local v) h = read-export st f (ExprValue.Local v) h
