@@ -73,7 +73,8 @@ readValue (ExprValue.Apply operation n inputs) to = op operation n inputs to
 readValue (ExprValue.AddressOf base size) to = do
   require (eqb (base .offset) 0) addressOfOffset
   out ← outputOr size to
-  push (record { kind = ActionKind.AddressOf; number = 0; inputs = local (base .kind) (base .number) ∷ []; output = some out })
+  let place = local (base .kind) (base .number)
+  push (record { kind = ActionKind.AddressOf; number = 0; inputs = place ∷ []; output = some out })
   pure out
 readValue (ExprValue.RamRef pointer size) to = do
   out ← outputOr none to

@@ -169,12 +169,15 @@ unfoldable pub jumpValue : JumpLabel → Walk ExprValue
 jumpValue (JumpLabel.Ident n) = resolveIdent n
 jumpValue (JumpLabel.Integer v size) = pure (ExprValue.Const v (some size))
 
+abbrev pub subtableRef : ℕ → Value → Value
+subtableRef size v = record { kind = Kind.SubtableRef; number = v .number; offset = v .offset; size = some size }
+
 -- A direct jump to a subtable takes its SubtableRef at pointer size.
 unfoldable pub directAddress : ExprValue → Walk Value
 directAddress x = do
   sec ← section
   v ← expect jumpToNonLocal (asLocal x)
-  pure (if isKind Kind.Subtable v then record { kind = Kind.SubtableRef; number = v .number; offset = v .offset; size = some (pointerSize sec) } else v)
+  pure (if isKind Kind.Subtable v then subtableRef (pointerSize sec) v else v)
 
 unfoldable pub resolveBranch : Value → BranchDst → BranchHint → Walk (Unit {0})
 resolveBranch cond (BranchDst.Direct l) hint = do
@@ -262,8 +265,8 @@ ordinalAfter macros = sum (map (λ (m : Macro). length (m .body)) macros)
 
 -- A statement begins: it has its ordinal, may not follow an export, and is counted up to 4,096.
 
-unfoldable pub begun : ℕ → State → State
-begun ordinal s = record {
+unfoldable pub beginAt : ℕ → State → State
+beginAt ordinal s = record {
   statements = s .statements;
   scope = s .scope;
   nextLabel = s .nextLabel;
@@ -273,11 +276,18 @@ begun ordinal s = record {
 }
 
 unfoldable pub counted : State → State
-counted s = record { statements = suc (s .statements); scope = s .scope; nextLabel = s .nextLabel; sizing = s .sizing; actions = s .actions; export = s .export }
+counted s = record {
+  statements = suc (s .statements);
+  scope = s .scope;
+  nextLabel = s .nextLabel;
+  sizing = s .sizing;
+  actions = s .actions;
+  export = s .export;
+}
 
 unfoldable pub begin : ℕ → Walk (Unit {0})
 begin ordinal = do
-  change (begun ordinal)
+  change (beginAt ordinal)
   s ← state
   require (not (isSome (s .export))) afterExport
   require (leb (s .statements + 1) 4096) tooManyStatements
@@ -306,5 +316,5 @@ resolveBody zero ordinal body = resolveAll (resolveStatement λ id m xs. refuse 
 resolveBody (suc depth) ordinal body = resolveAll (resolveStatement (enterMacro (resolveBody depth))) ordinal body
 
 unfoldable pub statements-opens : Unit {0}
-unfolding expressions-opens asDestination asName targetName dstMeaning dstNamed resolveDst store writeBits readTo copyInto asReference storeRegister storeIn storeAt exported exportOf build hintNumber jumpValue directAddress resolveBranch delaySlot userOpStatement macroStatement symbolStatement callStatement resolveStatement ordinalAfter begun counted begin resolveAll enterMacro resolveBody
+unfolding expressions-opens asDestination asName targetName dstMeaning dstNamed resolveDst store writeBits readTo copyInto asReference storeRegister storeIn storeAt exported exportOf build hintNumber jumpValue directAddress resolveBranch delaySlot userOpStatement macroStatement symbolStatement callStatement resolveStatement ordinalAfter beginAt counted begin resolveAll enterMacro resolveBody
 statements-opens = tt

@@ -99,19 +99,54 @@ abbrev pub change : (State → State) → Walk (Unit {0})
 change f e s = done tt (f s)
 
 abbrev pub withScope : Scope → State → State
-withScope x s = record { statements = s .statements; scope = x; nextLabel = s .nextLabel; sizing = s .sizing; actions = s .actions; export = s .export }
+withScope x s = record {
+  statements = s .statements;
+  scope = x;
+  nextLabel = s .nextLabel;
+  sizing = s .sizing;
+  actions = s .actions;
+  export = s .export;
+}
 
 abbrev pub withLabel : Scope → State → State
-withLabel x s = record { statements = s .statements; scope = x; nextLabel = suc (s .nextLabel); sizing = s .sizing; actions = s .actions; export = s .export }
+withLabel x s = record {
+  statements = s .statements;
+  scope = x;
+  nextLabel = suc (s .nextLabel);
+  sizing = s .sizing;
+  actions = s .actions;
+  export = s .export;
+}
 
 abbrev pub withSizing : Sizing → State → State
-withSizing x s = record { statements = s .statements; scope = s .scope; nextLabel = s .nextLabel; sizing = x; actions = s .actions; export = s .export }
+withSizing x s = record {
+  statements = s .statements;
+  scope = s .scope;
+  nextLabel = s .nextLabel;
+  sizing = x;
+  actions = s .actions;
+  export = s .export;
+}
 
 abbrev pub withAction : SemanticAction → State → State
-withAction a s = record { statements = s .statements; scope = s .scope; nextLabel = s .nextLabel; sizing = s .sizing; actions = s .actions ++ (a ∷ []); export = s .export }
+withAction a s = record {
+  statements = s .statements;
+  scope = s .scope;
+  nextLabel = s .nextLabel;
+  sizing = s .sizing;
+  actions = s .actions ++ (a ∷ []);
+  export = s .export;
+}
 
 abbrev pub withExport : Export → State → State
-withExport x s = record { statements = s .statements; scope = s .scope; nextLabel = s .nextLabel; sizing = s .sizing; actions = s .actions; export = some x }
+withExport x s = record {
+  statements = s .statements;
+  scope = s .scope;
+  nextLabel = s .nextLabel;
+  sizing = s .sizing;
+  actions = s .actions;
+  export = some x;
+}
 
 -- Sizes within the walk.
 
@@ -154,7 +189,8 @@ push a = do
 
 unfoldable pub pushOp : Operation → ℕ → List Value → Option Value → Walk SemanticAction
 pushOp op n inputs output = do
-  a ← sizing λ sec. updateOperandSizes sec false (record { kind = ActionKind.Op op; number = n; inputs = inputs; output = output })
+  let a : SemanticAction = record { kind = ActionKind.Op op; number = n; inputs = inputs; output = output }
+  a ← sizing λ sec. updateOperandSizes sec false a
   push a
   pure a
 

@@ -16,7 +16,7 @@ use Rattle.definition.specs.Sizes.{pointerSize}
 use Rattle.definition.specs.Walk.{ExprValue, Label, Env, Walk, _>>=_, refuse, section, state, change, withExport}
 use Rattle.definition.specs.Scope.{Symbol, Meaning, means, wrong}
 use Rattle.definition.specs.Expressions.{mask, resolveExpr, argCount}
-use Rattle.definition.specs.Statements.{Destination, asDestination, asName, targetName, dstMeaning, dstNamed, resolveDst, store, maskBut, writeBits, readTo, copyInto, Reference, toRam, toRegister, asReference, storeRegister, storeIn, storeAt, exportOf, build, hintNumber, jumpValue, directAddress, resolveBranch, delaySlot, userOpStatement, macroStatement, symbolStatement, callStatement, resolveStatement, begun, counted, begin, resolveAll, enterMacro, resolveBody}
+use Rattle.definition.specs.Statements.{Destination, asDestination, asName, targetName, dstMeaning, dstNamed, resolveDst, store, maskBut, writeBits, readTo, copyInto, Reference, toRam, toRegister, asReference, storeRegister, storeIn, storeAt, exportOf, build, hintNumber, jumpValue, directAddress, resolveBranch, delaySlot, userOpStatement, macroStatement, symbolStatement, callStatement, resolveStatement, beginAt, counted, begin, resolveAll, enterMacro, resolveBody}
 use Rattle.definition.specs.Checker.{numberFits}
 use Rattle.definition_guarantee.specs.Tests.{Each}
 use Rattle.definition_guarantee.proofs.Tests.{never, each-at, then-some, none-some, some-same}
@@ -343,9 +343,9 @@ module _ (e : Env) (w : WithinLimits (e .section)) where
 
   -- bodies
 
-  keep-begun : {n : ℕ} (ordinal : ℕ) → Keeps e n Nothing (change (begun ordinal))
-  unfolding begun
-  keep-begun ordinal = keep-untouched (begun ordinal) λ s. record { temporaries = refl; actions = refl; scope = refl; next = refl }
+  keep-begun : {n : ℕ} (ordinal : ℕ) → Keeps e n Nothing (change (beginAt ordinal))
+  unfolding beginAt
+  keep-begun ordinal = keep-untouched (beginAt ordinal) λ s. record { temporaries = refl; actions = refl; scope = refl; next = refl }
 
   keep-counted : {n : ℕ} → Keeps e n Nothing (change counted)
   unfolding counted

@@ -24,7 +24,7 @@ oneMore b = record { labels = b .labels; placed = b .placed; statements = b .sta
 
 -- the state of a statement that has begun
 abbrev pub started : ℕ → State → State
-started ordinal st = d.counted (d.begun ordinal st)
+started ordinal st = d.counted (d.beginAt ordinal st)
 
 -- Both begin, or both refuse with the same number and the statement's own ordinal.
 pub data Begins (base ordinal : ℕ) (b : Beside) (st : State) (x : Step) (o : Outcome (Unit {0})) : Type 0 where
@@ -42,14 +42,14 @@ module _ (e : Env) (base ordinal : ℕ) (b : Beside) (st : State) (same : b .sta
       go ExportKind.RegisterRef = unfold exportNumber in refl
 
   pub begin-is : Begins base ordinal b st (begin ordinal (walkOf b (encS base st))) (d.begin ordinal e st)
-  unfolding begin d.begin d.begun d.counted on if_then_else_
+  unfolding begin d.begin d.beginAt d.counted on if_then_else_
   begin-is = rw (exported (st .export) export) (go (st .export) refl (leb 4096 (b .statements)) refl (leb (st .statements + 1) 4096) refl)
     where
       go : (x : Option Export) → st .export ≡ x → (c : Bool) → leb 4096 (b .statements) ≡ c → (l : Bool) → leb (st .statements + 1) 4096 ≡ l
           → Begins base ordinal b st (if not (isSome x) then (if c then Step.Stop 10 ordinal else Step.Next 0 (begun ordinal (b .statements + 1) (walkOf b (encS base st)))) else Step.Stop 20 ordinal)
-          (on e (require (not (isSome x)) afterExport e (d.begun ordinal st)) λ _ e1 st1. on e1 (require l tooManyStatements e1 st1) λ _ e2 st2. done tt (d.counted st2))
-      go (some y) q c p l r = unfold isSome if_then_else_ require on d.begun in refuses afterExport (unfold refusalNumber in refl) refl
+          (on e (require (not (isSome x)) afterExport e (d.beginAt ordinal st)) λ _ e1 st1. on e1 (require l tooManyStatements e1 st1) λ _ e2 st2. done tt (d.counted st2))
+      go (some y) q c p l r = unfold isSome if_then_else_ require on d.beginAt in refuses afterExport (unfold refusalNumber in refl) refl
       go none q true p true r = let k = leb-true 4096 (b .statements) p in let j = leb-true (st .statements + 1) 4096 r in absurd (omega (arith, same))
-      go none q true p false r = unfold isSome if_then_else_ require on d.begun in refuses tooManyStatements (unfold refusalNumber in refl) refl
-      go none q false p true r = unfold isSome if_then_else_ require on d.begun d.counted orNone orElse in begins refl refl (let j = leb-true (st .statements + 1) 4096 r in omega arith) q
+      go none q true p false r = unfold isSome if_then_else_ require on d.beginAt in refuses tooManyStatements (unfold refusalNumber in refl) refl
+      go none q false p true r = unfold isSome if_then_else_ require on d.beginAt d.counted orNone orElse in begins refl refl (let j = leb-true (st .statements + 1) 4096 r in omega arith) q
       go none q false p false r = let k = leb-false 4096 (b .statements) p in let j = leb-false (st .statements + 1) 4096 r in absurd (omega (arith, same))

@@ -97,11 +97,11 @@ module _ (s t : List ℕ) (e : Env) (front tail rest : List ℕ) (spare : ℕ) w
     follows-after f (Follows.stops r ordinal q a m i j) = Follows.stops r ordinal q a m i j
 
   kept-begun : (ordinal : ℕ) (st : State) → Kept e st → Kept e (started ordinal st)
-  unfolding d.counted d.begun
+  unfolding d.counted d.beginAt
   kept-begun ordinal st k = keep-untouched {e = e} {n = 0} (started ordinal) (λ u. record { temporaries = refl; actions = refl; scope = refl; next = refl }) .keeps st (omega arith) k .1
 
   between-begun : (we : WordEnv) (p ls marks : List ℕ) (b : Beside) (st : State) (ordinal : ℕ) → Between we p ls marks b st → st .statements < 4096 → Begun we p ls marks (oneMore b) (started ordinal st) ordinal
-  unfolding d.counted d.begun
+  unfolding d.counted d.beginAt
   between-begun we p ls marks b st ordinal h few = record {
     between = record {
       given = h .given;
@@ -136,7 +136,7 @@ module _ (s t : List ℕ) (e : Env) (front tail rest : List ℕ) (spare : ℕ) w
 
       then-rest : (y : Step) (o : Outcome (Unit {0})) → Begins (length front) ordinal b st y o
           → Whole ls marks b st (onStep (statementBegun y (enterMacro deep s t) s t p we pos ls (acts (e .section) front tail marks rest st) (temps (e .section) front tail marks rest st)) f) (on e o (λ _ e1 st1. on e1 (d.resolveStatement (enterOf deep) x e1 st1) (λ _. g)))
-      unfolding statementBegun on d.counted d.begun onStep
+      unfolding statementBegun on d.counted d.beginAt onStep
       then-rest y o (begins i j few free) =
           rw (i, j) (on-from (oneMore b) (started ordinal st) _ _ (λ q more c u h. framed-begun s t e front tail rest we spare ordinal h)
           (statements .follows we p ls marks (oneMore b) (started ordinal st) ordinal (between-begun we p ls marks b st ordinal between few) pos x next reads inside ends within))

@@ -49,7 +49,7 @@ module _ (s t : List ℕ) (e : Env) (front tail rest : List ℕ) (we : WordEnv) 
   -- a statement that begins changes nothing of this
   pub framed-begun : {ls marks q more : List ℕ} {b c : Beside} {st u : State} (ordinal : ℕ) → Framed s t e front tail rest we spare ls marks (oneMore b) (started ordinal st) q more c u
       → Framed s t e front tail rest we spare ls marks b st q more c u
-  unfolding d.counted d.begun
+  unfolding d.counted d.beginAt
   framed-begun ordinal f = record {
     labels = f .labels;
     oldLabels = f .oldLabels;
@@ -62,7 +62,7 @@ module _ (s t : List ℕ) (e : Env) (front tail rest : List ℕ) (we : WordEnv) 
 
   pub standing-begun : {p ls marks : List ℕ} {b : Beside} {st : State} (ordinal : ℕ) → Standing s t e front tail rest we spare p ls marks b st → st .statements < 4096
       → Standing s t e front tail rest we spare p ls marks (oneMore b) (started ordinal st)
-  unfolding d.counted d.begun
+  unfolding d.counted d.beginAt
   standing-begun {p} {ls} {marks} {b} {st} ordinal h few = record {
     stood = record {
       actions = h .stood .actions;
