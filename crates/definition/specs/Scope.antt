@@ -13,6 +13,11 @@ use Rattle.definition.specs.Walk.{ExprValue, Label, Scope, State, Walk, 
 unfoldable pub find : {A : Type 0} → ℕ → List (ℕ × A) → Option A
 find n entries = first (λ e. if eqb n (e .0) then some (e .1) else none) entries
 
+-- the entry of that name replaced, or a new one at the end
+unfoldable pub putEntry : {A : Type 0} → ℕ → A → List (ℕ × A) → List (ℕ × A)
+putEntry n a [] = (n, a) ∷ []
+putEntry n a (e ∷ entries) = if eqb n (e .0) then (n, a) ∷ entries else e ∷ putEntry n a entries
+
 -- Globals.
 
 -- a symbol: its place in its kind's list, and its entry there
@@ -120,13 +125,13 @@ namedTmp n size = do
   s ← state
   let x = s .scope
   require (not (isSome (find n (x .mapping)))) redeclared
-  change (withScope (record { params = x .params; mapping = (n, v) ∷ x .mapping; labels = x .labels }))
+  change (withScope (record { params = x .params; mapping = x .mapping ++ ((n, v) ∷ []); labels = x .labels }))
   pure v
 
 -- Labels: 256 at most in a section.
 
 abbrev pub withEntry : ℕ → Label → Scope → Scope
-withEntry n l x = record { params = x .params; mapping = x .mapping; labels = (n, l) ∷ x .labels }
+withEntry n l x = record { params = x .params; mapping = x .mapping; labels = putEntry n l (x .labels) }
 
 unfoldable pub labelOr : ℕ → Option Label → Walk Label
 labelOr n (some l) = pure l
@@ -176,5 +181,5 @@ unfoldable pub macroScope : List ℕ → List ExprValue → Scope
 macroScope params args = record { params = bindParams params args []; mapping = []; labels = [] }
 
 unfoldable pub scope-opens : Unit {0}
-unfolding base-opens walk-opens find symbols globals lookup asSpace asTable registerBits globalMeaning innerMeaning meaningOf meaning meant resolveIdent namedTmp labelOr getOrInsertLabel resolveLabel locals sectionScope bindParams macroScope
+unfolding base-opens walk-opens find putEntry symbols globals lookup asSpace asTable registerBits globalMeaning innerMeaning meaningOf meaning meant resolveIdent namedTmp labelOr getOrInsertLabel resolveLabel locals sectionScope bindParams macroScope
 scope-opens = tt

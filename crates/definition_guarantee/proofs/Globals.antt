@@ -4,19 +4,12 @@ use mathlib.Core.Path.{_≡_, refl, subst}
 use mathlib.Core.List.{List, [], _∷_, _++_}
 use mathlib.Core.Option.{Option, none, some}
 use native.Mathlib.Omega.{arith}
-use lib.Dec.{eqb}
 use lib.ListN.{length, getElem?}
 use Rattle.definition.specs.Ast.{Space as SpaceEntry, Register as RegisterEntry, BitRange as BitRangeEntry, Table as TableEntry, Macro as MacroEntry, Section}
 use Rattle.definition.specs.Scope.{find, Symbol, symbols, globals}
 use Rattle.definition_guarantee.specs.Tests.{Each}
-use Rattle.definition_guarantee.proofs.Tests.{each-at, each-append, first-from, chosen, none-some}
-
-pub find-each : {A : Type 0} (P : A → Type 0) (n : ℕ) (xs : List (ℕ × A)) (a : A) → Each (λ (p : ℕ × A). P (p .1)) xs → find n xs ≡ some a
-    → P a
-unfolding find
-find-each {A} P n xs a h e =
-    let q = first-from _ xs a e in
-    subst P (chosen (eqb n (q .1 .0)) (q .1 .1) a (q .3)) (each-at (λ (p : ℕ × A). P (p .1)) xs (q .0) (q .1) h (q .2))
+use Rattle.definition_guarantee.proofs.Tests.{each-append, none-some}
+use Rattle.definition_guarantee.proofs.Entries.{find-each}
 
 -- an element's place is within its list
 pub place-below : {A : Type 0} (xs : List A) (i : ℕ) (x : A) → getElem? xs i ≡ some x → i < length xs

@@ -21,7 +21,8 @@ use Rattle.definition_guarantee.proofs.Tests.{le-of, eq-of, each-at, th
 use Rattle.definition_guarantee.proofs.Layouts.{laidOut}
 use Rattle.definition_guarantee.proofs.WholeList.{placing}
 use Rattle.definition_guarantee.specs.Limits.{SizeWithin, ExprWithin, ArgsWithin, WithinLimits}
-use Rattle.definition_guarantee.proofs.Globals.{find-each, FoundPlaced, found-placed}
+use Rattle.definition_guarantee.proofs.Entries.{find-each}
+use Rattle.definition_guarantee.proofs.Globals.{FoundPlaced, found-placed}
 use Rattle.definition_guarantee.proofs.Kept.{fits-more, Applicable, part, ValueFits, OptionFits, ExprFits, values-more, option-more, expr-more, count, ScopeFits, Kept, later-refl, Keeps, keep-bind, keep-then, keep-pure, keep-refuse, keep-require, keep-expect, keep-if, keep-section, keep-setSize, keep-known, keep-sliced, exprs-more}
 use Rattle.definition_guarantee.proofs.Pushes.{keep-addTmp, keep-outputOr, keep-push, keep-op, keep-opNoOutput}
 use Rattle.definition_guarantee.proofs.Shapes.{local-fits, constant-fits, copy-applies, right-applies, and-applies, load-applies, user-applies, OrderApplies, operator-applies, inbuilt-applies, arg-applies, address-laid, load-laid}

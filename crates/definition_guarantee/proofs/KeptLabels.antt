@@ -15,10 +15,11 @@ use Rattle.definition.specs.Value.{Value, ActionKind, SemanticAction, operation
 use Rattle.definition.specs.Ast.{Statement, Macro}
 use Rattle.definition.specs.Sizes.{updateOperandSizes}
 use Rattle.definition.specs.Walk.{ExprValue, Label, State, Env, Outcome, done, stopped, on, Walk, pure, require, sizing, withScope, withLabel, withSizing, withAction, push, pushOp, opNoOutput}
-use Rattle.definition.specs.Scope.{find, namedTmp, withEntry, labelOr, getOrInsertLabel, resolveLabel, bindParams, macroScope}
+use Rattle.definition.specs.Scope.{find, putEntry, namedTmp, withEntry, labelOr, getOrInsertLabel, resolveLabel, bindParams, macroScope}
 use Rattle.definition.specs.Statements.{enterMacro}
 use Rattle.definition_guarantee.specs.Tests.{Each}
 use Rattle.definition_guarantee.proofs.Tests.{clash, le-of, eq-of, same, differs, each-append, In, none-some, some-same}
+use Rattle.definition_guarantee.proofs.Entries.{find-put}
 use Rattle.definition_guarantee.proofs.Layouts.{Rough, laidOut}
 use Rattle.definition_guarantee.proofs.WholeList.{placing, place, labelNumbers, Distinct, numbers-append}
 use Rattle.definition_guarantee.specs.Limits.{SizeWithin, WithinLimits}
@@ -26,20 +27,20 @@ use Rattle.definition_guarantee.proofs.Kept.{fits-more, ValueFits, Expr
 use Rattle.definition_guarantee.proofs.Pushes.{scope-more, keep-addTmp, keep-update, applied}
 use Rattle.definition_guarantee.proofs.Shapes.{label-applies}
 
--- the first entry, or a later one under another name
-found : {A : Type 0} (n m : ℕ) (l k : A) (xs : List (ℕ × A)) → find m ((n, l) ∷ xs) ≡ some k
+-- the entry that was put, or another under another name
+found : {A : Type 0} (n m : ℕ) (l k : A) (xs : List (ℕ × A)) → find m (putEntry n l xs) ≡ some k
     → ((m ≡ n) × (l ≡ k)) ⊎ ((m ≢ n) × (find m xs ≡ some k))
 unfolding find first if_then_else_ _or_
-found {A} n m l k xs e = go (eqb m n) refl e
+found {A} n m l k xs e = go (eqb m n) refl (sym (find-put n l m xs) ∙ e)
   where
     go : (b : Bool) → eqb m n ≡ b → (if b then some l else none) or find m xs ≡ some k
         → ((m ≡ n) × (l ≡ k)) ⊎ ((m ≢ n) × (find m xs ≡ some k))
     go true d e = inl (eq-of m n d, some-same e)
     go false d e = inr (differs m n d, e)
 
-own : {A : Type 0} (n : ℕ) (l : A) (xs : List (ℕ × A)) → find n ((n, l) ∷ xs) ≡ some l
+own : {A : Type 0} (n : ℕ) (l : A) (xs : List (ℕ × A)) → find n (putEntry n l xs) ≡ some l
 unfolding find first if_then_else_ _or_
-own n l xs = rw (same n)
+own n l xs = find-put n l n xs ∙ rw (same n)
 
 pub no-label : {A : Type 0} (l : Label) (n : ℕ) → find n [] ≡ some l → A
 unfolding find first
@@ -47,7 +48,7 @@ no-label l n e = none-some {x = none} refl e
 
 -- a label of a new number
 new-label : (n next : ℕ) (xs : List (ℕ × Label)) (placed : List ℕ) → ((k : ℕ) → In k placed → k < next) → LabelsFit xs next placed
-    → LabelsFit ((n, record { id = next; defined = false }) ∷ xs) (suc next) placed
+    → LabelsFit (putEntry n (record { id = next; defined = false }) xs) (suc next) placed
 new-label n next xs placed p f = record {
   below = λ m k e. below m k (found n m l k xs e);
   unplaced = λ m k e d. unplaced m k d (found n m l k xs e);
@@ -76,7 +77,7 @@ new-label n next xs placed p f = record {
 
 -- a label is marked as defined
 marked : (n next : ℕ) (l : Label) (xs : List (ℕ × Label)) (placed : List ℕ) → find n xs ≡ some l → LabelsFit xs next placed
-    → LabelsFit ((n, record { id = l .id; defined = true }) ∷ xs) next placed
+    → LabelsFit (putEntry n (record { id = l .id; defined = true }) xs) next placed
 marked n next l xs placed h f = record {
   below = λ m k e. below m k (found n m new k xs e);
   unplaced = λ m k e d. unplaced m k d (found n m new k xs e);
@@ -139,7 +140,7 @@ module _ (e : Env) where
       t : State
       t = withLabel (withEntry name l (s .scope)) s
 
-      there : find name ((name, l) ∷ s .scope .labels) ≡ some l
+      there : find name (putEntry name l (s .scope .labels)) ≡ some l
       there = own name l (s .scope .labels)
 
       unknown : (k : ℕ) → Guarded k s → (n : ℕ) (m : Label) → ((n ≡ name) × (l ≡ m)) ⊎ ((n ≢ name) × (find n (s .scope .labels) ≡ some m))
@@ -394,7 +395,7 @@ module _ (e : Env) where
           → Ends e s (λ k v. ValueFits e k v) (on e (require b redeclared e s)
           (λ _ f t. done v (withScope (record {
             params = s .scope .params;
-            mapping = (name, v) ∷ s .scope .mapping;
+            mapping = s .scope .mapping ++ ((name, v) ∷ []);
             labels = s .scope .labels;
           }) t)))
       go k v f s c o true =
@@ -411,7 +412,7 @@ module _ (e : Env) where
                 labels = o .inOrder .labels;
                 room = o .inOrder .room;
               };
-              scope = record { params = o .scope .params; mapping = (g, o .scope .mapping) };
+              scope = record { params = o .scope .params; mapping = each-append _ (s .scope .mapping) ((name, v) ∷ []) (o .scope .mapping) (g, tt) };
               next = o .next;
               placed = o .placed;
               labels = o .labels;

@@ -15,6 +15,7 @@ pub mod WholeList
 pub mod Ending
 -- the section that is read, and the walk over it
 pub mod Readings
+pub mod Entries
 pub mod Globals
 pub mod Limits
 pub mod Kept

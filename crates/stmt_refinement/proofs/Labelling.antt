@@ -3,7 +3,7 @@ use Prim.Native.Nat.{ℕ, suc, _+_, _/_, _%_, _≤_, _<_}
 use mathlib.Core.Path.{_≡_, refl, sym, _∙_, ap, subst}
 use mathlib.Core.Logic.{_≢_, inl}
 use mathlib.Core.Bool.{Bool, true, false, not}
-use mathlib.Core.List.{List, _∷_}
+use mathlib.Core.List.{List}
 use mathlib.Core.Option.{Option, none, some}
 use native.Mathlib.Omega.{arith}
 use lib.ListN.{length, getD, set, length-set}
@@ -14,7 +14,8 @@ use Rattle.prelude.specs.Base.{first, base-opens, if_then_else_}
 use Rattle.definition.specs.Refusals.{Refusal, refusalNumber, tooManyLabels, labelTwice}
 use Rattle.definition.specs.Walk.{Label, State, Env, Outcome, done, stopped, on, require, withScope, withLabel}
 use Rattle.definition.specs.Scope as scope
-use Rattle.definition.specs.Scope.{find, withEntry}
+use Rattle.definition.specs.Scope.{find, putEntry, withEntry}
+use Rattle.definition_guarantee.proofs.Entries.{find-put}
 use Rattle.list_pushes.specs.declared.push.Env.{Env as WordEnv}
 use Rattle.list_values.specs.Base.{Listed, listed}
 use Rattle.stmt_branches.specs.declared.labels.Label.{Label as WordLabel}
@@ -106,13 +107,13 @@ module _ (s t : List ℕ) (e : Env) (p front tail marks rest : List ℕ) (we : W
     abbrev added : List ℕ
     added = set ls (b .labels) (labelKey name (we .scope))
 
-    relabels-new : b .labels < 256 → find name (st .scope .labels) ≡ none → Relabels added ((name, record { id = st .nextLabel; defined = false }) ∷ st .scope .labels) (suc (b .labels)) (suc (st .nextLabel))
+    relabels-new : b .labels < 256 → find name (st .scope .labels) ≡ none → Relabels added (putEntry name (record { id = st .nextLabel; defined = false }) (st .scope .labels)) (suc (b .labels)) (suc (st .nextLabel))
     relabels-new h q =
         let long = stand .long in
         let inserted = label-inserted ls (we .scope) (b .labels) (st .scope .labels) (stand .labelled) name known few (omega arith) h q in
         record {
           long = length-set ls (b .labels) (labelKey name (we .scope)) ∙ stand .long;
-          labelled = subst (λ (m : ℕ). LabelsIn added (we .scope) (suc (b .labels)) ((name, record { id = m; defined = false }) ∷ st .scope .labels)) (stand .labels) inserted;
+          labelled = subst (λ (m : ℕ). LabelsIn added (we .scope) (suc (b .labels)) (putEntry name (record { id = m; defined = false }) (st .scope .labels))) (stand .labels) inserted;
           small = omega arith;
           same = ap suc (stand .labels);
           more = omega arith;
@@ -136,10 +137,10 @@ module _ (s t : List ℕ) (e : Env) (p front tail marks rest : List ℕ) (we : W
         fresh true c q =
             let h = leb-true (st .nextLabel + 1) 256 c in
             let l : b .labels < 256 = (let k = stand .labels in omega arith) in
-            is (record { id = st .nextLabel; defined = false }) added ((name, record { id = st .nextLabel; defined = false }) ∷ st .scope .labels) (suc (b .labels)) (suc (st .nextLabel)) (unfold on require in refl)
+            is (record { id = st .nextLabel; defined = false }) added (putEntry name (record { id = st .nextLabel; defined = false }) (st .scope .labels)) (suc (b .labels)) (suc (st .nextLabel)) (unfold on require in refl)
             (label-new ls (we .scope) (b .labels) (st .scope .labels) (stand .labelled) name known q l ∙ ap (λ (m : ℕ). listed (WordLabel.Is m) added) (stand .labels))
             (unfold labelsAfter if_then_else_ in rw (le-ltb (st .nextLabel) (b .labels) (let k = stand .labels in omega arith)) (let k = stand .labels in omega arith))
-            (relabels-new l q) (unfold find first base-opens in rw (eq-eqb name name refl))
+            (relabels-new l q) (find-put name (record { id = st .nextLabel; defined = false }) name (st .scope .labels) ∙ (unfold find first base-opens in rw (eq-eqb name name refl)))
         fresh false c q =
             let h = leb-false (st .nextLabel + 1) 256 c in
             no (unfold on require in refl) (labels-full ls (we .scope) (b .labels) (st .scope .labels) (stand .labelled) name known q (let k = stand .labels in omega arith))
@@ -172,7 +173,7 @@ module _ (s t : List ℕ) (e : Env) (p front tail marks rest : List ℕ) (we : W
       unfolding labelScope labelKey
       own-scope = rw (key-at q (we .scope) n labels (r .labelled) name known few long (r .small) l found name l known found) (omega (arith, few))
 
-      relabels-placed : Relabels placing ((name, record { id = l .id; defined = true }) ∷ labels) n next
+      relabels-placed : Relabels placing (putEntry name (record { id = l .id; defined = true }) labels) n next
       relabels-placed =
           let i = id-below in
           record {
@@ -189,7 +190,7 @@ module _ (s t : List ℕ) (e : Env) (p front tail marks rest : List ℕ) (we : W
       -- the label is placed, if it was not before
       place : labelsAfter (l .id) (b .labels) ≡ n → (c : Bool) → l .defined ≡ c
           → Placed (placeLabel q (l .id) name (we .scope)) (on e (require (not c) labelTwice e (relabelled labels next)) λ _ e2 st2. on e2 (done st2 st2) λ u e3 st3. on e3 (done (tt {0}) (withScope (withEntry name (record { id = l .id; defined = true }) (u .scope)) st3)) λ _ e4 st4. done (l .id) st4)
-      place k false c = is (l .id) placing ((name, record { id = l .id; defined = true }) ∷ labels) n next (unfold on require in refl) (label-once q (we .scope) n labels (r .labelled) name known few long (r .small) l found c) k relabels-placed
+      place k false c = is (l .id) placing (putEntry name (record { id = l .id; defined = true }) labels) n next (unfold on require in refl) (label-once q (we .scope) n labels (r .labelled) name known few long (r .small) l found c) k relabels-placed
       place k true c = no labelTwice q (unfold on require in refl) (unfold refusalNumber in label-twice q (we .scope) n labels (r .labelled) name known few long (r .small) l found c)
 
     pub resolve-label : Placed (resolveLabel ls name (we .scope) (b .labels)) (scope.resolveLabel name e st)

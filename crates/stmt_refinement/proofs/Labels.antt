@@ -2,7 +2,7 @@
 use Prim.Native.Nat.{ℕ, zero, suc, _+_, _*_, _%_, _≤_, _<_}
 use mathlib.Core.Path.{_≡_, refl, sym, _∙_, ap, subst}
 use mathlib.Core.Bool.{Bool, true, false}
-use mathlib.Core.List.{List, _∷_}
+use mathlib.Core.List.{List}
 use mathlib.Core.Option.{Option, none, some}
 use native.Mathlib.Omega.{arith}
 use lib.ListN.{length, getD, set}
@@ -12,7 +12,8 @@ use borrow.Author.Tests.{eqb-true, eqb-false, eq-eqb, ne-eqb, lt-ltb, le-ltb, le
 use Rattle.prelude.specs.Base as definition
 use Rattle.prelude.specs.Base.{_or_, first, base-opens, if_then_else_}
 use Rattle.definition.specs.Walk.{Label}
-use Rattle.definition.specs.Scope.{find}
+use Rattle.definition.specs.Scope.{find, putEntry}
+use Rattle.definition_guarantee.proofs.Entries.{find-put}
 use Rattle.list_values.specs.Base.{listed}
 use Rattle.stmt_branches.specs.declared.labels.Label.{Label as WordLabel}
 use Rattle.stmt_branches.specs.Labels.{findLabel, labelKey, labelOr, getOrInsertLabel, placeLabel}
@@ -82,8 +83,8 @@ module _ (ls : List ℕ) (scope n : ℕ) (labels : List (ℕ × Label)) (labelle
   own : getD added n 0 ≡ labelKey name scope
   own = getD-set-same ls n (labelKey name scope) 0 (omega arith)
 
-  find-cons : (m : ℕ) → find m ((name, fresh) ∷ labels) ≡ (definition.if_then_else_ (eqb name m) (some fresh) none) or find m labels
-  find-cons m = rw (eqb-swap name m) (unfold find first in refl)
+  find-new : (m : ℕ) → find m (putEntry name fresh labels) ≡ (definition.if_then_else_ (eqb name m) (some fresh) none) or find m labels
+  find-new m = rw (eqb-swap name m) (find-put name fresh m labels ∙ (unfold find first in refl))
 
   finds : (m : ℕ) (o : Option Label) → find m labels ≡ o → ((l : Label) → o ≡ some l → l .id < n) → (b : Bool) → (b ≡ true → o ≡ none)
       → (if ltb (idOr n o) n then idOr n o else if b then n else suc n) ≡ idOr (suc n) ((definition.if_then_else_ b (some fresh) none) or o)
@@ -92,11 +93,11 @@ module _ (ls : List ℕ) (scope n : ℕ) (labels : List (ℕ × Label)) (labelle
   finds m none q h true k = unfold idOr if_then_else_ base-opens in rw (le-ltb n n (omega arith))
   finds m none q h false k = unfold idOr if_then_else_ base-opens in rw (le-ltb n n (omega arith))
 
-  found-in : (m : ℕ) → m < 1024 → findLabel (suc n) 0 added (labelKey m scope) ≡ idOr (suc n) (find m ((name, fresh) ∷ labels))
+  found-in : (m : ℕ) → m < 1024 → findLabel (suc n) 0 added (labelKey m scope) ≡ idOr (suc n) (find m (putEntry name fresh labels))
   found-in m h =
       let z : 0 + n ≡ n = omega arith in
       more-label added (labelKey m scope) n 0
-      ∙ rw (z, own, key-small name scope known few, key-same name m scope known h, same-label added ls (labelKey m scope) n 0 (λ j l. old j (omega arith)), labelled .found m h, find-cons m)
+      ∙ rw (z, own, key-small name scope known few, key-same name m scope known h, same-label added ls (labelKey m scope) n 0 (λ j l. old j (omega arith)), labelled .found m h, find-new m)
       (finds m (find m labels) refl (labelled .below m) (eqb name m) (λ q. subst (λ (i : ℕ). find i labels ≡ none) (eqb-true name m q) new))
 
   key-below : labelKey name scope < 4294967296
@@ -104,11 +105,11 @@ module _ (ls : List ℕ) (scope n : ℕ) (labels : List (ℕ × Label)) (labelle
   key-below = omega arith
 
   -- the labels with the new one
-  pub label-inserted : LabelsIn added scope (suc n) ((name, fresh) ∷ labels)
+  pub label-inserted : LabelsIn added scope (suc n) (putEntry name fresh labels)
   label-inserted = record {
     found = found-in;
-    below = λ m l q. inside m l (eqb name m) (sym (find-cons m) ∙ q);
-    placed = λ m l h q. marked m l h (eqb name m) (sym (find-cons m) ∙ q);
+    below = λ m l q. inside m l (eqb name m) (sym (find-new m) ∙ q);
+    placed = λ m l h q. marked m l h (eqb name m) (sym (find-new m) ∙ q);
   }
     where
       inside : (m : ℕ) (l : Label) (b : Bool) → (definition.if_then_else_ b (some fresh) none) or find m labels ≡ some l → l .id < suc n
@@ -169,11 +170,11 @@ module _ (ls : List ℕ) (scope n : ℕ) (labels : List (ℕ × Label)) (labelle
       go true q = subst (λ (i : ℕ). getD placing i 0 % 4294967296 ≡ getD ls i 0 % 4294967296) (sym (eqb-true j (l .id) q)) (rw now (key-within ∙ sym (key-at name l known is)))
       go false q = rw (getD-set-other ls (l .id) j (4294967296 + labelKey name scope) 0 (λ z. eqb-false j (l .id) q (omega arith)))
 
-  find-there : (m : ℕ) → find m ((name, there) ∷ labels) ≡ (definition.if_then_else_ (eqb name m) (some there) none) or find m labels
-  find-there m = rw (eqb-swap name m) (unfold find first in refl)
+  find-there : (m : ℕ) → find m (putEntry name there labels) ≡ (definition.if_then_else_ (eqb name m) (some there) none) or find m labels
+  find-there m = rw (eqb-swap name m) (find-put name there m labels ∙ (unfold find first in refl))
 
   -- the labels with this one placed
-  pub label-placed : LabelsIn placing scope n ((name, there) ∷ labels)
+  pub label-placed : LabelsIn placing scope n (putEntry name there labels)
   label-placed = record {
     found = λ m h. same-keys placing ls (labelKey m scope) n 0 (λ j k. keys j (omega arith)) ∙ labelled .found m h ∙ sym (ap (idOr n) (find-there m) ∙ ids m (eqb name m) refl);
     below = λ m y q. inside m y (eqb name m) (sym (find-there m) ∙ q);

@@ -19,11 +19,12 @@ use Rattle.definition.specs.Walk.{State, Scope, Env, Outcome, done, stopped, on
 use Rattle.definition.specs.Scope as d
 use Rattle.definition.specs.Scope.{find}
 use Rattle.definition.specs.ActionList.{orNone}
+use Rattle.definition_guarantee.proofs.Entries.{find-last}
 use Rattle.list_pushes.specs.declared.push.Env.{Env as WordEnv}
 use Rattle.list_pushes.specs.declared.push.Read.{Read}
 use Rattle.list_values.specs.Base.{Listed, listed}
 use Rattle.list_pushes.specs.Pushes.{addTmp, onTmp}
-use Rattle.list_refinement.specs.Encoding.{encV, markedWord, temporaryWords, temporariesIn, SoundTmp, Each}
+use Rattle.list_refinement.specs.Encoding.{encV, markedWord, temporaryWords, temporariesIn, Sound, SoundTmp, Each}
 use Rattle.list_refinement.proofs.Marks.{marked-same, marked-other, uppers, uppers-length, uppers-at, words-again}
 use Rattle.list_refinement.proofs.Pushes.{Stands, Made, marked, words-marked, words-length, tmps-length, marked-length, each-snoc, named-is, add-done}
 use Rattle.list_refinement.proofs.Seen.{seenTmp, outcome}
@@ -180,7 +181,7 @@ module _ (s t : List ℕ) (e : Env) (p front tail marks rest : List ℕ) (we : W
   made = local Kind.PcodeTmp (count st)
 
   abbrev pub scopeWith : Scope
-  scopeWith = record { params = st .scope .params; mapping = (name, made) ∷ st .scope .mapping; labels = st .scope .labels }
+  scopeWith = record { params = st .scope .params; mapping = st .scope .mapping ++ ((name, made) ∷ []); labels = st .scope .labels }
 
   -- the state that follows
   abbrev pub declared : State
@@ -231,14 +232,14 @@ module _ (s t : List ℕ) (e : Env) (p front tail marks rest : List ℕ) (we : W
     where
       declares : (y : Option Value) (v : Value) (w : List ℕ) → temporariesIn more rest (tmps added) ≡ w
           → seenTmp (acts (e .section) front tail marks rest st) (undeclared (encF y) (encV v) (word (e .section) front tail marks rest added) (madeWords marks rest (tmps st) name size (we .scope)) w)
-          ≡ outcome front tail more rest encV (on e (require (not (isSome y)) redeclared e added) λ _. λ e1 st1. on e1 (done (tt {0}) (withScope (record { params = st .scope .params; mapping = (name, v) ∷ st .scope .mapping; labels = st .scope .labels }) st1)) λ _. λ e2 st2. done v st2)
+          ≡ outcome front tail more rest encV (on e (require (not (isSome y)) redeclared e added) λ _. λ e1 st1. on e1 (done (tt {0}) (withScope (record { params = st .scope .params; mapping = st .scope .mapping ++ ((name, v) ∷ []); labels = st .scope .labels }) st1)) λ _. λ e2 st2. done v st2)
       declares none v w q = unfold seenTmp undeclared encF outcome on require isSome in rw q
       declares (some u) v w q = unfold seenTmp undeclared encF outcome on require isSome refusalNumber in refl
 
       go : (x : Listed Read) (o : Outcome Value) → seenTmp (acts (e .section) front tail marks rest st) x ≡ outcome front tail (madeMarks marks rest (tmps st) name size (we .scope)) rest encV o → ((v : Value) (u : State) → o ≡ done v u → Added v u)
           → seenTmp (acts (e .section) front tail marks rest st) (onTmp x (λ v st1 w. undeclared (lookupLocal t w (we .scope) (count st) name) v st1 w (attach (count st) 0 (path name (we .scope)) (count st) w)) (λ n w. listed (Read.No n) w))
           ≡ outcome front tail more rest encV (on e o λ v. λ e1 st1. on e1 (done st1 st1) λ s1. λ e2 st2. on e2 (require (not (isSome (find name (s1 .scope .mapping)))) redeclared e2 st2)
-          λ _. λ e3 st3. on e3 (done (tt {0}) (withScope (record { params = s1 .scope .params; mapping = (name, v) ∷ s1 .scope .mapping; labels = s1 .scope .labels }) st3)) λ _. λ e4 st4. done v st4)
+          λ _. λ e3 st3. on e3 (done (tt {0}) (withScope (record { params = s1 .scope .params; mapping = s1 .scope .mapping ++ ((name, v) ∷ []); labels = s1 .scope .labels }) st3)) λ _. λ e4 st4. done v st4)
       go (listed (Read.Value v1 st1) m1) (done v u) h k =
           unfold seenTmp outcome onTmp on in (let a : v1 ≡ encV v = cc in let b : st1 ≡ word (e .section) front tail marks rest u = cc in let c : m1 ≡ temps (e .section) front tail (madeMarks marks rest (tmps st) name size (we .scope)) rest u = cc in let g = k v u refl in
           rw (a, b, c, g .state, old-lookup name known) (declares (find name (st .scope .mapping)) v _ (words-in (g .limited) (g .room))))
@@ -264,12 +265,12 @@ module _ (s t : List ℕ) (e : Env) (p front tail marks rest : List ℕ) (we : W
       by f g (some x) c h = let i : stopped redeclared (st .sizing .begun) 0 ≡ done v u = unfold require on isSome in h in let z : _≡_ {A = ℕ} 0 1 = cc in absurd (omega arith)
 
       at-made : (v1 : Value) (u1 : State) → Added v1 u1
-          → (on e (require (not (isSome (find name (u1 .scope .mapping)))) redeclared e u1) λ _. λ e3 st3. on e3 (done (tt {0}) (withScope (record { params = u1 .scope .params; mapping = (name, v1) ∷ u1 .scope .mapping; labels = u1 .scope .labels }) st3)) λ _. λ e4 st4. done v1 st4) ≡ done v u → Declared v u
+          → (on e (require (not (isSome (find name (u1 .scope .mapping)))) redeclared e u1) λ _. λ e3 st3. on e3 (done (tt {0}) (withScope (record { params = u1 .scope .params; mapping = u1 .scope .mapping ++ ((name, v1) ∷ []); labels = u1 .scope .labels }) st3)) λ _. λ e4 st4. done v1 st4) ≡ done v u → Declared v u
       at-made v1 u1 g h = by (g .limited) (g .room) (find name (st .scope .mapping)) refl (rw (g .value, g .state) at h)
 
       go : (o : Outcome Value) → ((v : Value) (u : State) → o ≡ done v u → Added v u)
           → (on e o λ v. λ e1 st1. on e1 (done st1 st1) λ s1. λ e2 st2. on e2 (require (not (isSome (find name (s1 .scope .mapping)))) redeclared e2 st2)
-          λ _. λ e3 st3. on e3 (done (tt {0}) (withScope (record { params = s1 .scope .params; mapping = (name, v) ∷ s1 .scope .mapping; labels = s1 .scope .labels }) st3)) λ _. λ e4 st4. done v st4) ≡ done v u → Declared v u
+          λ _. λ e3 st3. on e3 (done (tt {0}) (withScope (record { params = s1 .scope .params; mapping = s1 .scope .mapping ++ ((name, v) ∷ []); labels = s1 .scope .labels }) st3)) λ _. λ e4 st4. done v st4) ≡ done v u → Declared v u
       go (stopped r ordinal errors) k h = unfold on in (let z : _≡_ {A = ℕ} 0 1 = cc in absurd (omega arith))
       go (done v1 u1) k h = at-made v1 u1 (k v1 u1 refl) (unfold on in h)
 
@@ -277,7 +278,7 @@ module _ (s t : List ℕ) (e : Env) (p front tail marks rest : List ℕ) (we : W
   unfolding d.namedTmp on
   named-halts = halts-on e st (walks.addTmp (some name) size e st) _ (add-halts e st (some name) size) (λ v u q. (ap (λ (y : State). y .sizing .begun) (add-state v u q .state), declares v u (not (isSome (find name (u .scope .mapping))))))
     where
-      declares : (v : Value) (u : State) (c : Bool) → Halts u (on e (require c redeclared e u) λ _. λ e3 st3. on e3 (done (tt {0}) (withScope (record { params = u .scope .params; mapping = (name, v) ∷ u .scope .mapping; labels = u .scope .labels }) st3)) λ _. λ e4 st4. done v st4)
+      declares : (v : Value) (u : State) (c : Bool) → Halts u (on e (require c redeclared e u) λ _. λ e3 st3. on e3 (done (tt {0}) (withScope (record { params = u .scope .params; mapping = u .scope .mapping ++ ((name, v) ∷ []); labels = u .scope .labels }) st3)) λ _. λ e4 st4. done v st4)
       declares v u true = unfold require on in halts-done u v _
       declares v u false = unfold require on in halts-here u redeclared
 
@@ -292,7 +293,7 @@ module _ (s t : List ℕ) (e : Env) (p front tail marks rest : List ℕ) (we : W
       errors = stood .errors;
       sound = actions-more (e .section) (count st) (count added) (room .count) (st .actions) (stood .sound);
       params = params-more (e .section) (count st) (count added) (room .count) (st .scope .params) (stood .params);
-      mapping = (room .sound, mapping-more (e .section) (count st) (count added) (room .count) (st .scope .mapping) (stood .mapping));
+      mapping = each-snoc (λ (p : ℕ × Value). Sound (e .section) (count added) (p .1)) (st .scope .mapping) (name, made) (mapping-more (e .section) (count st) (count added) (room .count) (st .scope .mapping) (stood .mapping)) (room .sound);
     }
 
     -- every other local is found where it was
@@ -310,20 +311,20 @@ module _ (s t : List ℕ) (e : Env) (p front tail marks rest : List ℕ) (we : W
       locals = λ n h. finds n (eqb name n) refl h;
     }
       where
-        find-cons : (n : ℕ) → find n ((name, made) ∷ st .scope .mapping) ≡ (definition.if_then_else_ (eqb n name) (some made) none) or find n (st .scope .mapping)
-        find-cons n = unfold find first in refl
+        find-new : (n : ℕ) → find n (st .scope .mapping ++ ((name, made) ∷ [])) ≡ (definition.if_then_else_ (eqb n name) (some made) none) or find n (st .scope .mapping)
+        find-new n = find-last name made n (st .scope .mapping) undeclared-yet ∙ (unfold find first in refl)
 
         here : Found.Is (record { kind = 6; number = count st; offset = 0; size = 65535 }) ≡ encF ((definition.if_then_else_ true (some made) none) or find name (st .scope .mapping))
         here = unfold encF base-opens kindNumber orNone orElse in refl
 
-        own : lookupLocal t (temporariesIn more rest (tmps added)) (we .scope) (count added) name ≡ encF (find name ((name, made) ∷ st .scope .mapping))
-        own = rw (find-cons name, eq-eqb name name refl)
+        own : lookupLocal t (temporariesIn more rest (tmps added)) (we .scope) (count added) name ≡ encF (find name (st .scope .mapping ++ ((name, made) ∷ [])))
+        own = rw (find-new name, eq-eqb name name refl)
             (lookup-new t (temporariesIn marks rest (tmps st)) (temporariesIn more rest (tmps added)) (we .scope) (count st) (count added) name _
             (scoped .locals name known ∙ rw undeclared-yet (unfold encF in refl))
             (hung-own marks rest (tmps st) name size (we .scope) few known (stood .sizes) small (inside room) limit) ∙ here)
 
-        finds : (n : ℕ) (b : Bool) → eqb name n ≡ b → n < 1024 → lookupLocal t (temporariesIn more rest (tmps added)) (we .scope) (count added) n ≡ encF (find n ((name, made) ∷ st .scope .mapping))
-        finds n true q h = subst (λ (i : ℕ). lookupLocal t (temporariesIn more rest (tmps added)) (we .scope) (count added) i ≡ encF (find i ((name, made) ∷ st .scope .mapping))) (eqb-true name n q) own
+        finds : (n : ℕ) (b : Bool) → eqb name n ≡ b → n < 1024 → lookupLocal t (temporariesIn more rest (tmps added)) (we .scope) (count added) n ≡ encF (find n (st .scope .mapping ++ ((name, made) ∷ [])))
+        finds n true q h = subst (λ (i : ℕ). lookupLocal t (temporariesIn more rest (tmps added)) (we .scope) (count added) i ≡ encF (find i (st .scope .mapping ++ ((name, made) ∷ [])))) (eqb-true name n q) own
         finds n false q h =
             lookup-as t (temporariesIn marks rest (tmps st)) (temporariesIn more rest (tmps added)) (we .scope) (count st) (count added) n (declared-others n (we .scope) (λ a b. eqb-false name n q a))
-            ∙ scoped .locals n h ∙ rw (find-cons n, eqb-swap n name, q) (unfold base-opens in refl)
+            ∙ scoped .locals n h ∙ rw (find-new n, eqb-swap n name, q) (unfold base-opens in refl)
