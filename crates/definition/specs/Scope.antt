@@ -22,13 +22,13 @@ putEntry n a (e ∷ entries) = if eqb n (e .0) then (n, a) ∷ entries else e �
 
 -- a symbol: its place in its kind's list, and its entry there
 pub data Symbol : Type 0 where
-  Space : ℕ → SpaceEntry → Symbol
-  Register : ℕ → RegisterEntry → Symbol
-  BitRange : ℕ → BitRangeEntry → Symbol
-  Table : ℕ → TableEntry → Symbol
-  UserOp : ℕ → Symbol
-  Macro : ℕ → MacroEntry → Symbol
-  Other : ℕ → Symbol
+  Space : (id : ℕ) (entry : SpaceEntry) → Symbol
+  Register : (id : ℕ) (entry : RegisterEntry) → Symbol
+  BitRange : (id : ℕ) (entry : BitRangeEntry) → Symbol
+  Table : (id : ℕ) (entry : TableEntry) → Symbol
+  UserOp : (id : ℕ) → Symbol
+  Macro : (id : ℕ) (entry : MacroEntry) → Symbol
+  Other : (id : ℕ) → Symbol
 
 -- the symbols of a list's entries by their names, counted from i
 unfoldable pub symbols : {A : Type 0} → (A → ℕ) → (ℕ → A → Symbol) → ℕ → List A → List (ℕ × Symbol)

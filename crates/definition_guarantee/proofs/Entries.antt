@@ -1,9 +1,9 @@
 -- Entries by name: what is found among them, and after one is put or added.
 use Prim.Native.Nat.{ℕ}
-use mathlib.Core.Path.{_≡_, refl, sym, _∙_, ap, subst}
+use mathlib.Core.Path.{_≡_, refl, sym, _∙_, subst}
 use mathlib.Core.Bool.{Bool, true, false}
 use mathlib.Core.List.{List, [], _∷_, _++_}
-use mathlib.Core.Option.{Option, none, some}
+use mathlib.Core.Option.{none, some}
 use lib.Dec.{eqb}
 use Rattle.prelude.specs.Base.{if_then_else_, _or_, first}
 use Rattle.definition.specs.Scope.{find, putEntry}
