@@ -295,9 +295,9 @@ unfoldable pub callNamed : ℕ → Args → Walk (List Value) → Walk (List Exp
 callNamed name args values resolved (some f) = callInbuilt f args values
 callNamed name args values resolved none = lookup name >>= callSymbol name args resolved
 
--- The arguments come in three forms: as written, for their number and for the one integer of a subpiece; as values, each
--- read before the next is resolved, for a built-in function; as resolved only, for a user op, which resolves all of them
--- before it reads any.
+-- The arguments come in three forms: as written, for their number and for the one integer of a subpiece; as values,
+-- each read before the next is resolved, for a built-in function; as resolved only, for a user op, which resolves all
+-- of them before it reads any.
 unfoldable pub resolveCall : ℕ → Args → Walk (List Value) → Walk (List ExprValue) → Walk ExprValue
 resolveCall name args values resolved = do
   sec ← section

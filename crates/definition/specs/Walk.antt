@@ -28,8 +28,8 @@ pub record Label : Type 0 where
   pub id : ℕ
   pub defined : Bool
 
--- What names mean in the section, or in one macro call. Entries stand in the order of their declaration, but of parameters
--- the last is in front; of two entries for a name the one in front counts.
+-- What names mean in the section, or in one macro call. Entries stand in the order of their declaration, but of
+-- parameters the last is in front; of two entries for a name the one in front counts.
 pub record Scope : Type 0 where
   pub params : List (ℕ × ExprValue)
   pub mapping : List (ℕ × Value)
