@@ -89,13 +89,28 @@ pub record Subtable : Type 0 where
   pub name : ℕ
   pub table : ℕ
 
-pub record Section : Type 0 where
+-- the rule set, how many entries each list has, the default space, and the names with a meaning of their own
+pub record Header : Type 0 where
   pub ruleSet : ℕ
+  pub names : ℕ
+  pub spaces : ℕ
+  pub registers : ℕ
+  pub bitRanges : ℕ
+  pub tables : ℕ
+  pub userOps : ℕ
+  pub macros : ℕ
+  pub others : ℕ
+  pub fields : ℕ
+  pub subtables : ℕ
+  pub statements : ℕ
   pub defaultSpace : Option ℕ
   pub instStart : ℕ
   pub instNext : ℕ
   pub const : ℕ
   pub delaySlot : ℕ
+
+pub record Section : Type 0 where
+  pub header : Header
   pub names : List (List ℕ)
   pub spaces : List Space
   pub registers : List Register

@@ -142,7 +142,7 @@ spaceKind none r = refuse r
 unfoldable pub resolveSpace : Option ℕ → Walk SpaceKind
 resolveSpace none = do
   sec ← section
-  spaceKind (andThen (sec .defaultSpace) (getElem? (sec .spaces))) noDefaultSpace
+  spaceKind (andThen (sec .header .defaultSpace) (getElem? (sec .spaces))) noDefaultSpace
 resolveSpace (some n) = do
   id ← lookupKind SymbolKind.Space n
   sec ← section
@@ -177,7 +177,7 @@ unfoldable pub resolveAddress : Option ℕ → Option ℕ → Walk ExprValue →
 resolveAddress space size pointer = do
   x ← pointer
   sec ← section
-  if isName (sec .const) space then inConstSpace size x else addressIn space size x
+  if isName (sec .header .const) space then inConstSpace size x else addressIn space size x
 
 -- Operators. The six greater ones swap their operands before either is resolved.
 

@@ -8,7 +8,7 @@ use lib.ListN.{length, take, drop, getD, getElem?}
 use lib.Dec.{eqb, leb, ltb}
 use Rattle.prelude.specs.Base.{if_then_else_, any, all, sum, sameBytes, base-opens}
 use Rattle.definition.specs.Refusals.{Refusal, badLength, blockCheck, malformed, outsideLimit, namesNothing, spelledTwice}
-use Rattle.definition.specs.Ast.{PcodeOp, PcodeExpr, Args, noArgs, arg, JumpLabel, BranchDst, BranchHint, Statement, SpaceKind, Space, Register, BitRange, Table, Macro, Field, Subtable, Section}
+use Rattle.definition.specs.Ast.{PcodeOp, PcodeExpr, Args, noArgs, arg, JumpLabel, BranchDst, BranchHint, Statement, SpaceKind, Space, Register, BitRange, Table, Macro, Field, Subtable, Header, Section}
 
 -- what reading gives: a thing and the bytes after it, or a refusal
 pub data Parsed (A : Type 0) : Type 0 where
@@ -297,25 +297,6 @@ spellings taken (suc n) = do
 
 -- The header.
 
-pub record Header : Type 0 where
-  pub ruleSet : ℕ
-  pub names : ℕ
-  pub spaces : ℕ
-  pub registers : ℕ
-  pub bitRanges : ℕ
-  pub tables : ℕ
-  pub userOps : ℕ
-  pub macros : ℕ
-  pub others : ℕ
-  pub fields : ℕ
-  pub subtables : ℕ
-  pub statements : ℕ
-  pub defaultSpace : Option ℕ
-  pub instStart : ℕ
-  pub instNext : ℕ
-  pub const : ℕ
-  pub delaySlot : ℕ
-
 unfoldable pub header : Read Header
 header = do
   ruleSet ← u16 >>= upTo 0
@@ -362,31 +343,28 @@ nothingLeft s = require (all (eqb 0) s) malformed s
 -- The lists follow in the header's order; statements come last.
 unfoldable pub lists : Header → Read Section
 lists h = do
-  spelt ← spellings [] (h .names)
-  spaces ← entries (h .names) (space (h .names)) [] (h .spaces)
+  let n = h .names
+  spelt ← spellings [] n
+  spaces ← entries n (space n) [] (h .spaces)
   let taken = map (λ (x : Space). x .name) spaces
-  registers ← entries (h .names) (register (h .names)) taken (h .registers)
+  registers ← entries n (register n) taken (h .registers)
   let taken = map (λ (x : Register). x .name) registers ++ taken
-  bitRanges ← entries (h .names) (bitRange (h .names) (h .registers)) taken (h .bitRanges)
+  bitRanges ← entries n (bitRange n (h .registers)) taken (h .bitRanges)
   let taken = map (λ (x : BitRange). x .name) bitRanges ++ taken
-  tables ← entries (h .names) (table (h .names)) taken (h .tables)
+  tables ← entries n (table n) taken (h .tables)
   let taken = map (λ (x : Table). x .name) tables ++ taken
-  userOps ← entries (h .names) pure taken (h .userOps)
+  userOps ← entries n pure taken (h .userOps)
   let taken = userOps ++ taken
-  macros ← entries (h .names) (macro (h .names)) taken (h .macros)
+  macros ← entries n (macro n) taken (h .macros)
   let taken = map (λ (x : Macro). x .name) macros ++ taken
-  others ← entries (h .names) pure taken (h .others)
-  fields ← entries (h .names) (field (h .names)) [] (h .fields)
-  subtables ← entries (h .names) (subtable (h .names) (h .tables)) (map (λ (x : Field). x .name) fields) (h .subtables)
-  statements ← listOf (statement (h .names)) (h .statements)
+  others ← entries n pure taken (h .others)
+  fields ← entries n (field n) [] (h .fields)
+  let taken = map (λ (x : Field). x .name) fields
+  subtables ← entries n (subtable n (h .tables)) taken (h .subtables)
+  statements ← listOf (statement n) (h .statements)
   nothingLeft
   pure (record {
-    ruleSet = h .ruleSet;
-    defaultSpace = h .defaultSpace;
-    instStart = h .instStart;
-    instNext = h .instNext;
-    const = h .const;
-    delaySlot = h .delaySlot;
+    header = h;
     names = spelt;
     spaces = spaces;
     registers = registers;

@@ -124,7 +124,9 @@ error s = record { begun = s .begun; temporaries = s .temporaries; errors = s .e
 module _ (sec : Section) where
   -- the default space's, else 8
   unfoldable pub pointerSize : ℕ
-  pointerSize = orElse 8 (andThen (sec .defaultSpace) λ i. andThen (getElem? (sec .spaces) i) λ (x : Space). some (x .addressSize))
+  pointerSize =
+      orElse 8 (andThen (sec .header .defaultSpace) λ i.
+      andThen (getElem? (sec .spaces) i) λ (x : Space). some (x .addressSize))
 
   unfoldable pub exportSizeOf : ℕ → Option ℕ
   exportSizeOf n = andThen (getElem? (sec .subtables) n) λ (x : Subtable). andThen (getElem? (sec .tables) (x .table)) λ (t : Table). t .exportSize

@@ -153,8 +153,8 @@ module _ (e : Env) (w : WithinLimits (e .section)) where
   unfolding innerMeaning
   inner-fits k x name y f d =
       or-some (ExprFits e k) _ _ y (λ b h. find-each (ExprFits e k) name (x .params) b (f .params) h)
-      (λ c i. or-some (ExprFits e k) _ _ c (λ b h. subst (ExprFits e k) (chosen (eqb name (e .section .instNext)) _ b h) (next-fits e k))
-      (λ c i. or-some (ExprFits e k) _ _ c (λ b h. subst (ExprFits e k) (chosen (eqb name (e .section .instStart)) _ b h)
+      (λ c i. or-some (ExprFits e k) _ _ c (λ b h. subst (ExprFits e k) (chosen (eqb name (e .section .header .instNext)) _ b h) (next-fits e k))
+      (λ c i. or-some (ExprFits e k) _ _ c (λ b h. subst (ExprFits e k) (chosen (eqb name (e .section .header .instStart)) _ b h)
       (start-fits e k))
       (λ b h. let q = then-some (find name (x .mapping)) _ b h in let r : ExprValue.Local (q .0) ≡ b = cc (q .2) in
       subst (ExprFits e k) r (find-each (ValueFits e k) name (x .mapping) (q .0) (f .mapping) (q .1))) i) i) d

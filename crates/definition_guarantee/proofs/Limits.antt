@@ -9,9 +9,9 @@ use lib.Dec.{eqb}
 use lib.ListN.{length, getElem?}
 use Rattle.prelude.specs.Base.{if_then_else_, orElse}
 use Rattle.definition.specs.Refusals.{malformed, outsideLimit}
-use Rattle.definition.specs.Ast.{PcodeExpr, Args, noArgs, arg, Statement, Space, Register, BitRange, Table, Macro, Field, Section}
+use Rattle.definition.specs.Ast.{PcodeExpr, Args, noArgs, arg, Statement, Space, Register, BitRange, Table, Macro, Field, Header, Section}
 use Rattle.definition.specs.Expressions.{argCount}
-use Rattle.definition.specs.SectionFile.{Parsed, parsed, refused, Read, on, _>>=_, _>>_, pure, refuse, upTo, orAbsent, size, sizeOr, choose, code, smallCount, listOf, argsOf, call, exprs, exprWithin, jumpLabel, branchDst, statement, entries, space, register, bitRange, table, macro, field, Header, header, lists, section, streamOf, read}
+use Rattle.definition.specs.SectionFile.{Parsed, parsed, refused, Read, on, _>>=_, _>>_, pure, refuse, upTo, orAbsent, size, sizeOr, choose, code, smallCount, listOf, argsOf, call, exprs, exprWithin, jumpLabel, branchDst, statement, entries, space, register, bitRange, table, macro, field, header, lists, section, streamOf, read}
 use Rattle.definition_guarantee.specs.Tests.{Each}
 use Rattle.definition_guarantee.specs.Limits.{SizeWithin, ExprWithin, ArgsWithin, JumpWithin, DestinationWithin, StatementWithin, WithinLimits}
 use Rattle.definition_guarantee.proofs.Readings.{Reading, Reads, bind, returns, refuses, passed, passes, reads-upTo, reads-bits}
