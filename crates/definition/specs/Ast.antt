@@ -3,16 +3,11 @@
 use Prim.Native.Nat.{ℕ}
 use mathlib.Core.List.{List}
 use mathlib.Core.Option.{Option}
+use Rattle.definition.specs.Operations.{Operation}
 
--- the operators, in the order of `PcodeOp`
+-- An operator as written: an operation, or a greater one, which is the lesser operation with its operands swapped.
 pub data PcodeOp : Type 0 where
-  IntMult IntDiv IntSignedDiv IntRem IntSignedRem : PcodeOp
-  IntAdd IntSub IntLeft IntRight IntSignedRight : PcodeOp
-  IntSignedLess IntSignedLessEqual IntLess IntLessEqual IntEqual IntNotEqual : PcodeOp
-  FloatDiv FloatMult FloatAdd FloatSub FloatLess FloatLessEqual FloatEqual FloatNotEqual : PcodeOp
-  IntAnd IntXor IntOr BoolXor BoolAnd BoolOr : PcodeOp
-  IntCarry IntSignedCarry IntSignedBorrow : PcodeOp
-  IntGreater IntGreaterEqual IntSignedGreater IntSignedGreaterEqual FloatGreater FloatGreaterEqual : PcodeOp
+  plain greater : Operation → PcodeOp
 
 mutual
   pub data PcodeExpr : Type 0 where

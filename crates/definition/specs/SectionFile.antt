@@ -8,6 +8,7 @@ use lib.ListN.{length, take, drop, getD, getElem?}
 use lib.Dec.{eqb, leb, ltb}
 use Rattle.prelude.specs.Base.{if_then_else_, any, all, sum, sameBytes, base-opens}
 use Rattle.definition.specs.Refusals.{Refusal, badLength, blockCheck, malformed, outsideLimit, namesNothing, spelledTwice}
+use Rattle.definition.specs.Operations.{Operation, operators, operations-opens}
 use Rattle.definition.specs.Ast.{PcodeOp, PcodeExpr, Args, noArgs, arg, JumpLabel, BranchDst, BranchHint, Statement, SpaceKind, Space, Register, BitRange, Table, Macro, Field, Subtable, Header, Section}
 
 -- what reading gives: a thing and the bytes after it, or a refusal
@@ -147,18 +148,14 @@ argsOf item (suc n) = do
 
 -- Expressions and statements, in the order of ast.rs; the file has so many names.
 
+-- The operators, in the order of `PcodeOp`: IntMult to IntSignedBorrow; then IntGreater, IntGreaterEqual,
+-- IntSignedGreater, IntSignedGreaterEqual, FloatGreater, FloatGreaterEqual.
 unfoldable pub pcodeOps : List PcodeOp
 pcodeOps =
-    PcodeOp.IntMult ∷ PcodeOp.IntDiv ∷ PcodeOp.IntSignedDiv ∷ PcodeOp.IntRem ∷ PcodeOp.IntSignedRem
-    ∷ PcodeOp.IntAdd ∷ PcodeOp.IntSub ∷ PcodeOp.IntLeft ∷ PcodeOp.IntRight ∷ PcodeOp.IntSignedRight
-    ∷ PcodeOp.IntSignedLess ∷ PcodeOp.IntSignedLessEqual ∷ PcodeOp.IntLess ∷ PcodeOp.IntLessEqual ∷ PcodeOp.IntEqual ∷ PcodeOp.IntNotEqual
-    ∷ PcodeOp.FloatDiv ∷ PcodeOp.FloatMult ∷ PcodeOp.FloatAdd ∷ PcodeOp.FloatSub
-    ∷ PcodeOp.FloatLess ∷ PcodeOp.FloatLessEqual ∷ PcodeOp.FloatEqual ∷ PcodeOp.FloatNotEqual
-    ∷ PcodeOp.IntAnd ∷ PcodeOp.IntXor ∷ PcodeOp.IntOr ∷ PcodeOp.BoolXor ∷ PcodeOp.BoolAnd ∷ PcodeOp.BoolOr
-    ∷ PcodeOp.IntCarry ∷ PcodeOp.IntSignedCarry ∷ PcodeOp.IntSignedBorrow
-    ∷ PcodeOp.IntGreater ∷ PcodeOp.IntGreaterEqual ∷ PcodeOp.IntSignedGreater ∷ PcodeOp.IntSignedGreaterEqual
-    ∷ PcodeOp.FloatGreater ∷ PcodeOp.FloatGreaterEqual
-    ∷ []
+    map PcodeOp.plain operators
+    ++ map PcodeOp.greater (
+    Operation.IntLess ∷ Operation.IntLessEqual ∷ Operation.IntSignedLess ∷ Operation.IntSignedLessEqual
+    ∷ Operation.FloatLess ∷ Operation.FloatLessEqual ∷ [])
 
 module _ (names : ℕ) where
   abbrev pub name : Read ℕ
@@ -386,5 +383,5 @@ unfoldable pub read : Read Section
 read file = on (streamOf file) λ stream _. section stream
 
 unfoldable pub section-file-opens : Unit {0}
-unfolding base-opens on require checksOut bytes payloads wholeBlocks streamOf u8 littleEndian upTo naming orAbsent choose code oneOf listOf argsOf pcodeOps call exprs exprWithin jumpLabel branchDst branchHint statement entries space register bitRange table macro field subtable spelling spellings header nothingLeft lists section read
+unfolding base-opens operations-opens on require checksOut bytes payloads wholeBlocks streamOf u8 littleEndian upTo naming orAbsent choose code oneOf listOf argsOf pcodeOps call exprs exprWithin jumpLabel branchDst branchHint statement entries space register bitRange table macro field subtable spelling spellings header nothingLeft lists section read
 section-file-opens = tt
