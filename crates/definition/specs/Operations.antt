@@ -2,7 +2,7 @@
 -- (a label, a user op, a hint, a subpiece's offset) stands beside it as the action's number.
 use Prim.Native.Nat.{ℕ}
 use mathlib.Core.Bool.{Bool}
-use mathlib.Core.List.{List, [], _∷_}
+use mathlib.Core.List.{List, [], _∷_, _++_}
 use lib.Dec.{eqb}
 use Rattle.prelude.specs.Base.{any, base-opens}
 
@@ -104,6 +104,15 @@ oneInputs =
     ∷ Operation.IntCountLeadingZeroes
     ∷ []
 
+-- all of them, in the order of their numbers
+unfoldable pub operations : List Operation
+operations =
+    operators ++ oneInputs
+    ++ (
+    Operation.Copy ∷ Operation.Load ∷ Operation.Store ∷ Operation.Branch ∷ Operation.PcodeBranch
+    ∷ Operation.PcodeLabel ∷ Operation.PcodeOp ∷ Operation.Arg ∷ Operation.Invalid ∷ Operation.Subpiece
+    ∷ [])
+
 abbrev pub isOp : Operation → Operation → Bool
 isOp a b = eqb (operationNumber a) (operationNumber b)
 
@@ -111,5 +120,5 @@ unfoldable pub among : List Operation → Operation → Bool
 among group op = any (isOp op) group
 
 unfoldable pub operations-opens : Unit {0}
-unfolding base-opens operationNumber operators oneInputs among
+unfolding base-opens operationNumber operators oneInputs operations among
 operations-opens = tt

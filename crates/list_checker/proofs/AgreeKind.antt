@@ -14,6 +14,7 @@ use Rattle.definition.specs.Value.{ActionKind, operationOf}
 use Rattle.definition.specs.Sizes.{in0, in1, out, one, pointer, Step, equal, sized, unsized, rules, ruleOf}
 use Rattle.definition.specs.ActionList.{actionKindNumber, operationWord}
 use Rattle.definition.specs.Checker.{Shape, shapes, withOutput, noOutput, operationNumbered, opNumbered, actionKindNumbered, sameCount, shapeOf}
+use Rattle.definition.proofs.EveryOperation.{alike}
 use Rattle.list_checker.specs.Action.{Row, triple, shift, comparison, boolean, negation, same, tested, free, load, store, branch, condition, label, user, argument, invalid, unknown, rowOf}
 use Rattle.list_checker.proofs.FitLaws.{row-above}
 
@@ -67,67 +68,10 @@ pub record Tabled (t s : ℕ) (o : Operation) : Type 0 where
 
 pub tabled : (t s : ℕ) (o : Operation) → Tabled t s o
 unfolding operations-opens shapes shapeOf shapeOfRow rules ruleOf stepsOf rowOf
-tabled t s Operation.IntMul = record { shape = refl; steps = refl }
-tabled t s Operation.IntDiv = record { shape = refl; steps = refl }
-tabled t s Operation.IntSignedDiv = record { shape = refl; steps = refl }
-tabled t s Operation.IntRem = record { shape = refl; steps = refl }
-tabled t s Operation.IntSignedRem = record { shape = refl; steps = refl }
-tabled t s Operation.IntAdd = record { shape = refl; steps = refl }
-tabled t s Operation.IntSub = record { shape = refl; steps = refl }
-tabled t s Operation.IntLeft = record { shape = refl; steps = refl }
-tabled t s Operation.IntRight = record { shape = refl; steps = refl }
-tabled t s Operation.IntSignedRight = record { shape = refl; steps = refl }
-tabled t s Operation.IntSignedLess = record { shape = refl; steps = refl }
-tabled t s Operation.IntSignedLessEqual = record { shape = refl; steps = refl }
-tabled t s Operation.IntLess = record { shape = refl; steps = refl }
-tabled t s Operation.IntLessEqual = record { shape = refl; steps = refl }
-tabled t s Operation.IntEqual = record { shape = refl; steps = refl }
-tabled t s Operation.IntNotEqual = record { shape = refl; steps = refl }
-tabled t s Operation.FloatDiv = record { shape = refl; steps = refl }
-tabled t s Operation.FloatMul = record { shape = refl; steps = refl }
-tabled t s Operation.FloatAdd = record { shape = refl; steps = refl }
-tabled t s Operation.FloatSub = record { shape = refl; steps = refl }
-tabled t s Operation.FloatLess = record { shape = refl; steps = refl }
-tabled t s Operation.FloatLessEqual = record { shape = refl; steps = refl }
-tabled t s Operation.FloatEqual = record { shape = refl; steps = refl }
-tabled t s Operation.FloatNotEqual = record { shape = refl; steps = refl }
-tabled t s Operation.IntAnd = record { shape = refl; steps = refl }
-tabled t s Operation.IntXor = record { shape = refl; steps = refl }
-tabled t s Operation.IntOr = record { shape = refl; steps = refl }
-tabled t s Operation.BoolXor = record { shape = refl; steps = refl }
-tabled t s Operation.BoolAnd = record { shape = refl; steps = refl }
-tabled t s Operation.BoolOr = record { shape = refl; steps = refl }
-tabled t s Operation.IntCarry = record { shape = refl; steps = refl }
-tabled t s Operation.IntSignedCarry = record { shape = refl; steps = refl }
-tabled t s Operation.IntSignedBorrow = record { shape = refl; steps = refl }
-tabled t s Operation.BoolNot = record { shape = refl; steps = refl }
-tabled t s Operation.IntNot = record { shape = refl; steps = refl }
-tabled t s Operation.IntNegate = record { shape = refl; steps = refl }
-tabled t s Operation.FloatIsNan = record { shape = refl; steps = refl }
-tabled t s Operation.ZeroExtend = record { shape = refl; steps = refl }
-tabled t s Operation.SignExtend = record { shape = refl; steps = refl }
-tabled t s Operation.FloatNegate = record { shape = refl; steps = refl }
-tabled t s Operation.FloatAbs = record { shape = refl; steps = refl }
-tabled t s Operation.FloatSqrt = record { shape = refl; steps = refl }
-tabled t s Operation.FloatCeil = record { shape = refl; steps = refl }
-tabled t s Operation.FloatFloor = record { shape = refl; steps = refl }
-tabled t s Operation.FloatRound = record { shape = refl; steps = refl }
-tabled t s Operation.FloatToInt = record { shape = refl; steps = refl }
-tabled t s Operation.IntToFloat = record { shape = refl; steps = refl }
-tabled t s Operation.UintToFloat = record { shape = refl; steps = refl }
-tabled t s Operation.FloatToFloat = record { shape = refl; steps = refl }
-tabled t s Operation.IntCountOnes = record { shape = refl; steps = refl }
-tabled t s Operation.IntCountLeadingZeroes = record { shape = refl; steps = refl }
-tabled t s Operation.Copy = record { shape = refl; steps = refl }
-tabled t s Operation.Load = record { shape = refl; steps = refl }
-tabled t s Operation.Store = record { shape = refl; steps = refl }
-tabled t s Operation.Branch = record { shape = refl; steps = refl }
-tabled t s Operation.PcodeBranch = record { shape = refl; steps = refl }
-tabled t s Operation.PcodeLabel = record { shape = refl; steps = refl }
-tabled t s Operation.PcodeOp = record { shape = refl; steps = refl }
-tabled t s Operation.Arg = record { shape = refl; steps = refl }
-tabled t s Operation.Invalid = record { shape = refl; steps = refl }
-tabled t s Operation.Subpiece = record { shape = refl; steps = refl }
+tabled t s o = record {
+  shape = alike (λ o. shapeOf t s (ActionKind.Op o)) (λ o. shapeOfRow (rowOf (operationNumber o))) refl o;
+  steps = alike ruleOf (λ o. stepsOf (rowOf (operationNumber o))) refl o;
+}
 
 -- Numbers read as operations.
 
