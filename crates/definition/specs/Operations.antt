@@ -15,7 +15,7 @@ pub data Operation : Type 0 where
   -- 39 to 56, the one-input spellings
   BoolNot IntNot IntNegate FloatIsNan ZeroExtend SignExtend FloatNegate FloatAbs FloatSqrt FloatCeil : Operation
   FloatFloor FloatRound FloatToInt IntToFloat UintToFloat FloatToFloat IntCountOnes IntCountLeadingZeroes : Operation
-  -- 57 to 65, and the subpiece, which becomes a Copy and has no number in the list
+  -- 57 to 65; and 66, the subpiece, while a list is made: a finished list has a Copy in its place
   Copy Load Store Branch PcodeBranch PcodeLabel PcodeOp Arg Invalid Subpiece : Operation
 
 unfoldable pub operationNumber : Operation → ℕ
