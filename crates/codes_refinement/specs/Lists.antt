@@ -1,5 +1,4 @@
 -- The definition's things whose numbers the code has as constants, each list in the constants' order.
-use Prim.Native.Nat.{ℕ}
 use mathlib.Core.List.{List, [], _∷_}
 use Rattle.definition.specs.Operations.{Operation}
 use Rattle.definition.specs.Refusals.{Refusal}

@@ -10,7 +10,8 @@ use Rattle.prelude.specs.Base.{if_then_else_}
 use Rattle.definition.specs.Operations.{Operation, operationNumber, operations, operations-opens}
 
 -- functions that give the same over a list give the same at each place
-pub same-at : {A B : Type 0} (f g : A → B) (xs : List A) (i : ℕ) (x : A) → map f xs ≡ map g xs → getElem? xs i ≡ some x → f x ≡ g x
+pub same-at : {A B : Type 0} (f g : A → B) (xs : List A) (i : ℕ) (x : A) → map f xs ≡ map g xs
+    → getElem? xs i ≡ some x → f x ≡ g x
 same-at f g [] i x h e = let z : _≡_ {A = ℕ} 0 1 = cc in absurd (omega arith)
 same-at f g (y ∷ ys) zero x h e = let d : y ≡ x = cc in let k : f y ≡ g y = cc in rw (← d) k
 same-at f g (y ∷ ys) (suc i) x h e = let k : map f ys ≡ map g ys = cc in same-at f g ys i x k e

@@ -1,11 +1,12 @@
--- THE SECTION: the syntax tree of ast.rs and the symbols of symbols.rs, as a file holds them. A name is an index into the
--- list of spellings.
+-- THE SECTION: the syntax tree of ast.rs and the symbols of symbols.rs, as a file holds them. A name is an index into
+-- the list of spellings.
 use Prim.Native.Nat.{ℕ}
 use mathlib.Core.List.{List}
 use mathlib.Core.Option.{Option}
 use Rattle.definition.specs.Operations.{Operation}
 
 -- An operator as written: an operation, or a greater one, which is the lesser operation with its operands swapped.
+-- A file can hold 39 of them, `pcodeOps`.
 pub data PcodeOp : Type 0 where
   plain greater : Operation → PcodeOp
 

@@ -1,5 +1,5 @@
--- OPERATIONS: `pcode::Op` as far as `resolve` makes them, with their numbers in the action list. What an operation holds
--- (a label, a user op, a hint, a subpiece's offset) stands beside it as the action's number.
+-- OPERATIONS: `pcode::Op` as far as `resolve` makes them, with their numbers in the action list. What an operation
+-- holds (a label, a user op, a hint, a subpiece's offset) stands beside it as the action's number.
 use Prim.Native.Nat.{ℕ}
 use mathlib.Core.Bool.{Bool}
 use mathlib.Core.List.{List, [], _∷_, _++_}

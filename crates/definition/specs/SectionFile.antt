@@ -7,9 +7,12 @@ use mathlib.Core.Option.{Option, none, some}
 use lib.ListN.{length, take, drop, getD, getElem?}
 use lib.Dec.{eqb, leb, ltb}
 use Rattle.prelude.specs.Base.{if_then_else_, any, all, sum, sameBytes, base-opens}
-use Rattle.definition.specs.Refusals.{Refusal, badLength, blockCheck, malformed, outsideLimit, namesNothing, spelledTwice}
+use Rattle.definition.specs.Refusals.{Refusal, badLength, blockCheck, malformed}
+use Rattle.definition.specs.Refusals.{outsideLimit, namesNothing, spelledTwice}
 use Rattle.definition.specs.Operations.{Operation, operators, operations-opens}
-use Rattle.definition.specs.Ast.{PcodeOp, PcodeExpr, Args, noArgs, arg, JumpLabel, BranchDst, BranchHint, Statement, SpaceKind, Space, Register, BitRange, Table, Macro, Field, Subtable, Header, Section}
+use Rattle.definition.specs.Ast.{PcodeOp, PcodeExpr, Args, noArgs, arg, JumpLabel, BranchDst, BranchHint}
+use Rattle.definition.specs.Ast.{Statement, SpaceKind, Space, Register, BitRange, Table, Macro, Field, Subtable}
+use Rattle.definition.specs.Ast.{Header, Section}
 
 -- what reading gives: a thing and the bytes after it, or a refusal
 pub data Parsed (A : Type 0) : Type 0 where

@@ -8,7 +8,8 @@ use native.Mathlib.Omega.{arith}
 use lib.Dec.{eqb, leb}
 use lib.ListN.{length, getElem?}
 use lib.Seq.{take-at, drop-at}
-use Rattle.prelude.specs.Base.{if_then_else_, orElse, andThen, isSome, any, all, first, base-opens}
+use borrow.Author.Tests.{not-true}
+use Rattle.prelude.specs.Base.{if_then_else_, orElse, andThen, isSome, any, all, base-opens}
 use Rattle.definition.specs.Operations.{Operation, operationNumber, among, operations-opens}
 use Rattle.definition.specs.Value.{Kind, kindNumber, Value, ActionKind, SemanticAction, operationOf}
 use Rattle.definition.specs.ActionList.{orNone, valueWords, inputWords, actionKindNumber, outputWords, operationWord, filled, actionWords, listWords}
@@ -167,21 +168,15 @@ row-small = refl
 abbrev SmallCounts : Shape → Type 0
 SmallCounts shape = all small-count (shape .counts) ≡ true
 
--- a subpiece has no shape
+-- a subpiece alone has no shape
+shaped-others : (t sub : ℕ) (op : Operation) → isSome (shapeOf t sub (ActionKind.Op op)) ≡ not (eqb (operationNumber op) 66)
+unfolding shapeOf shapes operations-opens
+shaped-others t sub = alike (λ op. isSome (shapeOf t sub (ActionKind.Op op))) (λ op. not (eqb (operationNumber op) 66)) refl
+
 pub subpiece-shapeless : (t sub : ℕ) (op : Operation) (shape : Shape) → shapeOf t sub (ActionKind.Op op) ≡ some shape → (b : Bool)
     → eqb (operationNumber op) 66 ≡ b → b ≡ false
-unfolding shapeOf shapes operations-opens
-subpiece-shapeless t sub op shape e false d = refl
-subpiece-shapeless t sub op shape e true d =
-    let n : operationNumber op ≡ 66 = eq-of _ _ d in
-    let z : _≡_ {A = ℕ} 0 1 = absent (operationNumber op) n e in
-    absurd (omega arith)
-  where
-    row : ℕ → OperationShape → Option Shape
-    row n x = if any (λ other. eqb n (operationNumber other)) (x .operations) then some (x .shape) else none
-
-    absent : (n : ℕ) → n ≡ 66 → first (row n) shapes ≡ some shape → _≡_ {A = ℕ} 0 1
-    absent n d e = let q : none ≡ some shape = rw d at e in cc
+unfolding isSome
+subpiece-shapeless t sub op shape e b d = not-true b (sym (rw (e, d) at (shaped-others t sub op)))
 
 wrong-output : {A : Type 0} (n m : ℕ) (here there : Bool) → (if here then there else not there) ≡ false
     → any (sameCount (n, here)) ((m, there) ∷ []) ≡ true → A

@@ -8,7 +8,7 @@ use native.Mathlib.Omega.{arith}
 use lib.ListN.{length, getElem?}
 use lib.Dec.{eqb, ltb}
 use borrow.Author.Tests.{not-true, eqb-true}
-use Rattle.prelude.specs.Base.{isSome, all, sameBytes, base-opens, if_then_else_}
+use Rattle.prelude.specs.Base.{isSome, all, sameBytes, if_then_else_}
 use Rattle.definition.specs.Operations.{Operation, operationNumber, isOp, operations-opens}
 use Rattle.definition.specs.Value.{Value}
 use Rattle.definition.specs.Ast.{PcodeOp}

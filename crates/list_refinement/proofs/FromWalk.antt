@@ -14,7 +14,7 @@ use Rattle.definition.specs.Ast.{Section}
 use Rattle.definition.specs.Sizes.{in0, in1, out, at}
 use Rattle.definition.specs.Checker.{Shape, shapes, shapeOf, sameCount, countsFit, numberFits, valueFits, optionFits}
 use Rattle.definition.proofs.EveryOperation.{alike}
-use Rattle.definition_guarantee.proofs.Tests.{clash, eq-of, le-of, lt-of, and-true, some-same, none-some, all-at, all-parts, any-from}
+use Rattle.definition_guarantee.proofs.Tests.{clash, eq-of, le-of, lt-of, and-true, some-same, all-at, all-parts, any-from}
 use Rattle.definition_guarantee.proofs.Words.{Fits, fits-parts, Laid, subpiece-shapeless}
 use Rattle.definition_guarantee.proofs.Layouts.{Rough, laidOut, subpiece}
 use Rattle.list_refinement.specs.Encoding.{Within, Sound, Each, EachOption, SoundAction}
