@@ -1,26 +1,8 @@
 -- The definition's things whose numbers the code has as constants, each list in the constants' order.
-use Prim.Native.Nat.{ℕ}
 use mathlib.Core.List.{List, [], _∷_}
 use Rattle.definition.specs.Operations.{Operation}
 use Rattle.definition.specs.Refusals.{Refusal}
 use Rattle.definition.specs.Value.{Kind, ActionKind, ExportKind}
-
-unfoldable pub operations : List Operation
-operations =
-    Operation.IntMul ∷ Operation.IntDiv ∷ Operation.IntSignedDiv ∷ Operation.IntRem ∷ Operation.IntSignedRem
-    ∷ Operation.IntAdd ∷ Operation.IntSub ∷ Operation.IntLeft ∷ Operation.IntRight ∷ Operation.IntSignedRight
-    ∷ Operation.IntSignedLess ∷ Operation.IntSignedLessEqual ∷ Operation.IntLess ∷ Operation.IntLessEqual
-    ∷ Operation.IntEqual ∷ Operation.IntNotEqual ∷ Operation.FloatDiv ∷ Operation.FloatMul
-    ∷ Operation.FloatAdd ∷ Operation.FloatSub ∷ Operation.FloatLess ∷ Operation.FloatLessEqual
-    ∷ Operation.FloatEqual ∷ Operation.FloatNotEqual ∷ Operation.IntAnd ∷ Operation.IntXor ∷ Operation.IntOr
-    ∷ Operation.BoolXor ∷ Operation.BoolAnd ∷ Operation.BoolOr ∷ Operation.IntCarry ∷ Operation.IntSignedCarry
-    ∷ Operation.IntSignedBorrow ∷ Operation.BoolNot ∷ Operation.IntNot ∷ Operation.IntNegate
-    ∷ Operation.FloatIsNan ∷ Operation.ZeroExtend ∷ Operation.SignExtend ∷ Operation.FloatNegate
-    ∷ Operation.FloatAbs ∷ Operation.FloatSqrt ∷ Operation.FloatCeil ∷ Operation.FloatFloor
-    ∷ Operation.FloatRound ∷ Operation.FloatToInt ∷ Operation.IntToFloat ∷ Operation.UintToFloat
-    ∷ Operation.FloatToFloat ∷ Operation.IntCountOnes ∷ Operation.IntCountLeadingZeroes ∷ Operation.Copy
-    ∷ Operation.Load ∷ Operation.Store ∷ Operation.Branch ∷ Operation.PcodeBranch ∷ Operation.PcodeLabel
-    ∷ Operation.PcodeOp ∷ Operation.Arg ∷ Operation.Invalid ∷ Operation.Subpiece ∷ []
 
 unfoldable pub refusals : List Refusal
 refusals =

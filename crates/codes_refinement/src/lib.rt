@@ -7,11 +7,11 @@ use codes::refusal;
 use codes::value_kind;
 ghost use mathlib.Core.Path.{_≡_};
 ghost use mathlib.Core.List.{map};
-ghost use Rattle.definition.specs.Operations.{operationNumber};
+ghost use Rattle.definition.specs.Operations.{operationNumber, operations};
 ghost use Rattle.definition.specs.Refusals.{refusalNumber};
 ghost use Rattle.definition.specs.Value.{kindNumber};
 ghost use Rattle.definition.specs.ActionList.{actionKindNumber, exportNumber};
-ghost use Rattle.codes_refinement.specs.Lists.{operations, refusals, valueKinds, actionKinds, exportKinds};
+ghost use Rattle.codes_refinement.specs.Lists.{refusals, valueKinds, actionKinds, exportKinds};
 
 fn operations() -> [u64; 61]
     ensures { λ r. ⌜ r ≡ map operationNumber operations ⌝ }

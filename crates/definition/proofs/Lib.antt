@@ -1,2 +1,3 @@
+pub mod EveryOperation
 mod Sentences
 mod StarredSections

@@ -1,24 +1,26 @@
 -- Three of document 01's sentences as laws, each for all that it speaks of.
 use Prim.Native.Nat.{ℕ}
 use mathlib.Core.Path.{_≡_, refl}
-use mathlib.Core.List.{List, [], _∷_, map}
+use mathlib.Core.List.{[], _∷_, map}
 use mathlib.Core.Option.{some}
-use lib.ListN.{replicate}
+use lib.ListN.{drop, replicate}
 use borrow.Author.Tests.{eq-eqb}
 use Rattle.prelude.specs.Base.{base-opens}
-use Rattle.definition.specs.Operations.{Operation}
-use Rattle.definition.specs.Ast.{PcodeOp}
-use Rattle.definition.specs.Sizes.{Step, in0, in1, out, one, equal, sized, ruleOf, sizes-opens}
-use Rattle.definition.specs.Walk.{ExprValue}
+use Rattle.definition.specs.Operations.{Operation, operators}
+use Rattle.definition.specs.Value.{Value}
+use Rattle.definition.specs.SectionFile.{pcodeOps}
+use Rattle.definition.specs.Sizes.{in0, in1, out, one, equal, sized, ruleOf, sizes-opens}
+use Rattle.definition.specs.Walk.{ExprValue, Walk}
 use Rattle.definition.specs.Scope.{find, bindParams}
-use Rattle.definition.specs.Expressions.{Order, swapped, translatePcodeOp}
+use Rattle.definition.specs.Expressions.{binary, resolveOp}
 
 -- "The six greater operators swap operands before either is resolved."
-pub greater-swapped :
-    map translatePcodeOp (PcodeOp.IntGreater ∷ PcodeOp.IntGreaterEqual ∷ PcodeOp.IntSignedGreater ∷ PcodeOp.IntSignedGreaterEqual ∷ PcodeOp.FloatGreater ∷ PcodeOp.FloatGreaterEqual ∷ [])
-    ≡ map swapped (Operation.IntLess ∷ Operation.IntLessEqual ∷ Operation.IntSignedLess ∷ Operation.IntSignedLessEqual ∷ Operation.FloatLess ∷ Operation.FloatLessEqual ∷ [])
-unfolding translatePcodeOp
-greater-swapped = refl
+pub greater-swapped : (a b : Walk Value) →
+    map (λ o. resolveOp o a b) (drop 33 pcodeOps)
+    ≡ map (λ op. binary op b a) (Operation.IntLess ∷ Operation.IntLessEqual
+    ∷ Operation.IntSignedLess ∷ Operation.IntSignedLessEqual ∷ Operation.FloatLess ∷ Operation.FloatLessEqual ∷ [])
+unfolding pcodeOps operators resolveOp
+greater-swapped a b = refl
 
 -- "Inputs equal, output 1: carries and comparisons."
 pub comparisons-ruled :

@@ -1,5 +1,5 @@
 -- THE ACTION LIST, the second list and the result as words; and `resolve`, which public contracts cite.
-use Prim.Native.Nat.{ℕ, zero, suc, _+_, _*_, _/_, _^_}
+use Prim.Native.Nat.{ℕ, zero, suc, _+_, _*_, _/_, _^_, min}
 use mathlib.Core.Bool.{Bool, true, false}
 use mathlib.Core.List.{List, [], _∷_, _++_, map}
 use mathlib.Core.Option.{Option, none, some}
@@ -119,8 +119,9 @@ unfoldable pub answered : ℕ → ℕ → Outcome Semantics → Answer
 answered la lt (done x s) = accepted la lt x s
 answered la lt (stopped r ordinal errors) = refusal la lt r ordinal errors
 
+-- the lent words hold so many actions and temporaries; and there are 512 temporaries at most
 unfoldable pub roomFor : Section → ℕ → ℕ → Env
-roomFor sec la lt = record { section = sec; actionRoom = la / 24; temporaryRoom = lt }
+roomFor sec la lt = record { section = sec; actionRoom = la / 24; temporaryRoom = min lt 512 }
 
 unfoldable pub resolveRead : ℕ → ℕ → Parsed Section → Answer
 resolveRead la lt (parsed sec rest) = answered la lt (resolveSection (roomFor sec la lt) (atStart sec))

@@ -1,18 +1,14 @@
--- THE SECTION: the syntax tree of ast.rs and the symbols of symbols.rs, as a file holds them. A name is an index into the
--- list of spellings.
+-- THE SECTION: the syntax tree of ast.rs and the symbols of symbols.rs, as a file holds them. A name is an index into
+-- the list of spellings.
 use Prim.Native.Nat.{ℕ}
 use mathlib.Core.List.{List}
 use mathlib.Core.Option.{Option}
+use Rattle.definition.specs.Operations.{Operation}
 
--- the operators, in the order of `PcodeOp`
+-- An operator as written: an operation, or a greater one, which is the lesser operation with its operands swapped.
+-- A file can hold 39 of them, `pcodeOps`.
 pub data PcodeOp : Type 0 where
-  IntMult IntDiv IntSignedDiv IntRem IntSignedRem : PcodeOp
-  IntAdd IntSub IntLeft IntRight IntSignedRight : PcodeOp
-  IntSignedLess IntSignedLessEqual IntLess IntLessEqual IntEqual IntNotEqual : PcodeOp
-  FloatDiv FloatMult FloatAdd FloatSub FloatLess FloatLessEqual FloatEqual FloatNotEqual : PcodeOp
-  IntAnd IntXor IntOr BoolXor BoolAnd BoolOr : PcodeOp
-  IntCarry IntSignedCarry IntSignedBorrow : PcodeOp
-  IntGreater IntGreaterEqual IntSignedGreater IntSignedGreaterEqual FloatGreater FloatGreaterEqual : PcodeOp
+  plain greater : Operation → PcodeOp
 
 mutual
   pub data PcodeExpr : Type 0 where
@@ -89,13 +85,28 @@ pub record Subtable : Type 0 where
   pub name : ℕ
   pub table : ℕ
 
-pub record Section : Type 0 where
+-- the rule set, how many entries each list has, the default space, and the names with a meaning of their own
+pub record Header : Type 0 where
   pub ruleSet : ℕ
+  pub names : ℕ
+  pub spaces : ℕ
+  pub registers : ℕ
+  pub bitRanges : ℕ
+  pub tables : ℕ
+  pub userOps : ℕ
+  pub macros : ℕ
+  pub others : ℕ
+  pub fields : ℕ
+  pub subtables : ℕ
+  pub statements : ℕ
   pub defaultSpace : Option ℕ
   pub instStart : ℕ
   pub instNext : ℕ
   pub const : ℕ
   pub delaySlot : ℕ
+
+pub record Section : Type 0 where
+  pub header : Header
   pub names : List (List ℕ)
   pub spaces : List Space
   pub registers : List Register

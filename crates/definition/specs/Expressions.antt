@@ -140,7 +140,7 @@ unfoldable pub resolveSpace : Option ℕ → Walk Space
 resolveSpace (some n) = lookup n >>= asSpace
 resolveSpace none = do
   sec ← section
-  expect noDefaultSpace (andThen (sec .defaultSpace) (getElem? (sec .spaces)))
+  expect noDefaultSpace (andThen (sec .header .defaultSpace) (getElem? (sec .spaces)))
 
 unfoldable pub inConstSpace : Option ℕ → ExprValue → Walk ExprValue
 inConstSpace size (ExprValue.Local v) = pure (ExprValue.Local (withSize (size or v .size) v))
@@ -171,53 +171,9 @@ unfoldable pub resolveAddress : Option ℕ → Option ℕ → Walk ExprValue →
 resolveAddress space size pointer = do
   x ← pointer
   sec ← section
-  if isName (sec .const) space then inConstSpace size x else addressIn space size x
+  if isName (sec .header .const) space then inConstSpace size x else addressIn space size x
 
 -- Operators. The six greater ones swap their operands before either is resolved.
-
-pub data Order : Type 0 where
-  asWritten swapped : Operation → Order
-
-unfoldable pub translatePcodeOp : PcodeOp → Order
-translatePcodeOp PcodeOp.IntMult = asWritten Operation.IntMul
-translatePcodeOp PcodeOp.IntDiv = asWritten Operation.IntDiv
-translatePcodeOp PcodeOp.IntSignedDiv = asWritten Operation.IntSignedDiv
-translatePcodeOp PcodeOp.IntRem = asWritten Operation.IntRem
-translatePcodeOp PcodeOp.IntSignedRem = asWritten Operation.IntSignedRem
-translatePcodeOp PcodeOp.IntAdd = asWritten Operation.IntAdd
-translatePcodeOp PcodeOp.IntSub = asWritten Operation.IntSub
-translatePcodeOp PcodeOp.IntLeft = asWritten Operation.IntLeft
-translatePcodeOp PcodeOp.IntRight = asWritten Operation.IntRight
-translatePcodeOp PcodeOp.IntSignedRight = asWritten Operation.IntSignedRight
-translatePcodeOp PcodeOp.IntSignedLess = asWritten Operation.IntSignedLess
-translatePcodeOp PcodeOp.IntSignedLessEqual = asWritten Operation.IntSignedLessEqual
-translatePcodeOp PcodeOp.IntLess = asWritten Operation.IntLess
-translatePcodeOp PcodeOp.IntLessEqual = asWritten Operation.IntLessEqual
-translatePcodeOp PcodeOp.IntEqual = asWritten Operation.IntEqual
-translatePcodeOp PcodeOp.IntNotEqual = asWritten Operation.IntNotEqual
-translatePcodeOp PcodeOp.FloatDiv = asWritten Operation.FloatDiv
-translatePcodeOp PcodeOp.FloatMult = asWritten Operation.FloatMul
-translatePcodeOp PcodeOp.FloatAdd = asWritten Operation.FloatAdd
-translatePcodeOp PcodeOp.FloatSub = asWritten Operation.FloatSub
-translatePcodeOp PcodeOp.FloatLess = asWritten Operation.FloatLess
-translatePcodeOp PcodeOp.FloatLessEqual = asWritten Operation.FloatLessEqual
-translatePcodeOp PcodeOp.FloatEqual = asWritten Operation.FloatEqual
-translatePcodeOp PcodeOp.FloatNotEqual = asWritten Operation.FloatNotEqual
-translatePcodeOp PcodeOp.IntAnd = asWritten Operation.IntAnd
-translatePcodeOp PcodeOp.IntXor = asWritten Operation.IntXor
-translatePcodeOp PcodeOp.IntOr = asWritten Operation.IntOr
-translatePcodeOp PcodeOp.BoolXor = asWritten Operation.BoolXor
-translatePcodeOp PcodeOp.BoolAnd = asWritten Operation.BoolAnd
-translatePcodeOp PcodeOp.BoolOr = asWritten Operation.BoolOr
-translatePcodeOp PcodeOp.IntCarry = asWritten Operation.IntCarry
-translatePcodeOp PcodeOp.IntSignedCarry = asWritten Operation.IntSignedCarry
-translatePcodeOp PcodeOp.IntSignedBorrow = asWritten Operation.IntSignedBorrow
-translatePcodeOp PcodeOp.IntGreater = swapped Operation.IntLess
-translatePcodeOp PcodeOp.IntGreaterEqual = swapped Operation.IntLessEqual
-translatePcodeOp PcodeOp.IntSignedGreater = swapped Operation.IntSignedLess
-translatePcodeOp PcodeOp.IntSignedGreaterEqual = swapped Operation.IntSignedLessEqual
-translatePcodeOp PcodeOp.FloatGreater = swapped Operation.FloatLess
-translatePcodeOp PcodeOp.FloatGreaterEqual = swapped Operation.FloatLessEqual
 
 unfoldable pub binary : Operation → Walk Value → Walk Value → Walk ExprValue
 binary operation a b = do
@@ -225,9 +181,9 @@ binary operation a b = do
   right ← b
   pure (ExprValue.Apply operation 0 (left ∷ right ∷ []))
 
-unfoldable pub resolveOp : Order → Walk Value → Walk Value → Walk ExprValue
-resolveOp (asWritten operation) a b = binary operation a b
-resolveOp (swapped operation) a b = binary operation b a
+unfoldable pub resolveOp : PcodeOp → Walk Value → Walk Value → Walk ExprValue
+resolveOp (PcodeOp.plain operation) a b = binary operation a b
+resolveOp (PcodeOp.greater operation) a b = binary operation b a
 
 -- Calls.
 
@@ -313,7 +269,7 @@ unfoldable mutual
     pure (ExprValue.AddressOf base size)
   resolveExpr (PcodeExpr.Truncate x size) = resolveExpr x >>= sliceBits 0 (8 * size)
   resolveExpr (PcodeExpr.SliceBits x from bits) = resolveExpr x >>= sliceBits from bits
-  resolveExpr (PcodeExpr.Op a o b) = resolveOp (translatePcodeOp o) (valueOf (resolveExpr a)) (valueOf (resolveExpr b))
+  resolveExpr (PcodeExpr.Op a o b) = resolveOp o (valueOf (resolveExpr a)) (valueOf (resolveExpr b))
   resolveExpr (PcodeExpr.Deref space size pointer) = resolveAddress space size (resolveExpr pointer)
   resolveExpr (PcodeExpr.ConstantPoolRef args) = refuse constantPool
   resolveExpr (PcodeExpr.Call name args) = resolveCall name args (resolveArgValues args) (resolveArgs args)
@@ -334,5 +290,5 @@ unfoldable mutual
     pure (v ∷ vs)
 
 unfoldable pub expressions-opens : Unit {0}
-unfolding scope-opens spellings-opens copyTo setStated takeKnown takeStated byteAligned shiftAndMask readSlice readValue readAll sliceRead sliceBits asLocal resolveSpace inConstSpace reference isName addressIn resolveAddress translatePcodeOp binary resolveOp passArgs callUserOp argCount asInteger onlyInteger subpiece callSymbol callInbuilt callNamed resolveCall resolveExpr
+unfolding scope-opens spellings-opens copyTo setStated takeKnown takeStated byteAligned shiftAndMask readSlice readValue readAll sliceRead sliceBits asLocal resolveSpace inConstSpace reference isName addressIn resolveAddress binary resolveOp passArgs callUserOp argCount asInteger onlyInteger subpiece callSymbol callInbuilt callNamed resolveCall resolveExpr
 expressions-opens = tt

@@ -1,8 +1,8 @@
--- OPERATIONS: `pcode::Op` as far as `resolve` makes them, with their numbers in the action list. What an operation holds
--- (a label, a user op, a hint, a subpiece's offset) stands beside it as the action's number.
+-- OPERATIONS: `pcode::Op` as far as `resolve` makes them, with their numbers in the action list. What an operation
+-- holds (a label, a user op, a hint, a subpiece's offset) stands beside it as the action's number.
 use Prim.Native.Nat.{ℕ}
 use mathlib.Core.Bool.{Bool}
-use mathlib.Core.List.{List, [], _∷_}
+use mathlib.Core.List.{List, [], _∷_, _++_}
 use lib.Dec.{eqb}
 use Rattle.prelude.specs.Base.{any, base-opens}
 
@@ -15,7 +15,7 @@ pub data Operation : Type 0 where
   -- 39 to 56, the one-input spellings
   BoolNot IntNot IntNegate FloatIsNan ZeroExtend SignExtend FloatNegate FloatAbs FloatSqrt FloatCeil : Operation
   FloatFloor FloatRound FloatToInt IntToFloat UintToFloat FloatToFloat IntCountOnes IntCountLeadingZeroes : Operation
-  -- 57 to 65, and the subpiece, which becomes a Copy and has no number in the list
+  -- 57 to 65; and 66, the subpiece, while a list is made: a finished list has a Copy in its place
   Copy Load Store Branch PcodeBranch PcodeLabel PcodeOp Arg Invalid Subpiece : Operation
 
 unfoldable pub operationNumber : Operation → ℕ
@@ -104,6 +104,15 @@ oneInputs =
     ∷ Operation.IntCountLeadingZeroes
     ∷ []
 
+-- all of them, in the order of their numbers
+unfoldable pub operations : List Operation
+operations =
+    operators ++ oneInputs
+    ++ (
+    Operation.Copy ∷ Operation.Load ∷ Operation.Store ∷ Operation.Branch ∷ Operation.PcodeBranch
+    ∷ Operation.PcodeLabel ∷ Operation.PcodeOp ∷ Operation.Arg ∷ Operation.Invalid ∷ Operation.Subpiece
+    ∷ [])
+
 abbrev pub isOp : Operation → Operation → Bool
 isOp a b = eqb (operationNumber a) (operationNumber b)
 
@@ -111,5 +120,5 @@ unfoldable pub among : List Operation → Operation → Bool
 among group op = any (isOp op) group
 
 unfoldable pub operations-opens : Unit {0}
-unfolding base-opens operationNumber operators oneInputs among
+unfolding base-opens operationNumber operators oneInputs operations among
 operations-opens = tt

@@ -96,8 +96,8 @@ globalMeaning (some (Symbol.Other i)) = wrong wrongKind
 unfoldable pub innerMeaning : Section → Scope → ℕ → Option ExprValue
 innerMeaning sec x n =
     find n (x .params)
-    or (if eqb n (sec .instNext) then some (ExprValue.Local (local Kind.InstNext 0)) else none)
-    or (if eqb n (sec .instStart) then some (ExprValue.Local (local Kind.InstStart 0)) else none)
+    or (if eqb n (sec .header .instNext) then some (ExprValue.Local (local Kind.InstNext 0)) else none)
+    or (if eqb n (sec .header .instStart) then some (ExprValue.Local (local Kind.InstStart 0)) else none)
     or (andThen (find n (x .mapping)) λ v. some (ExprValue.Local v))
 
 unfoldable pub meaningOf : Section → Option ExprValue → ℕ → Meaning

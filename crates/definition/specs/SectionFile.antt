@@ -7,8 +7,12 @@ use mathlib.Core.Option.{Option, none, some}
 use lib.ListN.{length, take, drop, getD, getElem?}
 use lib.Dec.{eqb, leb, ltb}
 use Rattle.prelude.specs.Base.{if_then_else_, any, all, sum, sameBytes, base-opens}
-use Rattle.definition.specs.Refusals.{Refusal, badLength, blockCheck, malformed, outsideLimit, namesNothing, spelledTwice}
-use Rattle.definition.specs.Ast.{PcodeOp, PcodeExpr, Args, noArgs, arg, JumpLabel, BranchDst, BranchHint, Statement, SpaceKind, Space, Register, BitRange, Table, Macro, Field, Subtable, Section}
+use Rattle.definition.specs.Refusals.{Refusal, badLength, blockCheck, malformed}
+use Rattle.definition.specs.Refusals.{outsideLimit, namesNothing, spelledTwice}
+use Rattle.definition.specs.Operations.{Operation, operators, operations-opens}
+use Rattle.definition.specs.Ast.{PcodeOp, PcodeExpr, Args, noArgs, arg, JumpLabel, BranchDst, BranchHint}
+use Rattle.definition.specs.Ast.{Statement, SpaceKind, Space, Register, BitRange, Table, Macro, Field, Subtable}
+use Rattle.definition.specs.Ast.{Header, Section}
 
 -- what reading gives: a thing and the bytes after it, or a refusal
 pub data Parsed (A : Type 0) : Type 0 where
@@ -147,18 +151,14 @@ argsOf item (suc n) = do
 
 -- Expressions and statements, in the order of ast.rs; the file has so many names.
 
+-- The operators, in the order of `PcodeOp`: IntMult to IntSignedBorrow; then IntGreater, IntGreaterEqual,
+-- IntSignedGreater, IntSignedGreaterEqual, FloatGreater, FloatGreaterEqual.
 unfoldable pub pcodeOps : List PcodeOp
 pcodeOps =
-    PcodeOp.IntMult ∷ PcodeOp.IntDiv ∷ PcodeOp.IntSignedDiv ∷ PcodeOp.IntRem ∷ PcodeOp.IntSignedRem
-    ∷ PcodeOp.IntAdd ∷ PcodeOp.IntSub ∷ PcodeOp.IntLeft ∷ PcodeOp.IntRight ∷ PcodeOp.IntSignedRight
-    ∷ PcodeOp.IntSignedLess ∷ PcodeOp.IntSignedLessEqual ∷ PcodeOp.IntLess ∷ PcodeOp.IntLessEqual ∷ PcodeOp.IntEqual ∷ PcodeOp.IntNotEqual
-    ∷ PcodeOp.FloatDiv ∷ PcodeOp.FloatMult ∷ PcodeOp.FloatAdd ∷ PcodeOp.FloatSub
-    ∷ PcodeOp.FloatLess ∷ PcodeOp.FloatLessEqual ∷ PcodeOp.FloatEqual ∷ PcodeOp.FloatNotEqual
-    ∷ PcodeOp.IntAnd ∷ PcodeOp.IntXor ∷ PcodeOp.IntOr ∷ PcodeOp.BoolXor ∷ PcodeOp.BoolAnd ∷ PcodeOp.BoolOr
-    ∷ PcodeOp.IntCarry ∷ PcodeOp.IntSignedCarry ∷ PcodeOp.IntSignedBorrow
-    ∷ PcodeOp.IntGreater ∷ PcodeOp.IntGreaterEqual ∷ PcodeOp.IntSignedGreater ∷ PcodeOp.IntSignedGreaterEqual
-    ∷ PcodeOp.FloatGreater ∷ PcodeOp.FloatGreaterEqual
-    ∷ []
+    map PcodeOp.plain operators
+    ++ map PcodeOp.greater (
+    Operation.IntLess ∷ Operation.IntLessEqual ∷ Operation.IntSignedLess ∷ Operation.IntSignedLessEqual
+    ∷ Operation.FloatLess ∷ Operation.FloatLessEqual ∷ [])
 
 module _ (names : ℕ) where
   abbrev pub name : Read ℕ
@@ -297,25 +297,6 @@ spellings taken (suc n) = do
 
 -- The header.
 
-pub record Header : Type 0 where
-  pub ruleSet : ℕ
-  pub names : ℕ
-  pub spaces : ℕ
-  pub registers : ℕ
-  pub bitRanges : ℕ
-  pub tables : ℕ
-  pub userOps : ℕ
-  pub macros : ℕ
-  pub others : ℕ
-  pub fields : ℕ
-  pub subtables : ℕ
-  pub statements : ℕ
-  pub defaultSpace : Option ℕ
-  pub instStart : ℕ
-  pub instNext : ℕ
-  pub const : ℕ
-  pub delaySlot : ℕ
-
 unfoldable pub header : Read Header
 header = do
   ruleSet ← u16 >>= upTo 0
@@ -362,31 +343,28 @@ nothingLeft s = require (all (eqb 0) s) malformed s
 -- The lists follow in the header's order; statements come last.
 unfoldable pub lists : Header → Read Section
 lists h = do
-  spelt ← spellings [] (h .names)
-  spaces ← entries (h .names) (space (h .names)) [] (h .spaces)
+  let n = h .names
+  spelt ← spellings [] n
+  spaces ← entries n (space n) [] (h .spaces)
   let taken = map (λ (x : Space). x .name) spaces
-  registers ← entries (h .names) (register (h .names)) taken (h .registers)
+  registers ← entries n (register n) taken (h .registers)
   let taken = map (λ (x : Register). x .name) registers ++ taken
-  bitRanges ← entries (h .names) (bitRange (h .names) (h .registers)) taken (h .bitRanges)
+  bitRanges ← entries n (bitRange n (h .registers)) taken (h .bitRanges)
   let taken = map (λ (x : BitRange). x .name) bitRanges ++ taken
-  tables ← entries (h .names) (table (h .names)) taken (h .tables)
+  tables ← entries n (table n) taken (h .tables)
   let taken = map (λ (x : Table). x .name) tables ++ taken
-  userOps ← entries (h .names) pure taken (h .userOps)
+  userOps ← entries n pure taken (h .userOps)
   let taken = userOps ++ taken
-  macros ← entries (h .names) (macro (h .names)) taken (h .macros)
+  macros ← entries n (macro n) taken (h .macros)
   let taken = map (λ (x : Macro). x .name) macros ++ taken
-  others ← entries (h .names) pure taken (h .others)
-  fields ← entries (h .names) (field (h .names)) [] (h .fields)
-  subtables ← entries (h .names) (subtable (h .names) (h .tables)) (map (λ (x : Field). x .name) fields) (h .subtables)
-  statements ← listOf (statement (h .names)) (h .statements)
+  others ← entries n pure taken (h .others)
+  fields ← entries n (field n) [] (h .fields)
+  let taken = map (λ (x : Field). x .name) fields
+  subtables ← entries n (subtable n (h .tables)) taken (h .subtables)
+  statements ← listOf (statement n) (h .statements)
   nothingLeft
   pure (record {
-    ruleSet = h .ruleSet;
-    defaultSpace = h .defaultSpace;
-    instStart = h .instStart;
-    instNext = h .instNext;
-    const = h .const;
-    delaySlot = h .delaySlot;
+    header = h;
     names = spelt;
     spaces = spaces;
     registers = registers;
@@ -408,5 +386,5 @@ unfoldable pub read : Read Section
 read file = on (streamOf file) λ stream _. section stream
 
 unfoldable pub section-file-opens : Unit {0}
-unfolding base-opens on require checksOut bytes payloads wholeBlocks streamOf u8 littleEndian upTo naming orAbsent choose code oneOf listOf argsOf pcodeOps call exprs exprWithin jumpLabel branchDst branchHint statement entries space register bitRange table macro field subtable spelling spellings header nothingLeft lists section read
+unfolding base-opens operations-opens on require checksOut bytes payloads wholeBlocks streamOf u8 littleEndian upTo naming orAbsent choose code oneOf listOf argsOf pcodeOps call exprs exprWithin jumpLabel branchDst branchHint statement entries space register bitRange table macro field subtable spelling spellings header nothingLeft lists section read
 section-file-opens = tt

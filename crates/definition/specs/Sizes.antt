@@ -7,7 +7,8 @@ use lib.ListN.{getElem?, set}
 use lib.Dec.{eqb}
 use Rattle.prelude.specs.Base.{if_then_else_, _or_, orElse, andThen, isSome, all, first, base-opens}
 use Rattle.definition.specs.Operations.{Operation, among, operations-opens}
-use Rattle.definition.specs.Value.{Kind, Value, isKind, truncate, SemanticAction, operationOf, Temporary, value-opens}
+use Rattle.definition.specs.Value.{Kind, Value, isKind, truncate, SemanticAction, operationOf, Temporary}
+use Rattle.definition.specs.Value.{value-opens}
 use Rattle.definition.specs.Ast.{Space, Register, Table, Field, Subtable, Section}
 
 -- The rules, as a table from operations to steps.
@@ -124,10 +125,14 @@ error s = record { begun = s .begun; temporaries = s .temporaries; errors = s .e
 module _ (sec : Section) where
   -- the default space's, else 8
   unfoldable pub pointerSize : ℕ
-  pointerSize = orElse 8 (andThen (sec .defaultSpace) λ i. andThen (getElem? (sec .spaces) i) λ (x : Space). some (x .addressSize))
+  pointerSize =
+      orElse 8 (andThen (sec .header .defaultSpace) λ i.
+      andThen (getElem? (sec .spaces) i) λ (x : Space). some (x .addressSize))
 
   unfoldable pub exportSizeOf : ℕ → Option ℕ
-  exportSizeOf n = andThen (getElem? (sec .subtables) n) λ (x : Subtable). andThen (getElem? (sec .tables) (x .table)) λ (t : Table). t .exportSize
+  exportSizeOf n =
+      andThen (getElem? (sec .subtables) n) λ (x : Subtable).
+      andThen (getElem? (sec .tables) (x .table)) λ (t : Table). t .exportSize
 
   unfoldable pub sizeOfLocal : List Temporary → Kind → ℕ → Option ℕ
   sizeOfLocal ts Kind.InstStart n = none
@@ -146,7 +151,8 @@ module _ (sec : Section) where
   -- the fallback: pointer size for InstStart, InstNext, a constant or a field
   unfoldable pub fallbackSize : Value → Option ℕ
   fallbackSize v =
-      if isKind Kind.InstStart v || isKind Kind.InstNext v || isKind Kind.Constant v || isKind Kind.Field v then some pointerSize else none
+      if isKind Kind.InstStart v || isKind Kind.InstNext v || isKind Kind.Constant v || isKind Kind.Field v
+      then some pointerSize else none
 
   unfoldable pub sizedTmp : ℕ → Option Temporary → ℕ → Sizing → Sizing
   sizedTmp i (some t) n s = withTemporaries (set (s .temporaries) i (record { name = t .name; size = some n })) s
@@ -154,7 +160,8 @@ module _ (sec : Section) where
 
   -- an unknown size on a temporary sizes it everywhere
   unfoldable pub sizeTemporary : ℕ → Value → Sizing → Sizing
-  sizeTemporary n v s = if isKind Kind.PcodeTmp v then sizedTmp (v .number) (getElem? (s .temporaries) (v .number)) n s else s
+  sizeTemporary n v s =
+      if isKind Kind.PcodeTmp v then sizedTmp (v .number) (getElem? (s .temporaries) (v .number)) n s else s
 
   -- a different known size is an error, but for a subtable
   unfoldable pub settled : Option ℕ → ℕ → Value → Sizing → Sizing
@@ -187,14 +194,16 @@ module _ (sec : Section) where
   -- the fallback, where there is one.
   unfoldable pub shareSize : Option ℕ → Option ℕ → List Operand → SemanticAction → Sizer SemanticAction
   shareSize (some n) fallback ps a s =
-      if all (λ p. isSize n (knownAt a s p)) ps then (a, s) else setOperands n (butFirst (λ p. isSome (knownAt a s p)) ps) a s
+      if all (λ p. isSize n (knownAt a s p)) ps then (a, s)
+      else setOperands n (butFirst (λ p. isSome (knownAt a s p)) ps) a s
   shareSize none (some n) ps a s = setOperands n ps a s
   shareSize none none ps a s = (a, s)
 
   -- `set_size_of_pair` and `set_size_of_triple`
   unfoldable pub setSizeOfAll : Bool → List Operand → SemanticAction → Sizer SemanticAction
   setSizeOfAll useFallback ps a s =
-      shareSize (first (knownAt a s) ps) (if useFallback then first (λ p. andThen (at p a) fallbackSize) ps else none) ps a s
+      shareSize (first (knownAt a s) ps)
+      (if useFallback then first (λ p. andThen (at p a) fallbackSize) ps else none) ps a s
 
   unfoldable pub fixedSize : FixedSize → ℕ
   fixedSize one = 1

@@ -226,7 +226,7 @@ module _ (enter : ℕ → Macro → List ExprValue → Walk (Unit {0})) where
   unfoldable pub callStatement : ℕ → Args → Walk (Unit {0})
   callStatement name args = do
     sec ← section
-    if eqb name (sec .delaySlot) then delaySlot (onlyInteger args) else lookup name >>= symbolStatement args
+    if eqb name (sec .header .delaySlot) then delaySlot (onlyInteger args) else lookup name >>= symbolStatement args
 
   unfoldable pub resolveStatement : Statement → Walk (Unit {0})
   resolveStatement Statement.Unimplemented = opNoOutput Operation.Invalid 0 []

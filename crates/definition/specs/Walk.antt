@@ -1,5 +1,5 @@
 -- THE WALK over statements: its state, and how steps follow each other until one refuses. Then temporaries and pushes.
-use Prim.Native.Nat.{ℕ, suc, _+_, min}
+use Prim.Native.Nat.{ℕ, suc, _+_}
 use mathlib.Core.Bool.{Bool, true, false}
 use mathlib.Core.List.{List, [], _∷_, _++_}
 use mathlib.Core.Option.{Option, none, some}
@@ -163,14 +163,14 @@ sliced more size v = do
   require (leb (v .offset + more) 65535) offsetTooFar
   pure (sliceBytes more size v)
 
--- Temporaries: the lent words or 512 at most.
+-- Temporaries: with this one, their room at most.
 
 unfoldable pub addTmp : Option ℕ → Option ℕ → Walk Value
 addTmp name size = do
   e ← env
   s ← state
   let ts = s .sizing .temporaries
-  require (leb (length ts + 1) (min (e .temporaryRoom) 512)) tooManyTemporaries
+  require (leb (length ts + 1) (e .temporaryRoom)) tooManyTemporaries
   change (withSizing (withTemporaries (ts ++ (record { name = name; size = size } ∷ [])) (s .sizing)))
   pure (local Kind.PcodeTmp (length ts))
 

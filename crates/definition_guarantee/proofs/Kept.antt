@@ -43,14 +43,14 @@ small-section sec w = record {
       let q = then-some (getElem? (sec .tables) (p .0 .table)) (λ (t : Table). t .exportSize) n (p .2) in
       small-or (q .0 .exportSize) n (each-at (λ (x : Table). SizeWithin (x .exportSize)) (sec .tables) _ (q .0) (w .tables) (q .1))
       (q .2);
-  pointer = go (andThen (sec .defaultSpace) λ i. andThen (getElem? (sec .spaces) i) λ (x : Space). some (x .addressSize)) refl;
+  pointer = go (andThen (sec .header .defaultSpace) λ i. andThen (getElem? (sec .spaces) i) λ (x : Space). some (x .addressSize)) refl;
 }
   where
-    go : (z : Option ℕ) → (andThen (sec .defaultSpace) λ i. andThen (getElem? (sec .spaces) i) λ (x : Space). some (x .addressSize)) ≡ z
+    go : (z : Option ℕ) → (andThen (sec .header .defaultSpace) λ i. andThen (getElem? (sec .spaces) i) λ (x : Space). some (x .addressSize)) ≡ z
         → orElse 8 z < 65535
     go none e = omega arith
     go (some n) e =
-        let p = then-some (sec .defaultSpace) _ n e in
+        let p = then-some (sec .header .defaultSpace) _ n e in
         let q = then-some (getElem? (sec .spaces) (p .0)) (λ (x : Space). some (x .addressSize)) n (p .2) in
         let h = each-at (λ (x : Space). x .addressSize ≤ 1024) (sec .spaces) (p .0) (q .0) (w .spaces) (q .1) in
         let d : q .0 .addressSize ≡ n = cc (q .2) in

@@ -10,11 +10,11 @@ use Rattle.prelude.specs.Base.{_or_, orElse, andThen}
 use Rattle.definition.specs.Refusals.{Refusal}
 use Rattle.definition.specs.Operations.{Operation, operationNumber}
 use Rattle.definition.specs.Value.{Kind, Value, local, constant, operationOf}
-use Rattle.definition.specs.Ast.{PcodeExpr, Args, noArgs, arg, SpaceKind, BitRange as BitRangeEntry, Section}
+use Rattle.definition.specs.Ast.{PcodeOp, PcodeExpr, Args, noArgs, arg, SpaceKind, BitRange as BitRangeEntry, Section}
 use Rattle.definition.specs.Spellings.{Inbuilt, translateInbuiltFunc}
 use Rattle.definition.specs.Walk.{ExprValue, Scope, State, Env, on, Walk, _>>=_, expect, section, op}
 use Rattle.definition.specs.Scope.{find, Symbol, globals, lookup, asSpace, asTable, Meaning, means, wrong, registerBits, globalMeaning, innerMeaning, meaningOf, meaning, meant, resolveIdent}
-use Rattle.definition.specs.Expressions.{mask, copyTo, setStated, takeKnown, takeStated, shiftAndMask, readSlice, readValue, valueOf, readAll, sliceRead, sliceBits, asLocal, resolveSpace, inConstSpace, reference, addressIn, resolveAddress, Order, asWritten, swapped, translatePcodeOp, binary, resolveOp, passArgs, callUserOp, argCount, subpiece, callSymbol, callInbuilt, callNamed, resolveCall, resolveExpr, resolveArgs, resolveArgValues}
+use Rattle.definition.specs.Expressions.{mask, copyTo, setStated, takeKnown, takeStated, shiftAndMask, readSlice, readValue, valueOf, readAll, sliceRead, sliceBits, asLocal, resolveSpace, inConstSpace, reference, addressIn, resolveAddress, binary, resolveOp, passArgs, callUserOp, argCount, subpiece, callSymbol, callInbuilt, callNamed, resolveCall, resolveExpr, resolveArgs, resolveArgValues}
 use Rattle.definition.specs.Checker.{numberFits}
 use Rattle.definition_guarantee.specs.Tests.{Each}
 use Rattle.definition_guarantee.proofs.Tests.{le-of, eq-of, each-at, then-some, chosen, none-some}
@@ -25,7 +25,7 @@ use Rattle.definition_guarantee.proofs.Entries.{find-each}
 use Rattle.definition_guarantee.proofs.Globals.{FoundPlaced, found-placed}
 use Rattle.definition_guarantee.proofs.Kept.{fits-more, Applicable, part, ValueFits, OptionFits, ExprFits, values-more, option-more, expr-more, count, ScopeFits, Kept, later-refl, Keeps, keep-bind, keep-then, keep-pure, keep-refuse, keep-require, keep-expect, keep-if, keep-section, keep-setSize, keep-known, keep-sliced, exprs-more}
 use Rattle.definition_guarantee.proofs.Pushes.{keep-addTmp, keep-outputOr, keep-push, keep-op, keep-opNoOutput}
-use Rattle.definition_guarantee.proofs.Shapes.{local-fits, constant-fits, copy-applies, right-applies, and-applies, load-applies, user-applies, OrderApplies, operator-applies, inbuilt-applies, arg-applies, address-laid, load-laid}
+use Rattle.definition_guarantee.proofs.Shapes.{local-fits, constant-fits, copy-applies, right-applies, and-applies, load-applies, user-applies, operationIn, operator-applies, inbuilt-applies, arg-applies, address-laid, load-laid}
 
 -- what a name is found to be
 
@@ -122,8 +122,8 @@ module _ (e : Env) (w : WithinLimits (e .section)) where
   unfolding innerMeaning
   inner-fits k x name y f d =
       or-some (ExprFits e k) _ _ y (λ b h. find-each (ExprFits e k) name (x .params) b (f .params) h)
-      (λ c i. or-some (ExprFits e k) _ _ c (λ b h. subst (ExprFits e k) (chosen (eqb name (e .section .instNext)) _ b h) (next-fits e k))
-      (λ c i. or-some (ExprFits e k) _ _ c (λ b h. subst (ExprFits e k) (chosen (eqb name (e .section .instStart)) _ b h)
+      (λ c i. or-some (ExprFits e k) _ _ c (λ b h. subst (ExprFits e k) (chosen (eqb name (e .section .header .instNext)) _ b h) (next-fits e k))
+      (λ c i. or-some (ExprFits e k) _ _ c (λ b h. subst (ExprFits e k) (chosen (eqb name (e .section .header .instStart)) _ b h)
       (start-fits e k))
       (λ b h. let q = then-some (find name (x .mapping)) _ b h in let r : ExprValue.Local (q .0) ≡ b = cc (q .2) in
       subst (ExprFits e k) r (find-each (ValueFits e k) name (x .mapping) (q .0) (f .mapping) (q .1))) i) i) d
@@ -321,11 +321,11 @@ module _ (e : Env) (w : WithinLimits (e .section)) where
       keep-bind _ _ (g k l) λ k₁ l₁ v q.
       keep-pure _ λ j m. (h, (fits-more {n = k} {k = j} (omega arith) p, (fits-more {n = k₁} {k = j} m q, tt)))
 
-  keep-resolveOp : {n : ℕ} (o : Order) (a b : Walk Value) → OrderApplies o → Anywhere n a → Anywhere n b
+  keep-resolveOp : {n : ℕ} (o : PcodeOp) (a b : Walk Value) → Applicable (operationIn o) 0 2 → Anywhere n a → Anywhere n b
       → Keeps e n (λ k y. ExprFits e k y) (resolveOp o a b)
-  unfolding resolveOp
-  keep-resolveOp (asWritten operation) a b h f g = keep-binary operation a b h f g
-  keep-resolveOp (swapped operation) a b h f g = keep-binary operation b a h g f
+  unfolding resolveOp operationIn
+  keep-resolveOp (PcodeOp.plain operation) a b h f g = keep-binary operation a b h f g
+  keep-resolveOp (PcodeOp.greater operation) a b h f g = keep-binary operation b a h g f
 
   -- calls
 
@@ -419,8 +419,8 @@ module _ (e : Env) (w : WithinLimits (e .section)) where
     keep-expr (PcodeExpr.Truncate x z) h n = keep-bind _ _ (keep-expr x (h .0) n) λ k l y f. let s = h .1 in
         keep-sliceBits 0 (8 * z) y (omega arith) f
     keep-expr (PcodeExpr.SliceBits x from bits) h n = keep-bind _ _ (keep-expr x (h .0) n) λ k l y f. keep-sliceBits from bits y (h .1) f
-    keep-expr (PcodeExpr.Op a o b) h n = keep-resolveOp (translatePcodeOp o) _ _ (operator-applies o)
-        (λ k l. keep-valueOf _ (keep-expr a (h .0) k)) (λ k l. keep-valueOf _ (keep-expr b (h .1) k))
+    keep-expr (PcodeExpr.Op a o b) h n = keep-resolveOp o _ _ (operator-applies o (h .1))
+        (λ k l. keep-valueOf _ (keep-expr a (h .0) k)) (λ k l. keep-valueOf _ (keep-expr b (h .2) k))
     keep-expr (PcodeExpr.Deref space z x) h n = keep-address space z _ (h .0) (keep-expr x (h .1) n)
     keep-expr (PcodeExpr.ConstantPoolRef xs) h n = keep-refuse _
     keep-expr (PcodeExpr.Call name xs) h n = keep-call name xs _ _ (h .0) (λ k l. keep-argValues xs (h .1) k)

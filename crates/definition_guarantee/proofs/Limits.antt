@@ -9,9 +9,9 @@ use lib.Dec.{eqb}
 use lib.ListN.{length, getElem?}
 use Rattle.prelude.specs.Base.{if_then_else_, orElse}
 use Rattle.definition.specs.Refusals.{malformed, outsideLimit}
-use Rattle.definition.specs.Ast.{PcodeExpr, Args, noArgs, arg, Statement, Space, Register, BitRange, Table, Macro, Field, Section}
+use Rattle.definition.specs.Ast.{PcodeExpr, Args, noArgs, arg, Statement, Space, Register, BitRange, Table, Macro, Field, Header, Section}
 use Rattle.definition.specs.Expressions.{argCount}
-use Rattle.definition.specs.SectionFile.{Parsed, parsed, refused, Read, on, _>>=_, _>>_, pure, refuse, upTo, orAbsent, size, sizeOr, choose, code, smallCount, listOf, argsOf, call, exprs, exprWithin, jumpLabel, branchDst, statement, entries, space, register, bitRange, table, macro, field, Header, header, lists, section, streamOf, read}
+use Rattle.definition.specs.SectionFile.{Parsed, parsed, refused, Read, on, _>>=_, _>>_, pure, refuse, upTo, orAbsent, size, sizeOr, choose, code, oneOf, smallCount, listOf, argsOf, pcodeOps, call, exprs, exprWithin, jumpLabel, branchDst, statement, entries, space, register, bitRange, table, macro, field, header, lists, section, streamOf, read}
 use Rattle.definition_guarantee.specs.Tests.{Each}
 use Rattle.definition_guarantee.specs.Limits.{SizeWithin, ExprWithin, ArgsWithin, JumpWithin, DestinationWithin, StatementWithin, WithinLimits}
 use Rattle.definition_guarantee.proofs.Readings.{Reading, Reads, bind, returns, refuses, passed, passes, reads-upTo, reads-bits}
@@ -40,6 +40,15 @@ chosen P (x ∷ xs) (suc i) h = chosen P xs i (h .1)
 reads-code : {A : Type 0} (P : A → Type 0) (xs : List (Read A)) → Each (Reads P) xs → Reads P (code xs)
 unfolding code
 reads-code P xs h = passed _ _ (λ b. chosen P xs b h)
+
+places : {A : Type 0} (P : A → Type 0) (xs : List A) → ((i : ℕ) (x : A) → getElem? xs i ≡ some x → P x) → Each (Reads P) (map pure xs)
+places P [] h = tt
+places P (x ∷ xs) h = (returns x (h 0 x refl), places P xs (λ i y e. h (suc i) y e))
+
+-- whatever has no fields is one of its alternatives
+reads-oneOf : {A : Type 0} (xs : List A) → Reads (λ x. (i : ℕ) × (getElem? xs i ≡ some x)) (oneOf xs)
+unfolding oneOf
+reads-oneOf xs = reads-code _ (map pure xs) (places _ xs (λ i x e. (i, e)))
 
 reads-list : {A : Type 0} (P : A → Type 0) (m : Read A) (n : ℕ) → Reads P m → Reads (Each P) (listOf m n)
 unfolding listOf
@@ -72,7 +81,7 @@ module _ (names : ℕ) where
           (
             bind _ _ h (λ x p. passed _ _ (λ from. bind _ _ reads-bits (λ z q. returns _ (p, q)))),
             (
-              bind _ _ h (λ a p. passed _ _ (λ o. bind _ _ h (λ b q. returns _ (p, q)))),
+              bind _ _ h (λ a p. bind _ _ (reads-oneOf pcodeOps) (λ o r. bind _ _ h (λ b q. returns _ (p, r, q)))),
               (
                 passed _ _ (λ n. bind _ _ reads-sizeOr (λ z p. bind _ _ h (λ x q. returns _ (p, q)))),
                 (

@@ -1,5 +1,5 @@
 -- Temporaries and pushes keep the state in order.
-use Prim.Native.Nat.{ℕ, zero, suc, _+_, _≤_, _<_, min}
+use Prim.Native.Nat.{ℕ, zero, suc, _+_, _≤_, _<_}
 use mathlib.Core.Path.{_≡_, refl, sym, _∙_, ap, subst}
 use mathlib.Core.Logic.{_⊎_, inl, inr}
 use mathlib.Core.Bool.{Bool, true, false, _&&_}
@@ -96,7 +96,7 @@ new-fits sub ts x = let m = one-more ts x in record {
 
 pub keep-addTmp : {e : Env} {n : ℕ} (name z : Option ℕ) → Small e n z → Keeps e n (λ k v. ValueFits e k v) (addTmp name z)
 unfolding addTmp on require
-keep-addTmp {e} {n} name z h = record { keeps = λ s c o. go s o (leb (length (s .sizing .temporaries) + 1) (min (e .temporaryRoom) 512)) }
+keep-addTmp {e} {n} name z h = record { keeps = λ s c o. go s o (leb (length (s .sizing .temporaries) + 1) (e .temporaryRoom)) }
   where
     go : (s : State) → Kept e s → (b : Bool)
         → Ends e s (λ k v. ValueFits e k v) (on e (require b tooManyTemporaries e s)

@@ -10,8 +10,9 @@ use Rattle.definition.specs.Operations.{Operation, operations-opens}
 use Rattle.definition.specs.Value.{Kind, Value, local, ActionKind}
 use Rattle.definition.specs.Ast.{PcodeOp}
 use Rattle.definition.specs.Spellings.{Inbuilt, inbuilts, translateInbuiltFunc, spellings-opens}
-use Rattle.definition.specs.Expressions.{Order, asWritten, swapped, translatePcodeOp}
+use Rattle.definition.specs.SectionFile.{pcodeOps}
 use Rattle.definition.specs.Checker.{shapes, shapeOf, sameCount, countsFit, optionFits, numberFits, valueFits, plainBase, baseFits}
+use Rattle.definition_guarantee.specs.Limits.{OperatorWithin}
 use Rattle.definition_guarantee.proofs.Tests.{of-lt, all-at, all-cons, first-from, chosen}
 use Rattle.definition_guarantee.proofs.Words.{Fits, parts-fit, Laid}
 use Rattle.definition_guarantee.proofs.Kept.{applies, Applicable, plain}
@@ -69,51 +70,17 @@ user-applies id (suc (suc (suc c))) h l = absurd (omega arith)
 
 -- operators
 
-abbrev pub OrderApplies : Order → Type 0
-OrderApplies (asWritten operation) = Applicable operation 0 2
-OrderApplies (swapped operation) = Applicable operation 0 2
+-- the operation that an operator stands for
+unfoldable pub operationIn : PcodeOp → Operation
+operationIn (PcodeOp.plain operation) = operation
+operationIn (PcodeOp.greater operation) = operation
 
-pub operator-applies : (o : PcodeOp) → OrderApplies (translatePcodeOp o)
-unfolding translatePcodeOp applies shapeOf shapes operations-opens sameCount
-operator-applies PcodeOp.IntMult = plain refl
-operator-applies PcodeOp.IntDiv = plain refl
-operator-applies PcodeOp.IntSignedDiv = plain refl
-operator-applies PcodeOp.IntRem = plain refl
-operator-applies PcodeOp.IntSignedRem = plain refl
-operator-applies PcodeOp.IntAdd = plain refl
-operator-applies PcodeOp.IntSub = plain refl
-operator-applies PcodeOp.IntLeft = plain refl
-operator-applies PcodeOp.IntRight = plain refl
-operator-applies PcodeOp.IntSignedRight = plain refl
-operator-applies PcodeOp.IntSignedLess = plain refl
-operator-applies PcodeOp.IntSignedLessEqual = plain refl
-operator-applies PcodeOp.IntLess = plain refl
-operator-applies PcodeOp.IntLessEqual = plain refl
-operator-applies PcodeOp.IntEqual = plain refl
-operator-applies PcodeOp.IntNotEqual = plain refl
-operator-applies PcodeOp.FloatDiv = plain refl
-operator-applies PcodeOp.FloatMult = plain refl
-operator-applies PcodeOp.FloatAdd = plain refl
-operator-applies PcodeOp.FloatSub = plain refl
-operator-applies PcodeOp.FloatLess = plain refl
-operator-applies PcodeOp.FloatLessEqual = plain refl
-operator-applies PcodeOp.FloatEqual = plain refl
-operator-applies PcodeOp.FloatNotEqual = plain refl
-operator-applies PcodeOp.IntAnd = plain refl
-operator-applies PcodeOp.IntXor = plain refl
-operator-applies PcodeOp.IntOr = plain refl
-operator-applies PcodeOp.BoolXor = plain refl
-operator-applies PcodeOp.BoolAnd = plain refl
-operator-applies PcodeOp.BoolOr = plain refl
-operator-applies PcodeOp.IntCarry = plain refl
-operator-applies PcodeOp.IntSignedCarry = plain refl
-operator-applies PcodeOp.IntSignedBorrow = plain refl
-operator-applies PcodeOp.IntGreater = plain refl
-operator-applies PcodeOp.IntGreaterEqual = plain refl
-operator-applies PcodeOp.IntSignedGreater = plain refl
-operator-applies PcodeOp.IntSignedGreaterEqual = plain refl
-operator-applies PcodeOp.FloatGreater = plain refl
-operator-applies PcodeOp.FloatGreaterEqual = plain refl
+operators-apply : all (λ o. applies true (operationIn o) 0 2) pcodeOps ≡ true
+unfolding operationIn pcodeOps applies shapeOf shapes operations-opens sameCount
+operators-apply = refl
+
+pub operator-applies : (o : PcodeOp) → OperatorWithin o → Applicable (operationIn o) 0 2
+operator-applies o w = plain (all-at (λ o. applies true (operationIn o) 0 2) pcodeOps (w .0) o operators-apply (w .1))
 
 -- the built-in spellings
 

@@ -8,11 +8,13 @@ use native.Mathlib.Omega.{arith}
 use lib.Dec.{eqb, leb}
 use lib.ListN.{length, getElem?}
 use lib.Seq.{take-at, drop-at}
-use Rattle.prelude.specs.Base.{if_then_else_, orElse, andThen, isSome, any, all, first, base-opens}
+use borrow.Author.Tests.{not-true}
+use Rattle.prelude.specs.Base.{if_then_else_, orElse, andThen, isSome, any, all, base-opens}
 use Rattle.definition.specs.Operations.{Operation, operationNumber, among, operations-opens}
 use Rattle.definition.specs.Value.{Kind, kindNumber, Value, ActionKind, SemanticAction, operationOf}
 use Rattle.definition.specs.ActionList.{orNone, valueWords, inputWords, actionKindNumber, outputWords, operationWord, filled, actionWords, listWords}
 use Rattle.definition.specs.Checker.{Shape, OperationShape, shapes, operationNumbered, opNumbered, actionKindNumbered, kinds, sizeFrom, valueFrom, inputsFrom, someValue, outputFrom, actionFrom, actionsFrom, sameCount, countsFit, shapeFits, optionFits, shapeOf, numberFits, valueFits, layoutFits, baseFits, sizesHold, labelsOnce, allBuilt, listHolds, check}
+use Rattle.definition.proofs.EveryOperation.{alike}
 use Rattle.definition_guarantee.proofs.Tests.{clash, eq-of, differ, le-of, lt-of, of-le, of-lt, and-true, both, if-true, all-parts, all-at, first-from, or-true, then-some, same-list, any-from, chosen, some-same}
 
 -- the second word of a value: its kind, offset and size
@@ -50,70 +52,14 @@ kind-numbered Kind.SubtableRef = refl
 kind-numbered Kind.PcodeTmp = refl
 kind-numbered Kind.Constant = refl
 
--- A subpiece alone has no number in the list.
-pub numbered : (op : Operation) → eqb (operationNumber op) 66 ≡ false → operationNumbered (operationNumber op) ≡ some op
+-- A subpiece alone is not read back.
+read-back : (op : Operation) → operationNumbered (operationNumber op) ≡ (if eqb (operationNumber op) 66 then none else some op)
 unfolding operationNumbered shapes operations-opens
-numbered Operation.IntMul h = refl
-numbered Operation.IntDiv h = refl
-numbered Operation.IntSignedDiv h = refl
-numbered Operation.IntRem h = refl
-numbered Operation.IntSignedRem h = refl
-numbered Operation.IntAdd h = refl
-numbered Operation.IntSub h = refl
-numbered Operation.IntLeft h = refl
-numbered Operation.IntRight h = refl
-numbered Operation.IntSignedRight h = refl
-numbered Operation.IntSignedLess h = refl
-numbered Operation.IntSignedLessEqual h = refl
-numbered Operation.IntLess h = refl
-numbered Operation.IntLessEqual h = refl
-numbered Operation.IntEqual h = refl
-numbered Operation.IntNotEqual h = refl
-numbered Operation.FloatDiv h = refl
-numbered Operation.FloatMul h = refl
-numbered Operation.FloatAdd h = refl
-numbered Operation.FloatSub h = refl
-numbered Operation.FloatLess h = refl
-numbered Operation.FloatLessEqual h = refl
-numbered Operation.FloatEqual h = refl
-numbered Operation.FloatNotEqual h = refl
-numbered Operation.IntAnd h = refl
-numbered Operation.IntXor h = refl
-numbered Operation.IntOr h = refl
-numbered Operation.BoolXor h = refl
-numbered Operation.BoolAnd h = refl
-numbered Operation.BoolOr h = refl
-numbered Operation.IntCarry h = refl
-numbered Operation.IntSignedCarry h = refl
-numbered Operation.IntSignedBorrow h = refl
-numbered Operation.BoolNot h = refl
-numbered Operation.IntNot h = refl
-numbered Operation.IntNegate h = refl
-numbered Operation.FloatIsNan h = refl
-numbered Operation.ZeroExtend h = refl
-numbered Operation.SignExtend h = refl
-numbered Operation.FloatNegate h = refl
-numbered Operation.FloatAbs h = refl
-numbered Operation.FloatSqrt h = refl
-numbered Operation.FloatCeil h = refl
-numbered Operation.FloatFloor h = refl
-numbered Operation.FloatRound h = refl
-numbered Operation.FloatToInt h = refl
-numbered Operation.IntToFloat h = refl
-numbered Operation.UintToFloat h = refl
-numbered Operation.FloatToFloat h = refl
-numbered Operation.IntCountOnes h = refl
-numbered Operation.IntCountLeadingZeroes h = refl
-numbered Operation.Copy h = refl
-numbered Operation.Load h = refl
-numbered Operation.Store h = refl
-numbered Operation.Branch h = refl
-numbered Operation.PcodeBranch h = refl
-numbered Operation.PcodeLabel h = refl
-numbered Operation.PcodeOp h = refl
-numbered Operation.Arg h = refl
-numbered Operation.Invalid h = refl
-numbered Operation.Subpiece h = clash refl h
+read-back = alike (λ op. operationNumbered (operationNumber op)) (λ op. if eqb (operationNumber op) 66 then none else some op) refl
+
+pub numbered : (op : Operation) → eqb (operationNumber op) 66 ≡ false → operationNumbered (operationNumber op) ≡ some op
+unfolding if_then_else_
+numbered op h = rw h at (read-back op)
 
 op-numbered : (op : Operation) → eqb (operationNumber op) 66 ≡ false → opNumbered (operationNumber op) ≡ some (ActionKind.Op op)
 unfolding opNumbered andThen
@@ -222,21 +168,15 @@ row-small = refl
 abbrev SmallCounts : Shape → Type 0
 SmallCounts shape = all small-count (shape .counts) ≡ true
 
--- a subpiece has no shape
+-- a subpiece alone has no shape
+shaped-others : (t sub : ℕ) (op : Operation) → isSome (shapeOf t sub (ActionKind.Op op)) ≡ not (eqb (operationNumber op) 66)
+unfolding shapeOf shapes operations-opens
+shaped-others t sub = alike (λ op. isSome (shapeOf t sub (ActionKind.Op op))) (λ op. not (eqb (operationNumber op) 66)) refl
+
 pub subpiece-shapeless : (t sub : ℕ) (op : Operation) (shape : Shape) → shapeOf t sub (ActionKind.Op op) ≡ some shape → (b : Bool)
     → eqb (operationNumber op) 66 ≡ b → b ≡ false
-unfolding shapeOf shapes operations-opens
-subpiece-shapeless t sub op shape e false d = refl
-subpiece-shapeless t sub op shape e true d =
-    let n : operationNumber op ≡ 66 = eq-of _ _ d in
-    let z : _≡_ {A = ℕ} 0 1 = absent (operationNumber op) n e in
-    absurd (omega arith)
-  where
-    row : ℕ → OperationShape → Option Shape
-    row n x = if any (λ other. eqb n (operationNumber other)) (x .operations) then some (x .shape) else none
-
-    absent : (n : ℕ) → n ≡ 66 → first (row n) shapes ≡ some shape → _≡_ {A = ℕ} 0 1
-    absent n d e = let q : none ≡ some shape = rw d at e in cc
+unfolding isSome
+subpiece-shapeless t sub op shape e b d = not-true b (sym (rw (e, d) at (shaped-others t sub op)))
 
 wrong-output : {A : Type 0} (n m : ℕ) (here there : Bool) → (if here then there else not there) ≡ false
     → any (sameCount (n, here)) ((m, there) ∷ []) ≡ true → A

@@ -1,16 +1,21 @@
 -- The limits that every section read from a file keeps, as far as its action list depends on them.
 use Prim.Native.Nat.{ℕ, _≤_}
-use mathlib.Core.Option.{Option}
-use lib.ListN.{length}
+use mathlib.Core.Path.{_≡_}
+use mathlib.Core.Option.{Option, some}
+use lib.ListN.{length, getElem?}
 use Rattle.prelude.specs.Base.{orElse}
-use Rattle.definition.specs.Ast.{PcodeExpr, Args, noArgs, arg, JumpLabel, BranchDst, Statement, Space, Register, BitRange, Table, Macro, Field, Section}
+use Rattle.definition.specs.Ast.{PcodeOp, PcodeExpr, Args, noArgs, arg, JumpLabel, BranchDst, Statement, Space, Register, BitRange, Table, Macro, Field, Section}
 use Rattle.definition.specs.Expressions.{argCount}
-use Rattle.definition.specs.SectionFile.{size}
+use Rattle.definition.specs.SectionFile.{pcodeOps}
 use Rattle.definition_guarantee.specs.Tests.{Each}
 
 -- a size, where there is one, is 1,024 at most
 abbrev pub SizeWithin : Option ℕ → Type 0
 SizeWithin z = orElse 0 z ≤ 1024
+
+-- an operator is one of those that a file can hold
+abbrev pub OperatorWithin : PcodeOp → Type 0
+OperatorWithin o = (code : ℕ) × (getElem? pcodeOps code ≡ some o)
 
 unfoldable mutual
   pub ExprWithin : PcodeExpr → Type 0
@@ -19,7 +24,7 @@ unfoldable mutual
   ExprWithin (PcodeExpr.AddressOf z n) = SizeWithin z
   ExprWithin (PcodeExpr.Truncate x z) = ExprWithin x × (z ≤ 1024)
   ExprWithin (PcodeExpr.SliceBits x from bits) = ExprWithin x × (bits ≤ 8192)
-  ExprWithin (PcodeExpr.Op a o b) = ExprWithin a × ExprWithin b
+  ExprWithin (PcodeExpr.Op a o b) = ExprWithin a × OperatorWithin o × ExprWithin b
   ExprWithin (PcodeExpr.Deref n z x) = SizeWithin z × ExprWithin x
   ExprWithin (PcodeExpr.ConstantPoolRef xs) = Unit {0}
   ExprWithin (PcodeExpr.Call n xs) = (argCount xs ≤ 8) × ArgsWithin xs

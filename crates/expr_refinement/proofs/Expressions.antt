@@ -15,7 +15,7 @@ use Rattle.prelude.specs.Base.{orElse, base-opens, if_then_else_}
 use Rattle.definition.specs.Refusals.{Refusal, refusalNumber, addressOfNonLocal, constantPool, argumentCount, macroInExpression}
 use Rattle.definition.specs.Operations.{Operation, operationNumber}
 use Rattle.definition.specs.Value.{Value}
-use Rattle.definition.specs.Ast.{PcodeExpr, Args, noArgs, arg, Section}
+use Rattle.definition.specs.Ast.{PcodeOp, PcodeExpr, Args, noArgs, arg, Section}
 use Rattle.definition.specs.SectionFile.{Parsed, parsed, refused, Read, exprWithin, argsOf}
 use Rattle.definition.specs.SectionFile as file
 use Rattle.definition.specs.Walk as w
@@ -268,7 +268,7 @@ module _ (s t : List ℕ) (e : Env) (p front tail marks rest : List ℕ) (we : W
   address-named next st f size n q l name c known x h = rw (← q) (address-meant next st f size l name c known x h)
 
   address-at : (next : ℕ) (st : State) → Stands st → (space size : Option ℕ) (a b : ℕ) → orNone space ≡ a → orNone size ≡ b → (x : ExprValue) → ((y : ℕ) → space ≡ some y → y < 1024) → orElse 0 size < 65535 → SoundX (e .section) (count st) x
-      → Answers next st (resolveAddress s t (A st) (M st) we a b (encX x) next (W st)) ((definition.if_then_else_ (d.isName (e .section .const) space) (d.inConstSpace size x) (d.addressIn space size x)) e st)
+      → Answers next st (resolveAddress s t (A st) (M st) we a b (encX x) next (W st)) ((definition.if_then_else_ (d.isName (e .section .header .const) space) (d.inConstSpace size x) (d.addressIn space size x)) e st)
   address-at next st f space size a b p q x k l h = rw (← p, ← q) (address s t e front tail marks rest we below holds spare room next st f space size x k l h)
 
   -- an operand made of what was read
@@ -438,7 +438,7 @@ module _ (s t : List ℕ) (e : Env) (p front tail marks rest : List ℕ) (we : W
         let l = names-few in
         rw (i .is, ahead 5 (omega arith))
         (bind-expr (e .section) front tail marks rest spare spare e st (SoundX (e .section)) seenExpr (λ (x : ExprValue). (encX x, next)) (SoundX (e .section))
-        (λ y. λ e1 st1. (definition.if_then_else_ (d.isName (e1 .section .const) (absentAt s (pos + 1))) (d.inConstSpace (absentAt s (pos + 3)) y) (d.addressIn (absentAt s (pos + 1)) (absentAt s (pos + 3)) y)) e1 st1) (λ (x : ExprValue). (encX x, i .pointer-end)) _ _ _ _
+        (λ y. λ e1 st1. (definition.if_then_else_ (d.isName (e1 .section .header .const) (absentAt s (pos + 1))) (d.inConstSpace (absentAt s (pos + 3)) y) (d.addressIn (absentAt s (pos + 1)) (absentAt s (pos + 3)) y)) e1 st1) (λ (x : ExprValue). (encX x, i .pointer-end)) _ _ _ _
         (walks (pos + 5) (i .pointer) (i .pointer-end) (i .pointer-reads) (i .pointer-inside) st f c) (λ n a m. unfold seenExpr in refl)
         λ y st1 r h. rw (← k)
         (address-at next st1 (r .stood) (absentAt s (pos + 1)) (absentAt s (pos + 3)) (le16 s (pos + 1)) (le16 s (pos + 3)) (absent-word s (pos + 1)) (absent-word s (pos + 3)) y (λ z g. omega (arith, i .space-below z g)) (small-or (absentAt s (pos + 3)) (i .size-below)) h))
@@ -459,13 +459,13 @@ module _ (s t : List ℕ) (e : Env) (p front tail marks rest : List ℕ) (we : W
         let begun : i .a-end + 1 ≤ length s = (let b = begins s (le16 s 2) deep (i .a-end + 1) (i .b) (drop (i .b-end) s) (i .b-reads) in omega arith) in
         let mono = end-behind s (le16 s 2) deep (i .a-end + 1) (i .b) (i .b-end) (i .b-reads) begun (i .b-inside) in
         rw (i .is, ahead 1 (omega arith), at-end, after-is (i .a-end) 1 (omega (arith, i .a-inside)) (omega arith), add-zero (i .a-end))
-        (by-order i k mono (d.translatePcodeOp (i .op)) (order-is (getD s (i .a-end) 0) (i .op) (i .op-is)))
+        (by-order i k mono (i .op) (order-is (getD s (i .a-end) 0) (i .op) (i .op-is)))
       where
-        by-order : (i : OpAt s (le16 s 2) deep pos x (drop next s)) → next ≡ i .b-end → i .a-end + 1 ≤ i .b-end → (o : d.Order) → OrderIs o (getD s (i .a-end) 0)
+        by-order : (i : OpAt s (le16 s 2) deep pos x (drop next s)) → next ≡ i .b-end → i .a-end + 1 ≤ i .b-end → (o : PcodeOp) → OrderIs o (getD s (i .a-end) 0)
             → Answers next st (binary (resolveExpr deep s t p we) s t we (orderOf (getD s (i .a-end) 0) (pos + 1) (i .a-end + 1)) (A st) (M st) (W st)) (d.resolveOp o (d.valueOf (d.resolveExpr (i .a))) (d.valueOf (d.resolveExpr (i .b))) e st)
-        by-order i k l (d.asWritten op) h = unfold orderOf if_then_else_ d.resolveOp in
+        by-order i k l (PcodeOp.plain op) h = unfold orderOf if_then_else_ d.resolveOp in
             rw (h .0, ← h .1) (both deep walks op (h .2) (pos + 1) (i .a) (i .a-end) (i .a-reads) (i .a-inside) (i .a-end + 1) (i .b) (i .b-end) (i .b-reads) (i .b-inside) next (later-second (i .a-end) (i .b-end) (omega arith) ∙ sym k) st f c)
-        by-order i k l (d.swapped op) h = unfold orderOf if_then_else_ d.resolveOp in
+        by-order i k l (PcodeOp.greater op) h = unfold orderOf if_then_else_ d.resolveOp in
             rw (h .0, ← h .1) (both deep walks op (h .2) (i .a-end + 1) (i .b) (i .b-end) (i .b-reads) (i .b-inside) (pos + 1) (i .a) (i .a-end) (i .a-reads) (i .a-inside) next (later-first (i .b-end) (i .a-end) (omega arith) ∙ sym k) st f c)
 
     -- a call: its name, the count of its arguments, and they

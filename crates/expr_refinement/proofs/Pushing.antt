@@ -1,6 +1,6 @@
 -- The level below does what expressions need of it: temporaries and pushes are the definition's, and keep a state that
 -- the lent words hold.
-use Prim.Native.Nat.{ℕ, zero, suc, _+_, _*_, _^_, _≤_, _<_, min}
+use Prim.Native.Nat.{ℕ, zero, suc, _+_, _*_, _^_, _≤_, _<_}
 use mathlib.Core.Path.{_≡_, refl, sym, _∙_, ap, subst}
 use mathlib.Core.Bool.{Bool, true, false}
 use mathlib.Core.List.{List, [], _∷_, _++_}
@@ -105,7 +105,7 @@ push-halts-at e st x = go (leb (length (st .actions) + 1 + length (e .section .s
 
 pub add-halts : (e : Env) (st : State) (name size : Option ℕ) → Halts st (d.addTmp name size e st)
 unfolding d.addTmp on
-add-halts e st name size = go (leb (length (tmps st) + 1) (min (e .temporaryRoom) 512))
+add-halts e st name size = go (leb (length (tmps st) + 1) (e .temporaryRoom))
   where
     go : (b : Bool) → Halts st (on e (require b tooManyTemporaries e st) (λ _. λ e1 st1. on e1 (done (tt {0}) (withSizing (sizes.withTemporaries (tmps st ++ (record { name = name; size = size } ∷ [])) (st .sizing)) st1)) λ _. λ e2 st2. done (local Kind.PcodeTmp (length (tmps st))) st2))
     go true = unfold require in halts-done st _ _
@@ -158,7 +158,7 @@ module _ (s t : List ℕ) (e : Env) (front tail marks rest : List ℕ) (we : Wor
 
   add-state : (st : State) (size : Option ℕ) (v : Value) (u : State) → d.addTmp none size e st ≡ done v u → u ≡ added st size
   unfolding d.addTmp on
-  add-state st size v u q = go (leb (length (tmps st) + 1) (min (e .temporaryRoom) 512)) q
+  add-state st size v u q = go (leb (length (tmps st) + 1) (e .temporaryRoom)) q
     where
       go : (b : Bool) → on e (require b tooManyTemporaries e st) (λ _. λ e1 st1. on e1 (done (tt {0}) (withSizing (sizes.withTemporaries (tmps st ++ (record { name = none; size = size } ∷ [])) (st .sizing)) st1)) λ _. λ e2 st2. done (local Kind.PcodeTmp (length (tmps st))) st2) ≡ done v u → u ≡ added st size
       go true q = let h : done (local Kind.PcodeTmp (length (tmps st))) (added st size) ≡ done v u = unfold require in q in cc

@@ -215,12 +215,12 @@ module _ (s t : List ℕ) (sec : Section) (holds : Holds s t sec) where
 
 module _ (s t : List ℕ) (e : Env) (p front tail marks rest : List ℕ) (we : WordEnv) (holds : Holds s t (e .section)) (spare : ℕ) (st : State) (scoped : Scoped s t e p front tail marks rest we st) (name : ℕ) (known : name < 1024) where
   inner-is : words.innerMeaning s t (temps (e .section) front tail marks rest st) we (word (e .section) front tail marks rest st) name
-      ≡ encM (meaningOf (e .section) ((definition.if_then_else_ (eqb name (e .section .instNext)) (some (ExprValue.Local (local Kind.InstNext 0))) none) or (definition.if_then_else_ (eqb name (e .section .instStart)) (some (ExprValue.Local (local Kind.InstStart 0))) none)
+      ≡ encM (meaningOf (e .section) ((definition.if_then_else_ (eqb name (e .section .header .instNext)) (some (ExprValue.Local (local Kind.InstNext 0))) none) or (definition.if_then_else_ (eqb name (e .section .header .instStart)) (some (ExprValue.Local (local Kind.InstStart 0))) none)
       or (andThen (find name (st .scope .mapping)) λ v. some (ExprValue.Local v))) name)
   unfolding words.innerMeaning
   inner-is =
       rw (scoped .locals name known, global-is s t (e .section) holds name known, ← holds .instNext, ← holds .instStart)
-      (go (eqb name (e .section .instNext)) (eqb name (e .section .instStart)) (find name (st .scope .mapping)))
+      (go (eqb name (e .section .header .instNext)) (eqb name (e .section .header .instStart)) (find name (st .scope .mapping)))
     where
       go : (a b : Bool) (v : Option Value)
           → (if a then WordMeaning.Means (WordExpr.Local (record { kind = 1; number = 0; offset = 0; size = 65535 })) else if b then WordMeaning.Means (WordExpr.Local (record { kind = 0; number = 0; offset = 0; size = 65535 })) else foundOr (encF v) (words.globalMeaning s t (symbolWord (find name (globals (e .section))))))
@@ -237,7 +237,7 @@ module _ (s t : List ℕ) (e : Env) (p front tail marks rest : List ℕ) (we : W
       (param-is (st .scope .params) p name _ (scoped .params) ∙ go (find name (st .scope .params)))
     where
       go : (x : Option ExprValue) → meansOr x (words.innerMeaning s t (temps (e .section) front tail marks rest st) we (word (e .section) front tail marks rest st) name)
-          ≡ encM (meaningOf (e .section) (x or (definition.if_then_else_ (eqb name (e .section .instNext)) (some (ExprValue.Local (local Kind.InstNext 0))) none) or (definition.if_then_else_ (eqb name (e .section .instStart)) (some (ExprValue.Local (local Kind.InstStart 0))) none)
+          ≡ encM (meaningOf (e .section) (x or (definition.if_then_else_ (eqb name (e .section .header .instNext)) (some (ExprValue.Local (local Kind.InstNext 0))) none) or (definition.if_then_else_ (eqb name (e .section .header .instStart)) (some (ExprValue.Local (local Kind.InstStart 0))) none)
           or (andThen (find name (st .scope .mapping)) λ v. some (ExprValue.Local v))) name)
       go (some x) = unfold meansOr _or_ meaningOf encM in refl
       go none = unfold meansOr _or_ in inner-is
@@ -261,7 +261,7 @@ module _ (s t : List ℕ) (e : Env) (p front tail marks rest : List ℕ) (we : W
 
     pub meaning-sound : SoundM (meaningOf (e .section) (innerMeaning (e .section) (st .scope) name) name)
     unfolding innerMeaning
-    meaning-sound = go (find name (st .scope .params)) refl (eqb name (e .section .instNext)) (eqb name (e .section .instStart)) (find name (st .scope .mapping)) refl
+    meaning-sound = go (find name (st .scope .params)) refl (eqb name (e .section .header .instNext)) (eqb name (e .section .header .instStart)) (find name (st .scope .mapping)) refl
       where
         go : (x : Option ExprValue) → find name (st .scope .params) ≡ x → (a b : Bool) (v : Option Value) → find name (st .scope .mapping) ≡ v
             → SoundM (meaningOf (e .section) (x or (definition.if_then_else_ a (some (ExprValue.Local (local Kind.InstNext 0))) none) or (definition.if_then_else_ b (some (ExprValue.Local (local Kind.InstStart 0))) none) or (andThen v λ v. some (ExprValue.Local v))) name)

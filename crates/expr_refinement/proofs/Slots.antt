@@ -1,12 +1,16 @@
 -- Slots: what an expression means, written into eight words, is read back as it was.
 use Prim.Native.Nat.{ℕ, zero, suc, _+_, _*_, _/_, _%_, _≤_, _<_}
 use mathlib.Core.Path.{_≡_, refl, _∙_, ap}
+use mathlib.Core.Bool.{true}
 use mathlib.Core.List.{List, [], _∷_}
 use native.Mathlib.Nat.{add-zero}
 use native.Mathlib.Omega.{arith}
 use lib.ListN.{length, getD, set, length-set}
 use lib.Seq.{getD-set-same, getD-set-other}
-use Rattle.definition.specs.Operations.{Operation, operationNumber}
+use lib.Dec.{ltb}
+use borrow.Author.Tests.{ltb-true}
+use Rattle.definition.specs.Operations.{Operation, operationNumber, operations-opens}
+use Rattle.definition.proofs.EveryOperation.{alike}
 use Rattle.definition.specs.Value.{Value}
 use Rattle.definition.specs.Ast.{Section}
 use Rattle.definition.specs.Walk.{ExprValue}
@@ -105,68 +109,8 @@ second-again sec n (u ∷ []) h = absent-again
 second-again sec n (u ∷ v ∷ vs) h = value-again v (h .1 .0)
 
 pub op-small : (op : Operation) → operationNumber op < 67
-unfolding operationNumber
-op-small Operation.IntMul = omega arith
-op-small Operation.IntDiv = omega arith
-op-small Operation.IntSignedDiv = omega arith
-op-small Operation.IntRem = omega arith
-op-small Operation.IntSignedRem = omega arith
-op-small Operation.IntAdd = omega arith
-op-small Operation.IntSub = omega arith
-op-small Operation.IntLeft = omega arith
-op-small Operation.IntRight = omega arith
-op-small Operation.IntSignedRight = omega arith
-op-small Operation.IntSignedLess = omega arith
-op-small Operation.IntSignedLessEqual = omega arith
-op-small Operation.IntLess = omega arith
-op-small Operation.IntLessEqual = omega arith
-op-small Operation.IntEqual = omega arith
-op-small Operation.IntNotEqual = omega arith
-op-small Operation.FloatDiv = omega arith
-op-small Operation.FloatMul = omega arith
-op-small Operation.FloatAdd = omega arith
-op-small Operation.FloatSub = omega arith
-op-small Operation.FloatLess = omega arith
-op-small Operation.FloatLessEqual = omega arith
-op-small Operation.FloatEqual = omega arith
-op-small Operation.FloatNotEqual = omega arith
-op-small Operation.IntAnd = omega arith
-op-small Operation.IntXor = omega arith
-op-small Operation.IntOr = omega arith
-op-small Operation.BoolXor = omega arith
-op-small Operation.BoolAnd = omega arith
-op-small Operation.BoolOr = omega arith
-op-small Operation.IntCarry = omega arith
-op-small Operation.IntSignedCarry = omega arith
-op-small Operation.IntSignedBorrow = omega arith
-op-small Operation.BoolNot = omega arith
-op-small Operation.IntNot = omega arith
-op-small Operation.IntNegate = omega arith
-op-small Operation.FloatIsNan = omega arith
-op-small Operation.ZeroExtend = omega arith
-op-small Operation.SignExtend = omega arith
-op-small Operation.FloatNegate = omega arith
-op-small Operation.FloatAbs = omega arith
-op-small Operation.FloatSqrt = omega arith
-op-small Operation.FloatCeil = omega arith
-op-small Operation.FloatFloor = omega arith
-op-small Operation.FloatRound = omega arith
-op-small Operation.FloatToInt = omega arith
-op-small Operation.IntToFloat = omega arith
-op-small Operation.UintToFloat = omega arith
-op-small Operation.FloatToFloat = omega arith
-op-small Operation.IntCountOnes = omega arith
-op-small Operation.IntCountLeadingZeroes = omega arith
-op-small Operation.Copy = omega arith
-op-small Operation.Load = omega arith
-op-small Operation.Store = omega arith
-op-small Operation.Branch = omega arith
-op-small Operation.PcodeBranch = omega arith
-op-small Operation.PcodeLabel = omega arith
-op-small Operation.PcodeOp = omega arith
-op-small Operation.Arg = omega arith
-op-small Operation.Invalid = omega arith
-op-small Operation.Subpiece = omega arith
+unfolding operations-opens
+op-small op = ltb-true _ _ (alike (λ op. ltb (operationNumber op) 67) (λ op. true) refl op)
 
 small-part : (a : ℕ) → a < 256 → a % 256 ≡ a
 small-part a h = omega arith

@@ -9,6 +9,7 @@ use lib.ListN.{length, getD, drop, getElem?}
 use lib.Dec.{leb, ltb}
 use borrow.Author.Tests.{ltb-true, ltb-false, leb-true, leb-false}
 use Rattle.prelude.specs.Base.{if_then_else_}
+use Rattle.definition.specs.Operations.{operators}
 use Rattle.definition.specs.Refusals.{refusalNumber, malformed, outsideLimit, namesNothing}
 use Rattle.definition.specs.Ast.{PcodeExpr, Args, noArgs, arg, JumpLabel, BranchDst, BranchHint, Statement}
 use Rattle.definition.specs.SectionFile.{parsed, refused, on, Read, pure, refuse, choose, littleEndian, upTo, naming, argsOf, listOf}
@@ -145,7 +146,7 @@ call-agrees s m item f g r q v b =
     (λ n q v b p. counted-agrees s item f (g n) r q v b)
 
 ops-read : (s : List ℕ) (q v : ℕ) → q ≤ length s → Agrees s (OneOf s d.pcodeOps q) (d.oneOf d.pcodeOps (drop q s)) (u8 s 39 3 (cursor q 0 v))
-unfolding d.pcodeOps
+unfolding d.pcodeOps operators
 ops-read s q v b = one-of-agrees s d.pcodeOps q v b
 
 -- Expressions.

@@ -12,7 +12,8 @@ use lib.Dec.{eqb, leb, ltb}
 use borrow.Author.Tests.{eqb-true, eqb-false, eq-eqb, ne-eqb, ltb-true, ltb-false, leb-true, leb-false, lt-leb, le-leb}
 use Rattle.prelude.specs.Base.{if_then_else_, any, sameBytes}
 use Rattle.definition.specs.Refusals.{Refusal, refusalNumber, malformed, outsideLimit, namesNothing, spelledTwice}
-use Rattle.definition.specs.SectionFile.{Parsed, parsed, refused, on, Read, pure, require, littleEndian, upTo, naming, orAbsent, listOf, Header}
+use Rattle.definition.specs.SectionFile.{Parsed, parsed, refused, on, Read, pure, require, littleEndian, upTo, naming, orAbsent, listOf}
+use Rattle.definition.specs.Ast.{Header}
 use Rattle.definition.specs.SectionFile as d
 use Rattle.access.specs.Le.{le16}
 use Rattle.file_syntax.specs.declared.cursor.Cursor.{Cursor}

@@ -169,12 +169,12 @@ pub record Steps (s t0 : List ℕ) (sec : Section) (t : List ℕ) : Type 0 where
   pub statements : StatementsAt s p10 (sec .statements)
   pub inside : p10 ≤ length s
   pub last : t ≡ set t10 3337 p10
-  pub ruleSet : sec .ruleSet ≡ le16 s 0
-  pub defaultSpace : sec .defaultSpace ≡ absentAt s 24
-  pub instStart : sec .instStart ≡ le16 s 26
-  pub instNext : sec .instNext ≡ le16 s 28
-  pub const : sec .const ≡ le16 s 30
-  pub delaySlot : sec .delaySlot ≡ le16 s 32
+  pub ruleSet : sec .header .ruleSet ≡ le16 s 0
+  pub defaultSpace : sec .header .defaultSpace ≡ absentAt s 24
+  pub instStart : sec .header .instStart ≡ le16 s 26
+  pub instNext : sec .header .instNext ≡ le16 s 28
+  pub const : sec .header .const ≡ le16 s 30
+  pub delaySlot : sec .header .delaySlot ≡ le16 s 32
 
 -- an entry of the table that nothing has written yet
 module _ (s : List ℕ) (short : length s < 65536) (t0 : List ℕ) (long : length t0 ≡ 3344) (clear : (j : ℕ) → getD t0 j 0 ≡ 0) (lim : Limits s) where
@@ -267,6 +267,6 @@ module _ (s : List ℕ) (short : length s < 65536) (t0 : List ℕ) (long : lengt
       fills-bind s (ListHeld s 8 2048 subtableName (subtableAt s) 2 p9 (map fieldName fields) t9) (λ sec _ t. Steps s t0 sec t) (d.entries (le16 s 2) (d.subtable (le16 s 2) (le16 s 10)) (map fieldName fields) (le16 s 20) (drop p9 s)) _ (λ w. statements s (run 0 9 (list s) w)) (list s 8 (reading (cursor p9 0 v9) t9))
       (list-fill s short few 8 2048 (base-local 8 (omega arith) (omega arith)) refl (omega arith) (count-fits-8) subtableName (subtableAt s) 2 (d.subtable (le16 s 2) (le16 s 10)) (subtable-name s) (subtable-agrees s) p9 v9 t9 (map fieldName fields) (h7 .size) (rw append-nil at (h7 .all-taken)) b9) (stays-rest-of s 0 9)
       (λ subtables p10 v10 t10 b10 h8.
-      end-fills (λ sec _ t. Steps s t0 sec t) (λ stmts. record { ruleSet = le16 s 0; defaultSpace = absentAt s 24; instStart = le16 s 26; instNext = le16 s 28; const = le16 s 30; delaySlot = le16 s 32; names = spelt; spaces = spaces; registers = registers; bitRanges = bitRanges; tables = tables; userOps = userOps; macros = macros; others = others; fields = fields; subtables = subtables; statements = stmts }) p10 v10 t10 b10
+      end-fills (λ sec _ t. Steps s t0 sec t) (λ stmts. record { header = headerAt s; names = spelt; spaces = spaces; registers = registers; bitRanges = bitRanges; tables = tables; userOps = userOps; macros = macros; others = others; fields = fields; subtables = subtables; statements = stmts }) p10 v10 t10 b10
       (λ stmts t c a e. record { limits = lim; t1 = t1; p1 = p1; t2 = t2; p2 = p2; t3 = t3; p3 = p3; t4 = t4; p4 = p4; t5 = t5; p5 = p5; t6 = t6; p6 = p6; t7 = t7; p7 = p7; t8 = t8; p8 = p8; t9 = t9; p9 = p9; t10 = t10; p10 = p10; names = h; spaces = h0; registers = h1; bitRanges = h2; tables = h3; userOps = h4; macros = h5; others = h6; fields = h7; subtables = h8; macros-inside = b7; statementCount = c; statements = a; inside = b10; last = e; ruleSet = refl; defaultSpace = refl; instStart = refl; instNext = refl; const = refl; delaySlot = refl })
       ))))))))))

@@ -115,12 +115,12 @@ pub record StatementsAt (s : List ℕ) (p : ℕ) (xs : List Statement) : Type 0 
 pub record Holds (s t : List ℕ) (sec : Section) : Type 0 where
   pub size : length t ≡ 3344
   pub limits : Limits s
-  pub ruleSet : sec .ruleSet ≡ le16 s 0
-  pub defaultSpace : sec .defaultSpace ≡ absentAt s 24
-  pub instStart : sec .instStart ≡ le16 s 26
-  pub instNext : sec .instNext ≡ le16 s 28
-  pub const : sec .const ≡ le16 s 30
-  pub delaySlot : sec .delaySlot ≡ le16 s 32
+  pub ruleSet : sec .header .ruleSet ≡ le16 s 0
+  pub defaultSpace : sec .header .defaultSpace ≡ absentAt s 24
+  pub instStart : sec .header .instStart ≡ le16 s 26
+  pub instNext : sec .header .instNext ≡ le16 s 28
+  pub const : sec .header .const ≡ le16 s 30
+  pub delaySlot : sec .header .delaySlot ≡ le16 s 32
   pub nameCount : length (sec .names) ≡ le16 s 2
   pub spelling : (n : ℕ) → n < length (sec .names) → getElem? (sec .names) n ≡ some (spelledAt s (getD t n 0))
   pub named : (n : ℕ) → n < length (sec .names) → Named s (getD t n 0)

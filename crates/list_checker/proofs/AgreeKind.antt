@@ -2,7 +2,7 @@
 -- tests say of its number.
 use Prim.Native.Nat.{ℕ, zero, suc, _≤_, _<_}
 use mathlib.Core.Path.{_≡_, refl, sym, _∙_}
-use mathlib.Core.Bool.{Bool, true, false, _&&_, false≢true}
+use mathlib.Core.Bool.{Bool, true, false, _&&_}
 use mathlib.Core.List.{List, [], _∷_, _++_, map}
 use mathlib.Core.Option.{Option, none, some}
 use native.Mathlib.Omega.{arith}
@@ -14,6 +14,7 @@ use Rattle.definition.specs.Value.{ActionKind, operationOf}
 use Rattle.definition.specs.Sizes.{in0, in1, out, one, pointer, Step, equal, sized, unsized, rules, ruleOf}
 use Rattle.definition.specs.ActionList.{actionKindNumber, operationWord}
 use Rattle.definition.specs.Checker.{Shape, shapes, withOutput, noOutput, operationNumbered, opNumbered, actionKindNumbered, sameCount, shapeOf}
+use Rattle.definition.proofs.EveryOperation.{alike}
 use Rattle.list_checker.specs.Action.{Row, triple, shift, comparison, boolean, negation, same, tested, free, load, store, branch, condition, label, user, argument, invalid, unknown, rowOf}
 use Rattle.list_checker.proofs.FitLaws.{row-above}
 
@@ -67,67 +68,10 @@ pub record Tabled (t s : ℕ) (o : Operation) : Type 0 where
 
 pub tabled : (t s : ℕ) (o : Operation) → Tabled t s o
 unfolding operations-opens shapes shapeOf shapeOfRow rules ruleOf stepsOf rowOf
-tabled t s Operation.IntMul = record { shape = refl; steps = refl }
-tabled t s Operation.IntDiv = record { shape = refl; steps = refl }
-tabled t s Operation.IntSignedDiv = record { shape = refl; steps = refl }
-tabled t s Operation.IntRem = record { shape = refl; steps = refl }
-tabled t s Operation.IntSignedRem = record { shape = refl; steps = refl }
-tabled t s Operation.IntAdd = record { shape = refl; steps = refl }
-tabled t s Operation.IntSub = record { shape = refl; steps = refl }
-tabled t s Operation.IntLeft = record { shape = refl; steps = refl }
-tabled t s Operation.IntRight = record { shape = refl; steps = refl }
-tabled t s Operation.IntSignedRight = record { shape = refl; steps = refl }
-tabled t s Operation.IntSignedLess = record { shape = refl; steps = refl }
-tabled t s Operation.IntSignedLessEqual = record { shape = refl; steps = refl }
-tabled t s Operation.IntLess = record { shape = refl; steps = refl }
-tabled t s Operation.IntLessEqual = record { shape = refl; steps = refl }
-tabled t s Operation.IntEqual = record { shape = refl; steps = refl }
-tabled t s Operation.IntNotEqual = record { shape = refl; steps = refl }
-tabled t s Operation.FloatDiv = record { shape = refl; steps = refl }
-tabled t s Operation.FloatMul = record { shape = refl; steps = refl }
-tabled t s Operation.FloatAdd = record { shape = refl; steps = refl }
-tabled t s Operation.FloatSub = record { shape = refl; steps = refl }
-tabled t s Operation.FloatLess = record { shape = refl; steps = refl }
-tabled t s Operation.FloatLessEqual = record { shape = refl; steps = refl }
-tabled t s Operation.FloatEqual = record { shape = refl; steps = refl }
-tabled t s Operation.FloatNotEqual = record { shape = refl; steps = refl }
-tabled t s Operation.IntAnd = record { shape = refl; steps = refl }
-tabled t s Operation.IntXor = record { shape = refl; steps = refl }
-tabled t s Operation.IntOr = record { shape = refl; steps = refl }
-tabled t s Operation.BoolXor = record { shape = refl; steps = refl }
-tabled t s Operation.BoolAnd = record { shape = refl; steps = refl }
-tabled t s Operation.BoolOr = record { shape = refl; steps = refl }
-tabled t s Operation.IntCarry = record { shape = refl; steps = refl }
-tabled t s Operation.IntSignedCarry = record { shape = refl; steps = refl }
-tabled t s Operation.IntSignedBorrow = record { shape = refl; steps = refl }
-tabled t s Operation.BoolNot = record { shape = refl; steps = refl }
-tabled t s Operation.IntNot = record { shape = refl; steps = refl }
-tabled t s Operation.IntNegate = record { shape = refl; steps = refl }
-tabled t s Operation.FloatIsNan = record { shape = refl; steps = refl }
-tabled t s Operation.ZeroExtend = record { shape = refl; steps = refl }
-tabled t s Operation.SignExtend = record { shape = refl; steps = refl }
-tabled t s Operation.FloatNegate = record { shape = refl; steps = refl }
-tabled t s Operation.FloatAbs = record { shape = refl; steps = refl }
-tabled t s Operation.FloatSqrt = record { shape = refl; steps = refl }
-tabled t s Operation.FloatCeil = record { shape = refl; steps = refl }
-tabled t s Operation.FloatFloor = record { shape = refl; steps = refl }
-tabled t s Operation.FloatRound = record { shape = refl; steps = refl }
-tabled t s Operation.FloatToInt = record { shape = refl; steps = refl }
-tabled t s Operation.IntToFloat = record { shape = refl; steps = refl }
-tabled t s Operation.UintToFloat = record { shape = refl; steps = refl }
-tabled t s Operation.FloatToFloat = record { shape = refl; steps = refl }
-tabled t s Operation.IntCountOnes = record { shape = refl; steps = refl }
-tabled t s Operation.IntCountLeadingZeroes = record { shape = refl; steps = refl }
-tabled t s Operation.Copy = record { shape = refl; steps = refl }
-tabled t s Operation.Load = record { shape = refl; steps = refl }
-tabled t s Operation.Store = record { shape = refl; steps = refl }
-tabled t s Operation.Branch = record { shape = refl; steps = refl }
-tabled t s Operation.PcodeBranch = record { shape = refl; steps = refl }
-tabled t s Operation.PcodeLabel = record { shape = refl; steps = refl }
-tabled t s Operation.PcodeOp = record { shape = refl; steps = refl }
-tabled t s Operation.Arg = record { shape = refl; steps = refl }
-tabled t s Operation.Invalid = record { shape = refl; steps = refl }
-tabled t s Operation.Subpiece = record { shape = refl; steps = refl }
+tabled t s o = record {
+  shape = alike (λ o. shapeOf t s (ActionKind.Op o)) (λ o. shapeOfRow (rowOf (operationNumber o))) refl o;
+  steps = alike ruleOf (λ o. stepsOf (rowOf (operationNumber o))) refl o;
+}
 
 -- Numbers read as operations.
 
@@ -149,76 +93,31 @@ operation-number n o e =
     go x b true q p = let z : x ≡ b = cc in rw (← z) (sym (eqb-true _ _ q))
     go x b false q p = absurd (let z : _≡_ {A = ℕ} 0 1 = cc in omega arith)
 
--- a test of every number below n
-unfoldable allBelow : ℕ → (ℕ → Bool) → Bool
-allBelow zero p = true
-allBelow (suc n) p = p n && allBelow n p
+unfoldable below : ℕ → List ℕ
+below zero = []
+below (suc n) = n ∷ below n
 
-at-below : (n m : ℕ) (p : ℕ → Bool) → allBelow n p ≡ true → m < n → p m ≡ true
-unfolding allBelow
-at-below zero m p h l = absurd (omega arith)
-at-below (suc n) m p h l = go (λ e i. at-below n m p e i) (eqb m n) refl (p n) refl h
+-- functions that give the same over the numbers below n give the same for each of them
+at-below : {A : Type 0} (f g : ℕ → A) (n m : ℕ) → map f (below n) ≡ map g (below n) → m < n → f m ≡ g m
+unfolding below
+at-below f g zero m h l = absurd (omega arith)
+at-below f g (suc n) m h l = go (at-below f g n m) (eqb m n) refl
   where
-    go : (allBelow n p ≡ true → m < n → p m ≡ true) → (t : Bool) → eqb m n ≡ t → (b : Bool) → p n ≡ b → (b && allBelow n p) ≡ true → p m ≡ true
-    go rest t e false q h = absurd (let z : _≡_ {A = ℕ} 0 1 = cc in omega arith)
-    go rest true e true q h = rw (eqb-true m n e) q
-    go rest false e true q h = let d : m ≡ n → ⊥ = eqb-false m n e in rest h (omega arith)
+    go : (map f (below n) ≡ map g (below n) → m < n → f m ≡ g m) → (b : Bool) → eqb m n ≡ b → f m ≡ g m
+    go rest true e = let k : f n ≡ g n = cc in rw (eqb-true m n e) k
+    go rest false e = let k : map f (below n) ≡ map g (below n) = cc in let d : m ≡ n → ⊥ = eqb-false m n e in rest k (omega arith)
 
-unfoldable isUnknown : Row → Bool
-isUnknown triple = false
-isUnknown shift = false
-isUnknown comparison = false
-isUnknown boolean = false
-isUnknown negation = false
-isUnknown same = false
-isUnknown tested = false
-isUnknown free = false
-isUnknown load = false
-isUnknown store = false
-isUnknown branch = false
-isUnknown condition = false
-isUnknown label = false
-isUnknown user = false
-isUnknown argument = false
-isUnknown invalid = false
-isUnknown unknown = true
-
-is-unknown : (row : Row) → isUnknown row ≡ true → row ≡ unknown
-unfolding isUnknown
-is-unknown triple e = absurd (false≢true e)
-is-unknown shift e = absurd (false≢true e)
-is-unknown comparison e = absurd (false≢true e)
-is-unknown boolean e = absurd (false≢true e)
-is-unknown negation e = absurd (false≢true e)
-is-unknown same e = absurd (false≢true e)
-is-unknown tested e = absurd (false≢true e)
-is-unknown free e = absurd (false≢true e)
-is-unknown load e = absurd (false≢true e)
-is-unknown store e = absurd (false≢true e)
-is-unknown branch e = absurd (false≢true e)
-is-unknown condition e = absurd (false≢true e)
-is-unknown label e = absurd (false≢true e)
-is-unknown user e = absurd (false≢true e)
-is-unknown argument e = absurd (false≢true e)
-is-unknown invalid e = absurd (false≢true e)
-is-unknown unknown e = refl
-
-unfoldable namedOrNone : ℕ → Bool
-namedOrNone n = if isSome (operationNumbered n) then true else isUnknown (rowOf n)
-
-named-or-none : allBelow 66 namedOrNone ≡ true
-unfolding allBelow namedOrNone operationNumbered shapes operations-opens rowOf isUnknown
-named-or-none = refl
-
-none-below : (n : ℕ) → operationNumbered n ≡ none → namedOrNone n ≡ true → rowOf n ≡ unknown
-unfolding namedOrNone if_then_else_ isSome
-none-below n e h = is-unknown (rowOf n) (rw e at h)
+-- a number below 66 that is no operation's has no row
+none-below : (n : ℕ) → n < 66 → (if isSome (operationNumbered n) then unknown else rowOf n) ≡ unknown
+unfolding below operationNumbered shapes operations-opens rowOf
+none-below n = at-below (λ n. if isSome (operationNumbered n) then unknown else rowOf n) (λ n. unknown) 66 n refl
 
 operation-none : (n : ℕ) → operationNumbered n ≡ none → rowOf n ≡ unknown
+unfolding if_then_else_ isSome
 operation-none n e = go (ltb n 66) refl
   where
     go : (b : Bool) → ltb n 66 ≡ b → rowOf n ≡ unknown
-    go true h = none-below n e (at-below 66 n namedOrNone named-or-none (ltb-true _ _ h))
+    go true h = rw e at (none-below n (ltb-true _ _ h))
     go false h = row-above n (ltb-false _ _ h)
 
 -- Numbers read as kinds.

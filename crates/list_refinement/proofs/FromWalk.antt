@@ -7,13 +7,14 @@ use mathlib.Core.Option.{Option, none, some}
 use native.Mathlib.Omega.{arith}
 use lib.ListN.{length, getElem?}
 use lib.Dec.{eqb, leb}
-use Rattle.prelude.specs.Base.{if_then_else_, isSome, all, base-opens}
+use Rattle.prelude.specs.Base.{if_then_else_, orElse, andThen, isSome, all, base-opens}
 use Rattle.definition.specs.Operations.{Operation, operationNumber, operations-opens}
 use Rattle.definition.specs.Value.{Kind, Value, ActionKind, SemanticAction}
 use Rattle.definition.specs.Ast.{Section}
 use Rattle.definition.specs.Sizes.{in0, in1, out, at}
 use Rattle.definition.specs.Checker.{Shape, shapes, shapeOf, sameCount, countsFit, numberFits, valueFits, optionFits}
-use Rattle.definition_guarantee.proofs.Tests.{clash, eq-of, le-of, lt-of, and-true, some-same, none-some, all-at, all-parts, any-from}
+use Rattle.definition.proofs.EveryOperation.{alike}
+use Rattle.definition_guarantee.proofs.Tests.{clash, eq-of, le-of, lt-of, and-true, some-same, all-at, all-parts, any-from}
 use Rattle.definition_guarantee.proofs.Words.{Fits, fits-parts, Laid, subpiece-shapeless}
 use Rattle.definition_guarantee.proofs.Layouts.{Rough, laidOut, subpiece}
 use Rattle.list_refinement.specs.Encoding.{Within, Sound, Each, EachOption, SoundAction}
@@ -82,69 +83,17 @@ counted k c = suits k (c .0) (c .1) && leb (c .0) 8
 abbrev AllCounted : RuleKind → Shape → Type 0
 AllCounted k shape = all (counted k) (shape .counts) ≡ true
 
-counts-suit : (t sub : ℕ) (op : Operation) (shape : Shape) → shapeOf t sub (ActionKind.Op op) ≡ some shape → AllCounted (kindOf op) shape
+-- an operation without a shape has no counts
+all-suit : (t sub : ℕ) (op : Operation)
+    → orElse true (andThen (shapeOf t sub (ActionKind.Op op)) λ (shape : Shape). some (all (counted (kindOf op)) (shape .counts))) ≡ true
 unfolding shapeOf shapes operations-opens kindOf counted suits
-counts-suit t sub Operation.IntMul shape e = subst (AllCounted (kindOf Operation.IntMul)) (some-same e) refl
-counts-suit t sub Operation.IntDiv shape e = subst (AllCounted (kindOf Operation.IntDiv)) (some-same e) refl
-counts-suit t sub Operation.IntSignedDiv shape e = subst (AllCounted (kindOf Operation.IntSignedDiv)) (some-same e) refl
-counts-suit t sub Operation.IntRem shape e = subst (AllCounted (kindOf Operation.IntRem)) (some-same e) refl
-counts-suit t sub Operation.IntSignedRem shape e = subst (AllCounted (kindOf Operation.IntSignedRem)) (some-same e) refl
-counts-suit t sub Operation.IntAdd shape e = subst (AllCounted (kindOf Operation.IntAdd)) (some-same e) refl
-counts-suit t sub Operation.IntSub shape e = subst (AllCounted (kindOf Operation.IntSub)) (some-same e) refl
-counts-suit t sub Operation.IntLeft shape e = subst (AllCounted (kindOf Operation.IntLeft)) (some-same e) refl
-counts-suit t sub Operation.IntRight shape e = subst (AllCounted (kindOf Operation.IntRight)) (some-same e) refl
-counts-suit t sub Operation.IntSignedRight shape e = subst (AllCounted (kindOf Operation.IntSignedRight)) (some-same e) refl
-counts-suit t sub Operation.IntSignedLess shape e = subst (AllCounted (kindOf Operation.IntSignedLess)) (some-same e) refl
-counts-suit t sub Operation.IntSignedLessEqual shape e = subst (AllCounted (kindOf Operation.IntSignedLessEqual)) (some-same e) refl
-counts-suit t sub Operation.IntLess shape e = subst (AllCounted (kindOf Operation.IntLess)) (some-same e) refl
-counts-suit t sub Operation.IntLessEqual shape e = subst (AllCounted (kindOf Operation.IntLessEqual)) (some-same e) refl
-counts-suit t sub Operation.IntEqual shape e = subst (AllCounted (kindOf Operation.IntEqual)) (some-same e) refl
-counts-suit t sub Operation.IntNotEqual shape e = subst (AllCounted (kindOf Operation.IntNotEqual)) (some-same e) refl
-counts-suit t sub Operation.FloatDiv shape e = subst (AllCounted (kindOf Operation.FloatDiv)) (some-same e) refl
-counts-suit t sub Operation.FloatMul shape e = subst (AllCounted (kindOf Operation.FloatMul)) (some-same e) refl
-counts-suit t sub Operation.FloatAdd shape e = subst (AllCounted (kindOf Operation.FloatAdd)) (some-same e) refl
-counts-suit t sub Operation.FloatSub shape e = subst (AllCounted (kindOf Operation.FloatSub)) (some-same e) refl
-counts-suit t sub Operation.FloatLess shape e = subst (AllCounted (kindOf Operation.FloatLess)) (some-same e) refl
-counts-suit t sub Operation.FloatLessEqual shape e = subst (AllCounted (kindOf Operation.FloatLessEqual)) (some-same e) refl
-counts-suit t sub Operation.FloatEqual shape e = subst (AllCounted (kindOf Operation.FloatEqual)) (some-same e) refl
-counts-suit t sub Operation.FloatNotEqual shape e = subst (AllCounted (kindOf Operation.FloatNotEqual)) (some-same e) refl
-counts-suit t sub Operation.IntAnd shape e = subst (AllCounted (kindOf Operation.IntAnd)) (some-same e) refl
-counts-suit t sub Operation.IntXor shape e = subst (AllCounted (kindOf Operation.IntXor)) (some-same e) refl
-counts-suit t sub Operation.IntOr shape e = subst (AllCounted (kindOf Operation.IntOr)) (some-same e) refl
-counts-suit t sub Operation.BoolXor shape e = subst (AllCounted (kindOf Operation.BoolXor)) (some-same e) refl
-counts-suit t sub Operation.BoolAnd shape e = subst (AllCounted (kindOf Operation.BoolAnd)) (some-same e) refl
-counts-suit t sub Operation.BoolOr shape e = subst (AllCounted (kindOf Operation.BoolOr)) (some-same e) refl
-counts-suit t sub Operation.IntCarry shape e = subst (AllCounted (kindOf Operation.IntCarry)) (some-same e) refl
-counts-suit t sub Operation.IntSignedCarry shape e = subst (AllCounted (kindOf Operation.IntSignedCarry)) (some-same e) refl
-counts-suit t sub Operation.IntSignedBorrow shape e = subst (AllCounted (kindOf Operation.IntSignedBorrow)) (some-same e) refl
-counts-suit t sub Operation.BoolNot shape e = subst (AllCounted (kindOf Operation.BoolNot)) (some-same e) refl
-counts-suit t sub Operation.IntNot shape e = subst (AllCounted (kindOf Operation.IntNot)) (some-same e) refl
-counts-suit t sub Operation.IntNegate shape e = subst (AllCounted (kindOf Operation.IntNegate)) (some-same e) refl
-counts-suit t sub Operation.FloatIsNan shape e = subst (AllCounted (kindOf Operation.FloatIsNan)) (some-same e) refl
-counts-suit t sub Operation.ZeroExtend shape e = subst (AllCounted (kindOf Operation.ZeroExtend)) (some-same e) refl
-counts-suit t sub Operation.SignExtend shape e = subst (AllCounted (kindOf Operation.SignExtend)) (some-same e) refl
-counts-suit t sub Operation.FloatNegate shape e = subst (AllCounted (kindOf Operation.FloatNegate)) (some-same e) refl
-counts-suit t sub Operation.FloatAbs shape e = subst (AllCounted (kindOf Operation.FloatAbs)) (some-same e) refl
-counts-suit t sub Operation.FloatSqrt shape e = subst (AllCounted (kindOf Operation.FloatSqrt)) (some-same e) refl
-counts-suit t sub Operation.FloatCeil shape e = subst (AllCounted (kindOf Operation.FloatCeil)) (some-same e) refl
-counts-suit t sub Operation.FloatFloor shape e = subst (AllCounted (kindOf Operation.FloatFloor)) (some-same e) refl
-counts-suit t sub Operation.FloatRound shape e = subst (AllCounted (kindOf Operation.FloatRound)) (some-same e) refl
-counts-suit t sub Operation.FloatToInt shape e = subst (AllCounted (kindOf Operation.FloatToInt)) (some-same e) refl
-counts-suit t sub Operation.IntToFloat shape e = subst (AllCounted (kindOf Operation.IntToFloat)) (some-same e) refl
-counts-suit t sub Operation.UintToFloat shape e = subst (AllCounted (kindOf Operation.UintToFloat)) (some-same e) refl
-counts-suit t sub Operation.FloatToFloat shape e = subst (AllCounted (kindOf Operation.FloatToFloat)) (some-same e) refl
-counts-suit t sub Operation.IntCountOnes shape e = subst (AllCounted (kindOf Operation.IntCountOnes)) (some-same e) refl
-counts-suit t sub Operation.IntCountLeadingZeroes shape e = subst (AllCounted (kindOf Operation.IntCountLeadingZeroes)) (some-same e) refl
-counts-suit t sub Operation.Copy shape e = subst (AllCounted (kindOf Operation.Copy)) (some-same e) refl
-counts-suit t sub Operation.Load shape e = subst (AllCounted (kindOf Operation.Load)) (some-same e) refl
-counts-suit t sub Operation.Store shape e = subst (AllCounted (kindOf Operation.Store)) (some-same e) refl
-counts-suit t sub Operation.Branch shape e = subst (AllCounted (kindOf Operation.Branch)) (some-same e) refl
-counts-suit t sub Operation.PcodeBranch shape e = subst (AllCounted (kindOf Operation.PcodeBranch)) (some-same e) refl
-counts-suit t sub Operation.PcodeLabel shape e = subst (AllCounted (kindOf Operation.PcodeLabel)) (some-same e) refl
-counts-suit t sub Operation.PcodeOp shape e = subst (AllCounted (kindOf Operation.PcodeOp)) (some-same e) refl
-counts-suit t sub Operation.Arg shape e = subst (AllCounted (kindOf Operation.Arg)) (some-same e) refl
-counts-suit t sub Operation.Invalid shape e = subst (AllCounted (kindOf Operation.Invalid)) (some-same e) refl
-counts-suit t sub Operation.Subpiece shape e = none-some {x = none} refl e
+all-suit t sub = alike
+    (λ op. orElse true (andThen (shapeOf t sub (ActionKind.Op op)) λ (shape : Shape). some (all (counted (kindOf op)) (shape .counts))))
+    (λ op. true) refl
+
+counts-suit : (t sub : ℕ) (op : Operation) (shape : Shape) → shapeOf t sub (ActionKind.Op op) ≡ some shape → AllCounted (kindOf op) shape
+unfolding orElse andThen
+counts-suit t sub op shape e = rw e at (all-suit t sub op)
 
 kind-suits : (t sub : ℕ) (k : ActionKind) (shape : Shape) → shapeOf t sub k ≡ some shape → AllCounted RuleKind.unruled shape
 unfolding shapeOf operations-opens counted suits

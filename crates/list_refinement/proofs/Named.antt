@@ -7,8 +7,8 @@ use native.Mathlib.Omega.{arith}
 use lib.ListN.{length}
 use lib.Dec.{ltb}
 use borrow.Author.Tests.{ltb-true}
-use Rattle.definition.specs.Ast.{BitRange, Subtable, Section}
-use Rattle.definition.specs.SectionFile.{Parsed, parsed, refused, Read, on, naming, index, entries, register, bitRange, table, subtable, Header, header, lists, section, streamOf, read}
+use Rattle.definition.specs.Ast.{BitRange, Subtable, Header, Section}
+use Rattle.definition.specs.SectionFile.{Parsed, parsed, refused, Read, on, naming, index, entries, register, bitRange, table, subtable, header, lists, section, streamOf, read}
 use Rattle.list_refinement.specs.Encoding.{Each}
 use Rattle.list_refinement.proofs.Settled.{each-at}
 use Rattle.list_refinement.proofs.FromSection.{TablesNamed}

@@ -105,7 +105,7 @@ module _ (marks rest : List ℕ) (ts : List Temporary) (t : Temporary) (more : L
 pub record Lent (e : Env) (front tail rest : List ℕ) : Type 0 where
   pub builds : length front ≡ 24 * length (e .section .subtables)
   pub actionRoom : e .actionRoom ≡ (length front + length tail) / 24
-  pub temporaryRoom : e .temporaryRoom ≡ length rest
+  pub temporaryRoom : e .temporaryRoom ≡ min (length rest) 512
 
 -- A state that the lent words hold.
 pub record Stands (tail marks rest : List ℕ) (s : State) : Type 0 where
@@ -144,7 +144,7 @@ module _ (e : Env) (s : State) (front tail marks rest : List ℕ) (lent : Lent e
     add-is w = rw (tmps-length marks rest ts (stands .temporaries), tmp-word name size scope small fits, room-test)
         (go (ltb (length ts) (length rest)) (ltb (length ts) 512) refl)
       where
-        room-test : leb (length ts + 1) (min (e .temporaryRoom) 512)
+        room-test : leb (length ts + 1) (e .temporaryRoom)
             ≡ (if ltb (length ts) (length rest) then ltb (length ts) 512 else false)
         room-test = rw (lent .temporaryRoom) (tmp-test (length ts) (length rest))
 
@@ -480,7 +480,7 @@ module _ (e : Env) (s : State) (front tail marks rest : List ℕ) (lent : Lent e
       → length more ≤ suc (length (s .sizing .temporaries)) → (v : Value) (u : State) → d.addTmp name size e s ≡ done v u
       → Made (e .section) tail rest s more v u
   unfolding d.addTmp on
-  add-done name size more small fits few v u q = go (leb (length (s .sizing .temporaries) + 1) (min (e .temporaryRoom) 512)) refl q
+  add-done name size more small fits few v u q = go (leb (length (s .sizing .temporaries) + 1) (e .temporaryRoom)) refl q
     where
       fresh : Temporary
       fresh = record { name = name; size = size }
@@ -488,7 +488,7 @@ module _ (e : Env) (s : State) (front tail marks rest : List ℕ) (lent : Lent e
       larger : State
       larger = withSizing (withTemporaries (s .sizing .temporaries ++ (fresh ∷ [])) (s .sizing)) s
 
-      go : (b : Bool) → leb (length (s .sizing .temporaries) + 1) (min (e .temporaryRoom) 512) ≡ b
+      go : (b : Bool) → leb (length (s .sizing .temporaries) + 1) (e .temporaryRoom) ≡ b
           → on e (require b tooManyTemporaries e s) (λ _. λ e s0. on e
           (done (tt {0}) (withSizing (withTemporaries (s .sizing .temporaries ++ (fresh ∷ [])) (s .sizing)) s0)) λ _. λ e s1. done
           (local Kind.PcodeTmp (length (s .sizing .temporaries))) s1) ≡ done v u
@@ -499,7 +499,7 @@ module _ (e : Env) (s : State) (front tail marks rest : List ℕ) (lent : Lent e
           let l : u ≡ larger = cc in
           let c : length (s .sizing .temporaries ++ (fresh ∷ []))
           ≡ length (s .sizing .temporaries) + 1 = length-append (s .sizing .temporaries) (fresh ∷ []) in
-          let r = leb-true (length (s .sizing .temporaries) + 1) (min (e .temporaryRoom) 512) p in
+          let r = leb-true (length (s .sizing .temporaries) + 1) (e .temporaryRoom) p in
           rw (k, l) (record {
             stands = record {
               actions = stands .actions;

@@ -4,8 +4,8 @@ use mathlib.Core.Path.{_≡_, subst}
 use mathlib.Core.List.{List, [], _∷_}
 use native.Mathlib.Omega.{arith}
 use lib.ListN.{length}
-use Rattle.definition.specs.Ast.{BitRange, Section}
-use Rattle.definition.specs.SectionFile.{Parsed, parsed, refused, Read, on, entries, bitRange, Header, header, lists, section, streamOf, read}
+use Rattle.definition.specs.Ast.{BitRange, Header, Section}
+use Rattle.definition.specs.SectionFile.{Parsed, parsed, refused, Read, on, entries, bitRange, header, lists, section, streamOf, read}
 use Rattle.list_refinement.specs.Encoding.{Each}
 use Rattle.list_refinement.proofs.Settled.{each-at}
 use Rattle.list_refinement.proofs.Named.{section-named}

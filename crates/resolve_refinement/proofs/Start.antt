@@ -1,5 +1,5 @@
 -- The start of the walk: the lists as they were lent, the section's own scope, and what statements are given.
-use Prim.Native.Nat.{ℕ, suc, _+_, _*_, _/_, _%_, _≤_, _<_}
+use Prim.Native.Nat.{ℕ, suc, _+_, _*_, _/_, _%_, _≤_, _<_, min}
 use mathlib.Core.Path.{_≡_, refl}
 use mathlib.Core.Bool.{Bool, true, false}
 use mathlib.Core.List.{List, [], _∷_, _++_, map}
@@ -77,7 +77,7 @@ unfoldable pub noLabels : List ℕ
 noLabels = replicate 256 0
 
 abbrev pub roomOf : Section → List ℕ → List ℕ → Env
-roomOf sec a m = record { section = sec; actionRoom = length a / 24; temporaryRoom = length m }
+roomOf sec a m = record { section = sec; actionRoom = length a / 24; temporaryRoom = min (length m) 512 }
 
 abbrev pub startBeside : Section → Beside
 startBeside sec = beside (w.atStart (length (sec .subtables)))

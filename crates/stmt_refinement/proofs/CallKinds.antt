@@ -139,11 +139,11 @@ module _ (s t : List ℕ) (e : Env) (p front tail marks rest : List ℕ) (we : W
       unfolding callStatement callNamed if_then_else_ d.callStatement on
       call-steps into c = rw c (named c)
         where
-          named : eqb (calledOf s t name .kind) 2 ≡ false → Ends (otherCall (calledOf s t name) s t p A M we pos n w) ((definition.if_then_else_ (eqb name (e .section .delaySlot)) (d.delaySlot (expressions.onlyInteger args)) (λ e1 st1. on e1 (lookup name e1 st1) (d.symbolStatement enter args))) e from)
+          named : eqb (calledOf s t name .kind) 2 ≡ false → Ends (otherCall (calledOf s t name) s t p A M we pos n w) ((definition.if_then_else_ (eqb name (e .section .header .delaySlot)) (d.delaySlot (expressions.onlyInteger args)) (λ e1 st1. on e1 (lookup name e1 st1) (d.symbolStatement enter args))) e from)
           named c = unfold calledOf in
               let holds = given .holds in
               let g = global-is s t (e .section) holds name (omega (arith, holds .limits .names)) in
-              rw (g, ← holds .delaySlot) (by-name (eqb name (e .section .delaySlot)) (rw (g, ← holds .delaySlot) at c))
+              rw (g, ← holds .delaySlot) (by-name (eqb name (e .section .header .delaySlot)) (rw (g, ← holds .delaySlot) at c))
 
 -- A call statement at its position, whose name is no macro's.
 module _ (s t : List ℕ) (e : Env) (p front tail marks rest : List ℕ) (we : WordEnv) (given : Given s t e front tail rest we) (spare : ℕ) (room : Spare spare tail) (b : Beside) (ls : List ℕ)

@@ -1,6 +1,6 @@
 -- Locals: a temporary is made with its name and the mark of its scope, then declared; a name is declared once. The words
 -- find it afterwards where the definition does.
-use Prim.Native.Nat.{ℕ, suc, _+_, _*_, _/_, _%_, _^_, _≤_, _<_, min}
+use Prim.Native.Nat.{ℕ, suc, _+_, _*_, _/_, _%_, _^_, _≤_, _<_}
 use mathlib.Core.Path.{_≡_, refl, sym, _∙_, ap, subst}
 use mathlib.Core.Bool.{Bool, true, false, not}
 use mathlib.Core.List.{List, [], _∷_, _++_}
@@ -198,18 +198,18 @@ module _ (s t : List ℕ) (e : Env) (p front tail marks rest : List ℕ) (we : W
 
   add-state : (v : Value) (u : State) → walks.addTmp (some name) size e st ≡ done v u → Added v u
   unfolding walks.addTmp on
-  add-state v u q = go (leb (length (tmps st) + 1) (min (e .temporaryRoom) 512)) refl q
+  add-state v u q = go (leb (length (tmps st) + 1) (e .temporaryRoom)) refl q
       (add-done e st front tail marks rest (given .lent) stands (some name) size more (unfold orNone orElse in omega arith) small (hung-length marks rest (tmps st) name size (we .scope)) v u q)
     where
-      go : (b : Bool) → leb (length (tmps st) + 1) (min (e .temporaryRoom) 512) ≡ b
+      go : (b : Bool) → leb (length (tmps st) + 1) (e .temporaryRoom) ≡ b
           → on e (require b tooManyTemporaries e st) (λ _. λ e1 st1. on e1 (done (tt {0}) (withSizing (withTemporaries (tmps st ++ (new ∷ [])) (st .sizing)) st1)) λ _. λ e2 st2. done (local Kind.PcodeTmp (length (tmps st))) st2) ≡ done v u
           → Made (e .section) tail rest st more v u → Added v u
       go true p q g =
           let h : done made added ≡ done v u = unfold require in q in
           let a : v ≡ made = cc in
           let b : u ≡ added = cc in
-          let r = leb-true (length (tmps st) + 1) (min (e .temporaryRoom) 512) p in
-          record { value = a; state = b; limited = omega arith; room = subst (λ (y : State). Made (e .section) tail rest st more made y) b (subst (λ (y : Value). Made (e .section) tail rest st more y u) a g) }
+          let r = leb-true (length (tmps st) + 1) (e .temporaryRoom) p in
+          record { value = a; state = b; limited = omega (arith, given .lent .temporaryRoom); room = subst (λ (y : State). Made (e .section) tail rest st more made y) b (subst (λ (y : Value). Made (e .section) tail rest st more y u) a g) }
       go false p q g = let h : stopped tooManyTemporaries (st .sizing .begun) 0 ≡ done v u = unfold require in q in let z : _≡_ {A = ℕ} 0 1 = cc in absurd (omega arith)
 
   counts : count added ≡ suc (count st)

@@ -222,7 +222,7 @@ module _ (s t : List ℕ) (e : Env) (front tail rest : List ℕ) (spare : ℕ) (
   macro-call-follows c =
       let holds = h .between .given .holds in
       let g = global-is s t (e .section) holds name (omega (arith, holds .limits .names)) in
-      rw (g, ← holds .delaySlot) (by-name (eqb name (e .section .delaySlot)) (rw (g, ← holds .delaySlot) at c))
+      rw (g, ← holds .delaySlot) (by-name (eqb name (e .section .header .delaySlot)) (rw (g, ← holds .delaySlot) at c))
 
 -- The statement at its position.
 module _ (s t : List ℕ) (e : Env) (front tail rest : List ℕ) (spare : ℕ) (room : Spare spare tail) (limits : WithinLimits (e .section)) (deep : ℕ) (enters : EnterFollows s t e front tail rest spare deep)

@@ -4,11 +4,10 @@ use Rattle.codes_refinement.proofs.operations.Reads as reads
 use Rattle.codes_refinement.proofs.operations.Lts as lts
 use borrow.Author.Needs.{needs}
 use mathlib.Core.Path.{refl}
-use Rattle.definition.specs.Operations.{operationNumber}
-use Rattle.codes_refinement.specs.Lists.{operations}
+use Rattle.definition.specs.Operations.{operations-opens}
 
 returns : tie.Need-returns
-unfolding operationNumber operations
+unfolding operations-opens
 returns c = refl
 
 pub operations-spec : {M : Type 1} → statement M
