@@ -1,2 +1,3 @@
 mod Sentences
 mod StarredSections
+mod FurtherSections

@@ -17,7 +17,7 @@ use Rattle.definition.specs.ActionList.{filled, listWords, placesLabel}
 use Rattle.definition.specs.Checker.{shapeOf, sameCount, countsFit, optionFits, numberFits, valueFits, plainBase, baseFits, layoutFits, isSized, sizeAt, hasSize, allHaveSize, sizeNamed, stepHolds, operationHolds, sizesHold, places, labelsOnce, allBuilt, listHolds, actionFrom, actionsFrom, check}
 use Rattle.definition_guarantee.proofs.Tests.{clash, never, eq-of, eq-same, same, differs, le-of, lt-of, and-true, both, if-true, all-at, then-some, or-true, list-same, any-from, first-none, none-some, some-same}
 use Rattle.definition_guarantee.proofs.Words.{fits-parts, Shaped, Laid, laid, subpiece-shapeless}
-use Rattle.definition_guarantee.specs.Conditions.{Among, IsOperand, input, output, NumberWithin, ValueWithin, ActionRight, Right}
+use Rattle.definition.specs.Right.{Among, IsOperand, input, output, NumberWithin, ValueWithin, ActionRight, Right}
 use Rattle.definition_guarantee.proofs.Rules.{is-size}
 use Rattle.definition_guarantee.proofs.RightAccepted.{any-at, Once, padded, right-accepted}
 

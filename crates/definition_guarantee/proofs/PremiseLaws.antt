@@ -16,14 +16,14 @@ use Rattle.definition.specs.SectionFile.{Parsed, parsed, refused, read}
 use Rattle.definition.specs.Sizes.{Sizing, stepsOf, updateOperandSizes, backwardPass}
 use Rattle.definition.specs.Walk.{State, Env, Outcome, done, stopped, on, withSizing}
 use Rattle.definition.specs.End.{resolveStatements, atStart}
-use Rattle.definition.specs.ActionList.{roomFor, resolve}
-use Rattle.definition.specs.Premise.{filter, ruled, isSizedIn, sizedLate, sizedLateWalk, walked, lateIn, premiseFailures, none?, premise}
+use Rattle.definition.specs.ActionList.{roomFor, whenRead, resolve}
+use Rattle.definition.specs.Premise.{filter, ruled, isSizedIn, joined, sizedLate, sizedLateWalk, walked, lateIn, premiseFailures, none?, premise}
 use Rattle.definition.specs.Starred.{WorkedSection, starredSections, starred-opens}
 use Rattle.definition_guarantee.proofs.Tests.{In, in-left, in-right, eq-of, differs, lt-of, not-lt, clash}
 use Rattle.definition_guarantee.proofs.Growth.{tmpSize, Grown}
 use Rattle.definition_guarantee.proofs.Rules.{steps-grown}
 use Rattle.definition_guarantee.proofs.Forward.{filter-none, backward-grown}
-use Rattle.definition.specs.Passing.{subtableCount, pointerSizeIn, refusalIn, passes}
+use Rattle.definition.specs.Passing.{passes}
 use Rattle.definition_guarantee.proofs.Guarantee.{accepted-files-pass}
 use Rattle.definition_guarantee.specs.PremiseLaws.{PremiseNeeded, isUnsized, ruledIn, unsizedBeforeForward, fromWalk, fromSection, unsizedOperands}
 
@@ -32,7 +32,7 @@ unfoldable pub fiveCopies : List ℕ
 fiveCopies = orElse [] (andThen (getElem? starredSections 2) λ (x : WorkedSection). some (x .file))
 
 pub premise-needed : PremiseNeeded fiveCopies 240 8
-unfolding fiveCopies starred-opens subtableCount pointerSizeIn
+unfolding fiveCopies starred-opens
 premise-needed = record { accepted = refl; failures = refl; refused = refl }
 
 unfoldable pub below : ℕ → List ℕ
@@ -108,7 +108,7 @@ module _ (sec : Section) where
 
   late-nowhere : (before : List ℕ) (xs : List SemanticAction) (s : Sizing) → ((i : ℕ) → In i before → Settled (s .temporaries) i)
       → ((i : ℕ) → In i (ruledIn xs) → Settled (s .temporaries) i) → sizedLate sec before xs s ≡ []
-  unfolding sizedLate isSizedIn ruledIn
+  unfolding sizedLate isSizedIn ruledIn joined
   late-nowhere before [] s h k = refl
   late-nowhere before (a ∷ xs) s h k =
       let t : Sizing = (updateOperandSizes sec true a s) .1 in
@@ -158,7 +158,7 @@ module _ (sec : Section) where
 
 -- The premise holds for every file with no unsized operand of an operation with a rule, when the forward pass begins.
 pub no-unsized-operands : (file : List ℕ) (la lt : ℕ) → unsizedOperands file la lt ≡ [] → premise file la lt ≡ true
-unfolding unsizedOperands fromSection fromWalk premise premiseFailures lateIn sizedLateWalk on walked none? roomFor
+unfolding unsizedOperands fromSection whenRead fromWalk premise premiseFailures lateIn sizedLateWalk on walked none? roomFor
 no-unsized-operands file la lt h = go (read file) h
   where
     after : (e : Env) (x : Outcome (Unit {0})) → fromWalk unsizedBeforeForward (e .section) x ≡ []
@@ -174,7 +174,7 @@ no-unsized-operands file la lt h = go (read file) h
 
 -- And so for every file whose temporaries all have sizes after the walk.
 pub no-unsized-temporaries : (file : List ℕ) (la lt : ℕ) → unsizedTemporaries file la lt ≡ [] → premise file la lt ≡ true
-unfolding unsizedTemporaries unsizedOperands fromSection fromWalk
+unfolding unsizedTemporaries unsizedOperands fromSection whenRead fromWalk
 no-unsized-temporaries file la lt h = no-unsized-operands file la lt (go (read file) h)
   where
     after : (sec : Section) (x : Outcome (Unit {0})) → fromWalk unsizedAfterWalk sec x ≡ [] → fromWalk unsizedBeforeForward sec x ≡ []
@@ -186,7 +186,7 @@ no-unsized-temporaries file la lt h = no-unsized-operands file la lt (go (read f
     go (refused r) h = refl
 
 -- Such a file's list passes, if it is accepted.
-pub sized-files-pass : (file : List ℕ) (la lt : ℕ) → refusalIn (resolve file la lt) ≡ 0 → unsizedOperands file la lt ≡ [] → passes file la lt ≡ true
+pub sized-files-pass : (file : List ℕ) (la lt : ℕ) → resolve file la lt .result .refusal ≡ 0 → unsizedOperands file la lt ≡ [] → passes file la lt ≡ true
 sized-files-pass file la lt z h = accepted-files-pass file la lt z (no-unsized-operands file la lt h)
 
 -- In the five copies they are C and D, in the order of the actions' operands.
