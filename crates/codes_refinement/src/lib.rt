@@ -11,7 +11,7 @@ ghost use mathlib.Core.List.{map};
 ghost use Rattle.definition.specs.Operations.{operationNumber};
 ghost use Rattle.definition.specs.Refusals.{refusalNumber};
 ghost use Rattle.definition.specs.Value.{kindNumber};
-ghost use Rattle.definition.specs.ActionList.{actionKindNumber, exportNumber};
+ghost use Rattle.definition.specs.ActionList.{actionKindNumber, exportKindNumber};
 ghost use Rattle.definition.specs.Scope.{symbolNumber};
 ghost use Rattle.codes_refinement.specs.Lists.{operations, refusals, valueKinds, actionKinds, symbolKinds, exportKinds};
 
@@ -169,7 +169,7 @@ fn symbol_kinds() -> [u64; 7]
 }
 
 fn export_kinds() -> [u64; 3]
-    ensures { λ r. ⌜ r ≡ map exportNumber exportKinds ⌝ }
+    ensures { λ r. ⌜ r ≡ map exportKindNumber exportKinds ⌝ }
 {
     [
         export_kind::COMPUTED,

@@ -9,7 +9,7 @@ use mathlib.Core.Option.{Option, none, some}
 use native.Mathlib.Omega.{arith}
 use lib.Dec.{eqb, ltb}
 use lib.ListN.{length, getElem?}
-use Rattle.prelude.specs.Base.{if_then_else_, orElse, andThen, isSome}
+use Rattle.prelude.specs.Base.{if_then_else_, orElse, andThen, isSome, any}
 use Rattle.definition.specs.Value.{SemanticAction, operationOf, Temporary}
 use Rattle.definition.specs.Ast.{Section}
 use Rattle.definition.specs.SectionFile.{Parsed, parsed, refused, read}
@@ -23,6 +23,7 @@ use Rattle.definition_guarantee.proofs.Tests.{In, in-left, in-right, eq
 use Rattle.definition_guarantee.proofs.Growth.{tmpSize, Grown}
 use Rattle.definition_guarantee.proofs.Rules.{steps-grown}
 use Rattle.definition_guarantee.proofs.Forward.{filter-none, backward-grown}
+use Rattle.definition_guarantee.proofs.WholeList.{Distinct}
 use Rattle.definition.specs.Passing.{passes}
 use Rattle.definition_guarantee.proofs.Guarantee.{accepted-files-pass}
 use Rattle.definition_guarantee.specs.PremiseLaws.{PremiseNeeded, isUnsized, ruledIn, unsizedBeforeForward, fromWalk, fromSection, unsizedOperands}
@@ -193,3 +194,46 @@ sized-files-pass file la lt z h = accepted-files-pass file la lt z (no-unsized-o
 pub five-copies-unsized : unsizedOperands fiveCopies 240 8 ≡ 2 ∷ 3 ∷ 3 ∷ 2 ∷ []
 unfolding fiveCopies starred-opens unsizedOperands fromSection fromWalk unsizedBeforeForward isUnsized ruledIn
 five-copies-unsized = refl
+
+-- The premise fails at each of its temporaries once.
+
+not-among : (m : ℕ) (ns : List ℕ) → any (eqb m) ns ≡ false → ¬ In m ns
+unfolding any if_then_else_
+not-among m [] h i = absurd i
+not-among m (n ∷ ns) h i = go (eqb m n) refl h i (not-among m ns)
+  where
+    go : (b : Bool) → eqb m n ≡ b → (if b then true else any (eqb m) ns) ≡ false → (m ≡ n) ⊎ In m ns
+        → (any (eqb m) ns ≡ false → ¬ In m ns) → ⊥
+    go true d h i r = clash refl h
+    go false d h (inl e) r = differs m n d e
+    go false d h (inr i) r = r h i
+
+joined-distinct : (ms ns : List ℕ) → Distinct ns → Distinct (joined ms ns)
+unfolding joined if_then_else_
+joined-distinct [] ns h = h
+joined-distinct (m ∷ ms) ns h = go (any (eqb m) (joined ms ns)) refl (joined-distinct ms ns h)
+  where
+    go : (b : Bool) → any (eqb m) (joined ms ns) ≡ b → Distinct (joined ms ns)
+        → Distinct (if b then joined ms ns else m ∷ joined ms ns)
+    go true d r = r
+    go false d r = (not-among m (joined ms ns) d, r)
+
+late-distinct : (sec : Section) (before : List ℕ) (xs : List SemanticAction) (s : Sizing) → Distinct (sizedLate sec before xs s)
+unfolding sizedLate
+late-distinct sec before [] s = tt
+late-distinct sec before (a ∷ xs) s = joined-distinct _ _ (late-distinct sec (ruled a ++ before) xs _)
+
+pub failures-distinct : (file : List ℕ) (la lt : ℕ) → Distinct (premiseFailures file la lt)
+unfolding premiseFailures lateIn whenRead sizedLateWalk on walked
+failures-distinct file la lt = go (read file)
+  where
+    after : (e : Env) (x : Outcome (Unit {0}))
+        → Distinct (walked (on e x (λ _ f s. done (sizedLate (f .section) [] ((backwardPass (f .section) (s .actions) (s .sizing)) .0)
+        ((backwardPass (f .section) (s .actions) (s .sizing)) .1))
+        (withSizing ((backwardPass (f .section) (s .actions) (s .sizing)) .1) s))))
+    after e (done x s) = late-distinct (e .section) [] _ _
+    after e (stopped r o k) = tt
+
+    go : (x : Parsed Section) → Distinct (lateIn la lt x)
+    go (parsed sec rest) = after (roomFor sec la lt) (resolveStatements (roomFor sec la lt) (atStart sec))
+    go (refused r) = tt
