@@ -1,3 +1,4 @@
 mod Sentences
+mod RightLists
 mod StarredSections
-mod FurtherSections
+mod UnstarredSections

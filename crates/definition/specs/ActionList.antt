@@ -138,8 +138,8 @@ refusalResult r ordinal errors = record {
   accessSize = 0;
 }
 
-unfoldable pub semanticsResult : Semantics → Result
-semanticsResult x = record {
+unfoldable pub acceptedResult : Semantics → Result
+acceptedResult x = record {
   refusal = 0;
   ordinal = 65535;
   statements = x .statements;
@@ -174,7 +174,7 @@ module _ (lentActions lentTemporaries : ℕ) where
 
   unfoldable pub accepted : Semantics → Answer
   accepted x = record {
-    result = semanticsResult x;
+    result = acceptedResult x;
     actions = filled lentActions (listWords (x .actions));
     temporaries = filled lentTemporaries (map temporaryWord (x .temporaries));
   }
@@ -193,5 +193,5 @@ unfoldable pub resolve : List ℕ → ℕ → ℕ → Answer
 resolve file lentActions lentTemporaries = resolveRead lentActions lentTemporaries (read file)
 
 unfoldable pub action-list-opens : Unit {0}
-unfolding section-file-opens refusals-opens end-opens orNone valueWords inputWords actionKindNumber outputWords operationWord filled actionWords listWords temporaryWord placesLabel labelsPlaced points exportKindNumber ofExport refusalResult semanticsResult roomFor whenRead refusal accepted answered resolveRead resolve
+unfolding section-file-opens refusals-opens end-opens orNone valueWords inputWords actionKindNumber outputWords operationWord filled actionWords listWords temporaryWord placesLabel labelsPlaced points exportKindNumber ofExport refusalResult acceptedResult roomFor whenRead refusal accepted answered resolveRead resolve
 action-list-opens = tt

@@ -10,7 +10,7 @@ use Rattle.definition.specs.SectionFile.{Parsed, parsed, refused, read}
 use Rattle.definition.specs.Sizes.{pointerSize}
 use Rattle.definition.specs.Walk.{State, Env, Outcome, done, stopped}
 use Rattle.definition.specs.End.{Semantics, finish, resolveStatements, resolveSection, atStart}
-use Rattle.definition.specs.ActionList.{semanticsResult, refusalResult, refusal, accepted, answered, roomFor, whenRead, resolveRead, resolve}
+use Rattle.definition.specs.ActionList.{acceptedResult, refusalResult, refusal, accepted, answered, roomFor, whenRead, resolveRead, resolve}
 use Rattle.definition.specs.Checker.{check}
 use Rattle.definition.specs.Premise.{lateIn, premiseFailures, none?, premise}
 use Rattle.definition.specs.Passing.{subtableCount, pointerSizeIn}
@@ -40,7 +40,7 @@ answer-passes : (file rest : List ℕ) (la lt : ℕ) (sec : Section) (x : Outcom
     → resolveSection (roomFor sec la lt) (atStart sec) ≡ x → answered la lt x .result .refusal ≡ 0 → premise file la lt ≡ true
     → check (answered la lt x .actions) (answered la lt x .result .actions) (answered la lt x .result .temporaries) (length (sec .subtables))
     (pointerSize sec) ≡ true
-unfolding answered accepted semanticsResult refusal refusalResult
+unfolding answered accepted acceptedResult refusal refusalResult
 answer-passes file rest la lt sec (done x s) r h z p = accepted-lists-pass file rest la lt sec x s r h p
 answer-passes file rest la lt sec (stopped q o k) r h z p = let n = positive q in absurd (omega arith)
 

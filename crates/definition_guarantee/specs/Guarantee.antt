@@ -1,6 +1,8 @@
--- THE GUARANTEE: the action list of a section that the definition accepts passes the checker, if the premise holds.
+-- THE GUARANTEE: the action list of a section that the definition accepts passes the checker, if the premise holds; and
+-- what passes the checker is right.
 use Prim.Native.Nat.{ℕ}
 use mathlib.Core.Path.{_≡_}
+use mathlib.Core.Logic.{_↔_}
 use mathlib.Core.Bool.{true}
 use mathlib.Core.List.{List}
 use lib.ListN.{length}
@@ -11,6 +13,7 @@ use Rattle.definition.specs.Walk.{State, done}
 use Rattle.definition.specs.End.{Semantics, resolveSection, atStart}
 use Rattle.definition.specs.ActionList.{filled, listWords, roomFor, resolve}
 use Rattle.definition.specs.Checker.{check}
+use Rattle.definition.specs.Right.{Right}
 use Rattle.definition.specs.Premise.{premise}
 use Rattle.definition.specs.Passing.{passes}
 
@@ -21,8 +24,8 @@ abbrev pub AcceptedListsPass : Type 0
 AcceptedListsPass =
     (file rest : List ℕ) (lentActions lentTemporaries : ℕ) (sec : Section) (x : Semantics) (s : State)
     → read file ≡ parsed sec rest
-    → resolveSection (roomFor sec lentActions lentTemporaries) (atStart sec) ≡ done x s
-    → premise file lentActions lentTemporaries ≡ true
+    → resolveSection (roomFor sec lentActions lentTemporaries) (atStart sec)
+    ≡ done x s → premise file lentActions lentTemporaries ≡ true
     → check (filled lentActions (listWords (x .actions)))
     (length (x .actions)) (length (x .temporaries)) (length (sec .subtables)) (pointerSize sec) ≡ true
 
@@ -31,6 +34,11 @@ AcceptedListsPass =
 abbrev pub AcceptedFilesPass : Type 0
 AcceptedFilesPass =
     (file : List ℕ) (lentActions lentTemporaries : ℕ)
-    → resolve file lentActions lentTemporaries .result .refusal ≡ 0
-    → premise file lentActions lentTemporaries ≡ true
+    → resolve file lentActions lentTemporaries .result .refusal ≡ 0 → premise file lentActions lentTemporaries ≡ true
     → passes file lentActions lentTemporaries ≡ true
+
+-- The checker accepts exactly the right lists.
+abbrev pub AcceptsExactly : Type 0
+AcceptsExactly =
+    (ws : List ℕ) (actions temporaries subtables pointerSize : ℕ)
+    → (check ws actions temporaries subtables pointerSize ≡ true) ↔ Right ws actions temporaries subtables pointerSize

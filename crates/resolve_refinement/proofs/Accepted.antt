@@ -105,7 +105,7 @@ module _ (sec : Section) (front tail marks rest : List ℕ) (few : length (sec .
       → w .placed ≡ labelsPlaced (implicitBuilds X 0 (length (sec .subtables)) ++ ys) → ExportHeld sec (count q) x y
       → asAnswer (accepted (actionsIn front tail ys) (temporariesIn marks rest (tmps q)) (length (sec .subtables)) (length ys) w y)
       ≡ d.accepted (length front + length tail) (length rest) (semantics sec X ys q x)
-  unfolding accepted asAnswer thenL d.accepted d.semanticsResult
+  unfolding accepted asAnswer thenL d.accepted d.acceptedResult
   accepted-is X ys q w x y fits built sizes enough temporaries statements placed export =
       let n = implicit-few X (length (sec .subtables)) 0 in
       let all : List SemanticAction = implicitBuilds X 0 (length (sec .subtables)) ++ ys in

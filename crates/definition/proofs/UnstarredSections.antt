@@ -17,8 +17,8 @@ macroM = 9
 abbrev otherX : ℕ
 otherX = 10
 
-pub furtherSections : List WorkedSection
-furtherSections =
+pub unstarredSections : List WorkedSection
+unstarredSections =
     -- x = r4(0), x unsized: the subpiece's 50 comes before the 51 that x would give.
     record {
       file = block 5919 (
@@ -52,6 +52,6 @@ furtherSections =
     }
     ∷ []
 
-pub further-sections : map (λ (x : WorkedSection). worked (x .file)) furtherSections ≡ furtherSections
-unfolding starred-opens furtherSections
-further-sections = refl
+pub unstarred-sections : map (λ (x : WorkedSection). worked (x .file)) unstarredSections ≡ unstarredSections
+unfolding starred-opens unstarredSections
+unstarred-sections = refl
