@@ -72,13 +72,13 @@ implicitBuilds actions i (suc n) =
     if any (builds i) actions then rest
     else record { kind = ActionKind.Build; number = i; inputs = []; output = none } ∷ rest
 
--- A part resolved: how many statements that took, the final actions, the temporaries, how many labels were made (placed
--- or not), the export.
+-- A part resolved: how many statements that took, the final actions, the temporaries, how many labels were made, placed
+-- or not, and the export.
 pub record Semantics : Type 0 where
   pub statements : ℕ
   pub actions : List SemanticAction
   pub temporaries : List Temporary
-  pub labels : ℕ
+  pub labelsMade : ℕ
   pub export : Option Export
 
 unfoldable pub finish : Walk Semantics
@@ -94,7 +94,7 @@ finish = do
     statements = t .statements;
     actions = implicitBuilds sized 0 (length (sec .subtables)) ++ final;
     temporaries = t .sizing .temporaries;
-    labels = t .nextLabel;
+    labelsMade = t .nextLabel;
     export = export;
   })
 

@@ -189,7 +189,7 @@ starredSections =
           ∷ (0 ∷ 57 ∷ 0 ∷ 1 ∷ tmp 2 4 ++ tmp 1 4)
           ∷ (0 ∷ 57 ∷ 0 ∷ 1 ∷ tmp 0 4 ++ reg 0 4)
           ∷ []);
-      temporaries = filled 8 (named 8 4 ∷ named 9 4 ∷ named 10 4 ∷ named 11 8 ∷ []);
+      temporaries = filled 8 (named localA 4 ∷ named localB 4 ∷ named localC 4 ∷ named localD 8 ∷ []);
       failures = 3 ∷ 2 ∷ [];
       checked = false;
     }
@@ -245,7 +245,7 @@ starredSections =
       statements = Statement.Copy (PcodeExpr.Op (ident r4) PcodeOp.IntGreater (ident s4)) (ident localX) ∷ [];
       result = 0 ∷ 65535 ∷ 1 ∷ 1 ∷ 1 ∷ 0 ∷ 0 ∷ 0 ∷ 0 ∷ 0 ∷ 0 ∷ 0 ∷ [];
       actions = rows ((0 ∷ 12 ∷ 0 ∷ 2 ∷ tmp 0 1 ++ reg 1 4 ++ reg 0 4) ∷ []);
-      temporaries = filled 8 (named 8 1 ∷ []);
+      temporaries = filled 8 (named localX 1 ∷ []);
       failures = [];
       checked = true;
     }

@@ -94,7 +94,7 @@ semantics sec X ys q x = record {
   statements = q .statements;
   actions = implicitBuilds X 0 (length (sec .subtables)) ++ ys;
   temporaries = tmps q;
-  labels = q .nextLabel;
+  labelsMade = q .nextLabel;
   export = x;
 }
 
