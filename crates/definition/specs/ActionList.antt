@@ -93,8 +93,8 @@ unfoldable pub ofExport : Option Export → (Export → ℕ) → ℕ
 ofExport none f = 0
 ofExport (some x) f = f x
 
--- The twelve numbers: the refusal's, or 0, and its ordinal, or 65,535; the counts; the export's kind, or 0, the two words
--- of its value, its access size.
+-- The twelve numbers: the refusal's, or 0, and its ordinal, or 65,535; the counts, the labels being those placed; the
+-- export's kind, or 0, the two words of its value, its access size.
 pub record Result : Type 0 where
   pub refusal : ℕ
   pub ordinal : ℕ

@@ -1,5 +1,5 @@
--- DEMAND 3: whether the action list of a file's answer passes the checker, with the answer's own counts and those of the
--- section.
+-- DEMAND 3: whether the action list of a file's answer passes the checker, with the answer's own counts and those of
+-- the section.
 use Prim.Native.Nat.{ℕ}
 use mathlib.Core.Bool.{Bool, true, false}
 use mathlib.Core.List.{List}

@@ -161,8 +161,8 @@ starredSections =
       failures = [];
       checked = true;
     }
-    -- Locals A to D unsized; B = A; C = D; D = inst_next; C = B; A = r4: C = D copies 8 bytes to 4. The premise fails at
-    -- C and D.
+    -- Locals A to D unsized; B = A; C = D; D = inst_next; C = B; A = r4: C = D copies 8 bytes to 4. The premise fails
+    -- at C and D.
     ∷ record {
       file = block 7723 (
           hex 34 0x00000c00020002000000000000000000000000000000090000000000010002000300
