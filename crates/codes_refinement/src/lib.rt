@@ -10,7 +10,7 @@ ghost use mathlib.Core.List.{map};
 ghost use Rattle.definition.specs.Operations.{operationNumber, operations};
 ghost use Rattle.definition.specs.Refusals.{refusalNumber};
 ghost use Rattle.definition.specs.Value.{kindNumber};
-ghost use Rattle.definition.specs.ActionList.{actionKindNumber, exportNumber};
+ghost use Rattle.definition.specs.ActionList.{actionKindNumber, exportKindNumber};
 ghost use Rattle.codes_refinement.specs.Lists.{refusals, valueKinds, actionKinds, exportKinds};
 
 fn operations() -> [u64; 61]
@@ -153,7 +153,7 @@ fn action_kinds() -> [u64; 6]
 }
 
 fn export_kinds() -> [u64; 3]
-    ensures { λ r. ⌜ r ≡ map exportNumber exportKinds ⌝ }
+    ensures { λ r. ⌜ r ≡ map exportKindNumber exportKinds ⌝ }
 {
     [
         export_kind::COMPUTED,

@@ -1,3 +1,5 @@
 pub mod EveryOperation
 mod Sentences
+mod RightLists
 mod StarredSections
+mod UnstarredSections

@@ -10,16 +10,19 @@ use Rattle.definition.specs.Operations.{Operation, operationNumber, isOp
 use Rattle.definition.specs.Value.{Value, kindNumber, ActionKind, SemanticAction, operationOf, Temporary, ExportKind, Export}
 use Rattle.definition.specs.Ast.{Section}
 use Rattle.definition.specs.SectionFile.{Parsed, parsed, refused, read, section-file-opens}
-use Rattle.definition.specs.Walk.{State, Env, Outcome, done, stopped}
+use Rattle.definition.specs.Walk.{Env, Outcome, done, stopped}
 use Rattle.definition.specs.End.{Semantics, resolveSection, atStart, end-opens}
 
 -- none is 65,535
 unfoldable pub orNone : Option ℕ → ℕ
 orNone x = orElse 65535 x
 
--- a value is two words
+-- a value is two words: its number, and this one
+abbrev pub secondWord : Value → ℕ
+secondWord v = kindNumber (v .kind) + 256 * v .offset + 2 ^ 24 * orNone (v .size)
+
 unfoldable pub valueWords : Value → List ℕ
-valueWords v = v .number ∷ (kindNumber (v .kind) + 256 * v .offset + 2 ^ 24 * orNone (v .size)) ∷ []
+valueWords v = v .number ∷ secondWord v ∷ []
 
 unfoldable pub inputWords : List Value → List ℕ
 inputWords [] = []
@@ -80,57 +83,116 @@ labelsPlaced actions = sum (map (λ a. if placesLabel a then 1 else 0) actions)
 unfoldable pub points : ℕ → ℕ → ℕ
 points actions temporaries = (2 * actions + temporaries + 5) / 10
 
-unfoldable pub exportNumber : ExportKind → ℕ
-exportNumber ExportKind.Computed = 1
-exportNumber ExportKind.RamRef = 2
-exportNumber ExportKind.RegisterRef = 3
+unfoldable pub exportKindNumber : ExportKind → ℕ
+exportKindNumber ExportKind.Computed = 1
+exportKindNumber ExportKind.RamRef = 2
+exportKindNumber ExportKind.RegisterRef = 3
 
-unfoldable pub exportWords : Option Export → List ℕ
-exportWords none = 0 ∷ 0 ∷ 0 ∷ 0 ∷ []
-exportWords (some x) = exportNumber (x .kind) ∷ valueWords (x .value) ++ (x .accessSize ∷ [])
+-- a number of the export, 0 where there is none
+unfoldable pub ofExport : Option Export → (Export → ℕ) → ℕ
+ofExport none f = 0
+ofExport (some x) f = f x
 
--- The twelve numbers of the result, and every word of the two lent lists.
+-- The twelve numbers: the refusal's, or 0, and its ordinal, or 65,535; the counts, the labels being those placed; the
+-- export's kind, or 0, the two words of its value, its access size.
+pub record Result : Type 0 where
+  pub refusal : ℕ
+  pub ordinal : ℕ
+  pub statements : ℕ
+  pub actions : ℕ
+  pub temporaries : ℕ
+  pub labels : ℕ
+  pub points : ℕ
+  pub errors : ℕ
+  pub exportKind : ℕ
+  pub exportNumber : ℕ
+  pub exportWord : ℕ
+  pub accessSize : ℕ
+
+-- in document 01's order
+abbrev pub numbers : Result → List ℕ
+numbers r =
+    r .refusal ∷ r .ordinal ∷ r .statements ∷ r .actions ∷ r .temporaries ∷ r .labels ∷ r .points ∷ r .errors
+    ∷ r .exportKind ∷ r .exportNumber ∷ r .exportWord ∷ r .accessSize ∷ []
+
+-- The result, and every word of the two lent lists.
 pub record Answer : Type 0 where
-  pub result : List ℕ
+  pub result : Result
   pub actions : List ℕ
   pub temporaries : List ℕ
 
 -- a refusal zeroes all but its number, ordinal and, for 51, the error count
-unfoldable pub refusal : ℕ → ℕ → Refusal → Option ℕ → ℕ → Answer
-refusal la lt r ordinal errors = record {
-  result = filled 12 (refusalNumber r ∷ orNone ordinal ∷ 0 ∷ 0 ∷ 0 ∷ 0 ∷ 0 ∷ errors ∷ []);
-  actions = replicate la 0;
-  temporaries = replicate lt 0;
+unfoldable pub refusalResult : Refusal → Option ℕ → ℕ → Result
+refusalResult r ordinal errors = record {
+  refusal = refusalNumber r;
+  ordinal = orNone ordinal;
+  statements = 0;
+  actions = 0;
+  temporaries = 0;
+  labels = 0;
+  points = 0;
+  errors = errors;
+  exportKind = 0;
+  exportNumber = 0;
+  exportWord = 0;
+  accessSize = 0;
 }
 
-unfoldable pub accepted : ℕ → ℕ → Semantics → State → Answer
-accepted la lt x s =
-    let actions = length (x .actions) in
-    let temporaries = length (s .sizing .temporaries) in
-    record {
-      result =
-          0 ∷ 65535 ∷ s .statements ∷ actions ∷ temporaries ∷ labelsPlaced (x .actions) ∷ points actions temporaries ∷ 0
-          ∷ exportWords (x .export);
-      actions = filled la (listWords (x .actions));
-      temporaries = filled lt (map temporaryWord (s .sizing .temporaries));
-    }
-
-unfoldable pub answered : ℕ → ℕ → Outcome Semantics → Answer
-answered la lt (done x s) = accepted la lt x s
-answered la lt (stopped r ordinal errors) = refusal la lt r ordinal errors
+unfoldable pub acceptedResult : Semantics → Result
+acceptedResult x = record {
+  refusal = 0;
+  ordinal = 65535;
+  statements = x .statements;
+  actions = length (x .actions);
+  temporaries = length (x .temporaries);
+  labels = labelsPlaced (x .actions);
+  points = points (length (x .actions)) (length (x .temporaries));
+  errors = 0;
+  exportKind = ofExport (x .export) λ (e : Export). exportKindNumber (e .kind);
+  exportNumber = ofExport (x .export) λ (e : Export). e .value .number;
+  exportWord = ofExport (x .export) λ (e : Export). secondWord (e .value);
+  accessSize = ofExport (x .export) λ (e : Export). e .accessSize;
+}
 
 -- the lent words hold so many actions and temporaries; and there are 512 temporaries at most
 unfoldable pub roomFor : Section → ℕ → ℕ → Env
-roomFor sec la lt = record { section = sec; actionRoom = la / 24; temporaryRoom = min lt 512 }
+roomFor sec lentActions lentTemporaries =
+    record { section = sec; actionRoom = lentActions / 24; temporaryRoom = min lentTemporaries 512 }
 
-unfoldable pub resolveRead : ℕ → ℕ → Parsed Section → Answer
-resolveRead la lt (parsed sec rest) = answered la lt (resolveSection (roomFor sec la lt) (atStart sec))
-resolveRead la lt (refused r) = refusal la lt r none 0
+-- what is said of a refused file, and of a section that is read
+unfoldable pub whenRead : {A : Type 0} → (Refusal → A) → (Section → A) → Parsed Section → A
+whenRead f g (refused r) = f r
+whenRead f g (parsed sec rest) = g sec
 
--- A file's answer with lent lists of la and lt words.
+-- The answer, with lent lists of so many words.
+module _ (lentActions lentTemporaries : ℕ) where
+  unfoldable pub refusal : Refusal → Option ℕ → ℕ → Answer
+  refusal r ordinal errors = record {
+    result = refusalResult r ordinal errors;
+    actions = replicate lentActions 0;
+    temporaries = replicate lentTemporaries 0;
+  }
+
+  unfoldable pub accepted : Semantics → Answer
+  accepted x = record {
+    result = acceptedResult x;
+    actions = filled lentActions (listWords (x .actions));
+    temporaries = filled lentTemporaries (map temporaryWord (x .temporaries));
+  }
+
+  unfoldable pub answered : Outcome Semantics → Answer
+  answered (done x s) = accepted x
+  answered (stopped r ordinal errors) = refusal r ordinal errors
+
+  unfoldable pub resolveRead : Parsed Section → Answer
+  resolveRead = whenRead
+      (λ r. refusal r none 0)
+      (λ sec. answered (resolveSection (roomFor sec lentActions lentTemporaries) (atStart sec)))
+
+-- A file's answer.
 unfoldable pub resolve : List ℕ → ℕ → ℕ → Answer
-resolve file la lt = resolveRead la lt (read file)
+resolve file lentActions lentTemporaries = resolveRead lentActions lentTemporaries (read file)
 
 unfoldable pub action-list-opens : Unit {0}
-unfolding section-file-opens refusals-opens end-opens orNone valueWords inputWords actionKindNumber outputWords operationWord filled actionWords listWords temporaryWord placesLabel labelsPlaced points exportNumber exportWords refusal accepted answered roomFor resolveRead resolve
+unfolding section-file-opens refusals-opens end-opens orNone valueWords inputWords actionKindNumber outputWords operationWord filled actionWords listWords temporaryWord placesLabel labelsPlaced points exportKindNumber ofExport refusalResult acceptedResult roomFor whenRead refusal accepted answered resolveRead resolve
 action-list-opens = tt

@@ -1,5 +1,5 @@
--- THE CHECKER of an action list. Its words are read back as actions; the list is right if these are written as just those
--- words, and each action and the whole list meet the conditions below.
+-- THE CHECKER of an action list. Its words are read back as actions; the list is right if these are written as just
+-- those words, and each action and the whole list meet the conditions below.
 use Prim.Native.Nat.{ℕ, zero, suc, _*_, _/_, _%_, _^_, min}
 use mathlib.Core.Bool.{Bool, true, false, _&&_, not}
 use mathlib.Core.List.{List, [], _∷_, _++_, map}
@@ -33,7 +33,10 @@ noOutput inputs = (inputs, false)
 unfoldable pub shapes : List OperationShape
 shapes =
     record { operations = operators; shape = record { counts = withOutput 2 ∷ []; below = 1 } }
-    ∷ record { operations = oneInputs ++ (Operation.Copy ∷ Operation.Load ∷ []); shape = record { counts = withOutput 1 ∷ []; below = 1 } }
+    ∷ record {
+      operations = oneInputs ++ (Operation.Copy ∷ Operation.Load ∷ []);
+      shape = record { counts = withOutput 1 ∷ []; below = 1 };
+    }
     ∷ record { operations = Operation.Store ∷ []; shape = record { counts = noOutput 2 ∷ []; below = 1 } }
     ∷ record { operations = Operation.Branch ∷ []; shape = record { counts = noOutput 2 ∷ []; below = 3 } }
     ∷ record { operations = Operation.PcodeBranch ∷ []; shape = record { counts = noOutput 2 ∷ []; below = 256 } }
@@ -55,34 +58,45 @@ shapes =
 
 unfoldable pub operationNumbered : ℕ → Option Operation
 operationNumbered n =
-    first (λ (row : OperationShape). first (λ operation. if eqb n (operationNumber operation) then some operation else none) (row .operations)) shapes
+    first (λ (row : OperationShape).
+    first (λ operation. if eqb n (operationNumber operation) then some operation else none) (row .operations)) shapes
 
 unfoldable pub opNumbered : ℕ → Option ActionKind
 opNumbered n = andThen (operationNumbered n) λ operation. some (ActionKind.Op operation)
 
 unfoldable pub actionKindNumbered : ℕ → ℕ → Option ActionKind
 actionKindNumbered kind operation =
-    orElse none (getElem? (opNumbered operation ∷ map some (ActionKind.AddressOf ∷ ActionKind.LoadRegister ∷ ActionKind.StoreRegister ∷ ActionKind.DelaySlot ∷ ActionKind.Build ∷ [])) kind)
+    orElse none (getElem? (
+    opNumbered operation
+    ∷ map some (ActionKind.AddressOf ∷ ActionKind.LoadRegister ∷ ActionKind.StoreRegister ∷ ActionKind.DelaySlot
+    ∷ ActionKind.Build ∷ [])) kind)
 
 unfoldable pub kinds : List Kind
-kinds = Kind.InstStart ∷ Kind.InstNext ∷ Kind.Register ∷ Kind.Field ∷ Kind.Subtable ∷ Kind.SubtableRef ∷ Kind.PcodeTmp ∷ Kind.Constant ∷ []
+kinds =
+    Kind.InstStart ∷ Kind.InstNext ∷ Kind.Register ∷ Kind.Field ∷ Kind.Subtable ∷ Kind.SubtableRef ∷ Kind.PcodeTmp
+    ∷ Kind.Constant ∷ []
 
 unfoldable pub sizeFrom : ℕ → Option ℕ
 sizeFrom n = if eqb n 65535 then none else some n
 
 unfoldable pub valueFrom : ℕ → ℕ → Option Value
 valueFrom number word =
-    andThen (getElem? kinds (word % 256)) λ k. some (record { kind = k; number = number; offset = word / 256 % 65536; size = sizeFrom (word / 2 ^ 24) })
+    andThen (getElem? kinds (word % 256)) λ k.
+    some (record { kind = k; number = number; offset = word / 256 % 65536; size = sizeFrom (word / 2 ^ 24) })
 
 unfoldable pub inputsFrom : ℕ → List ℕ → Option (List Value)
 inputsFrom zero ws = some []
-inputsFrom (suc n) ws = andThen (valueFrom (getD ws 0 0) (getD ws 1 0)) λ v. andThen (inputsFrom n (drop 2 ws)) λ vs. some (v ∷ vs)
+inputsFrom (suc n) ws =
+    andThen (valueFrom (getD ws 0 0) (getD ws 1 0)) λ v.
+    andThen (inputsFrom n (drop 2 ws)) λ vs.
+    some (v ∷ vs)
 
 unfoldable pub someValue : Option Value → Option (Option Value)
 someValue v = andThen v λ w. some (some w)
 
 unfoldable pub outputFrom : ActionKind → ℕ → ℕ → Option (Option Value)
-outputFrom (ActionKind.Op operation) number word = if eqb number 0 && eqb word 255 then some none else someValue (valueFrom number word)
+outputFrom (ActionKind.Op operation) number word =
+    if eqb number 0 && eqb word 255 then some none else someValue (valueFrom number word)
 outputFrom ActionKind.AddressOf number word = someValue (valueFrom number word)
 outputFrom ActionKind.LoadRegister number word = someValue (valueFrom number word)
 outputFrom ActionKind.StoreRegister number word = some none
@@ -98,7 +112,10 @@ actionFrom ws =
 
 unfoldable pub actionsFrom : ℕ → List ℕ → Option (List SemanticAction)
 actionsFrom zero ws = some []
-actionsFrom (suc n) ws = andThen (actionFrom (take 24 ws)) λ a. andThen (actionsFrom n (drop 24 ws)) λ rest. some (a ∷ rest)
+actionsFrom (suc n) ws =
+    andThen (actionFrom (take 24 ws)) λ a.
+    andThen (actionsFrom n (drop 24 ws)) λ rest.
+    some (a ∷ rest)
 
 -- Layout, of one action.
 
@@ -129,7 +146,8 @@ optionFits p none = true
 
 module _ (temporaries subtables : ℕ) where
   unfoldable pub shapeOf : ActionKind → Option Shape
-  shapeOf (ActionKind.Op operation) = first (λ (row : OperationShape). if among (row .operations) operation then some (row .shape) else none) shapes
+  shapeOf (ActionKind.Op operation) =
+      first (λ (row : OperationShape). if among (row .operations) operation then some (row .shape) else none) shapes
   shapeOf ActionKind.AddressOf = some (record { counts = withOutput 1 ∷ []; below = 1 })
   shapeOf ActionKind.LoadRegister = some (record { counts = withOutput 1 ∷ []; below = 1025 })
   shapeOf ActionKind.StoreRegister = some (record { counts = noOutput 2 ∷ []; below = 1025 })
@@ -147,7 +165,7 @@ module _ (temporaries subtables : ℕ) where
   numberFits Kind.PcodeTmp n = ltb n temporaries
   numberFits Kind.Constant n = true
 
-  -- the second word is below 2^40
+  -- The offset and the size are within their parts of the second word, which so is below 2^40; 65,535 is no size.
   unfoldable pub valueFits : Value → Bool
   valueFits v = numberFits (v .kind) (v .number) && leb (v .offset) 65535 && ltb (orElse 0 (v .size)) 65535
 
@@ -217,7 +235,8 @@ listHolds ws temporaries subtables pointerSize actions =
 unfoldable pub check : List ℕ → ℕ → ℕ → ℕ → ℕ → Bool
 check ws actions temporaries subtables pointerSize =
     if leb (24 * actions) (length ws)
-    then orElse false (andThen (actionsFrom actions ws) λ found. some (listHolds ws temporaries subtables pointerSize found)) else false
+    then orElse false (andThen (actionsFrom actions ws) λ found.
+    some (listHolds ws temporaries subtables pointerSize found)) else false
 
 unfoldable pub checker-opens : Unit {0}
 unfolding action-list-opens shapes operationNumbered opNumbered actionKindNumbered kinds sizeFrom valueFrom inputsFrom someValue outputFrom actionFrom actionsFrom sameCount countsFit plainBase baseFits shapeFits optionFits shapeOf numberFits valueFits layoutFits isSized sizeAt hasSize allHaveSize sizeNamed stepHolds operationHolds sizesHold places labelsOnce allBuilt listHolds check

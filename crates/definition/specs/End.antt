@@ -1,4 +1,4 @@
--- THE END of `resolve`: the passes, sizes fixed, subpieces turned into copies, the implicit Builds in front, the errors.
+-- THE END of `resolve`: the passes, sizes fixed, subpieces made copies, the implicit Builds in front, the errors.
 use Prim.Native.Nat.{ℕ, zero, suc}
 use mathlib.Core.Bool.{Bool, true, false}
 use mathlib.Core.List.{List, [], _∷_, _++_}
@@ -8,7 +8,7 @@ use lib.Dec.{eqb, leb}
 use Rattle.prelude.specs.Base.{if_then_else_, andThen, any}
 use Rattle.definition.specs.Refusals.{Refusal, listFull, subpieceSize, errorsRecorded}
 use Rattle.definition.specs.Operations.{Operation, isOp}
-use Rattle.definition.specs.Value.{Value, ActionKind, SemanticAction, operationOf, Export}
+use Rattle.definition.specs.Value.{Value, ActionKind, SemanticAction, operationOf, Temporary, Export}
 use Rattle.definition.specs.Ast.{Macro, Section}
 use Rattle.definition.specs.Sizes.{Sizing, applySizeInference, fixSize, fixOperands}
 use Rattle.definition.specs.Walk.{State, Env, Outcome, stopped, Walk, _>>=_, _>>_, pure, require, expect, env, section, state, sizing, sliced}
@@ -69,10 +69,16 @@ unfoldable pub implicitBuilds : List SemanticAction → ℕ → ℕ → List Sem
 implicitBuilds actions i zero = []
 implicitBuilds actions i (suc n) =
     let rest = implicitBuilds actions (suc i) n in
-    if any (builds i) actions then rest else record { kind = ActionKind.Build; number = i; inputs = []; output = none } ∷ rest
+    if any (builds i) actions then rest
+    else record { kind = ActionKind.Build; number = i; inputs = []; output = none } ∷ rest
 
+-- A part resolved: how many statements that took, the final actions, the temporaries, how many labels were made, placed
+-- or not, and the export.
 pub record Semantics : Type 0 where
+  pub statements : ℕ
   pub actions : List SemanticAction
+  pub temporaries : List Temporary
+  pub labelsMade : ℕ
   pub export : Option Export
 
 unfoldable pub finish : Walk Semantics
@@ -84,7 +90,13 @@ finish = do
   export ← finishExport (s .export)
   t ← state
   noErrors (t .sizing .errors)
-  pure (record { actions = implicitBuilds sized 0 (length (sec .subtables)) ++ final; export = export })
+  pure (record {
+    statements = t .statements;
+    actions = implicitBuilds sized 0 (length (sec .subtables)) ++ final;
+    temporaries = t .sizing .temporaries;
+    labelsMade = t .nextLabel;
+    export = export;
+  })
 
 -- the walk over the section's statements, macro calls 16 deep at most
 unfoldable pub resolveStatements : Walk (Unit {0})

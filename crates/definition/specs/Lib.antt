@@ -1,5 +1,5 @@
 -- The definition, in the order of document 01: the value, the section file, the scope, the statement rules, sizes, the
--- action list, the checker, the refusals, the starred sections.
+-- action list, the checker and its conditions, the premise, the starred sections.
 pub mod Refusals
 pub mod Operations
 pub mod Value
@@ -14,6 +14,7 @@ pub mod Statements
 pub mod End
 pub mod ActionList
 pub mod Checker
+pub mod Right
 pub mod Premise
 pub mod Passing
 pub mod Starred

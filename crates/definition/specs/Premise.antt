@@ -5,14 +5,15 @@ use mathlib.Core.Bool.{Bool, true, false, _&&_, not}
 use mathlib.Core.List.{List, [], _∷_, _++_}
 use mathlib.Core.Option.{Option, none, some}
 use lib.ListN.{getElem?}
-use Rattle.prelude.specs.Base.{if_then_else_, andThen, isSome}
+use lib.Dec.{eqb}
+use Rattle.prelude.specs.Base.{if_then_else_, andThen, isSome, any}
 use Rattle.definition.specs.Value.{Kind, Value, isKind, SemanticAction, operationOf, Temporary}
 use Rattle.definition.specs.Ast.{Section}
-use Rattle.definition.specs.SectionFile.{Parsed, parsed, refused, read}
+use Rattle.definition.specs.SectionFile.{Parsed, read}
 use Rattle.definition.specs.Sizes.{Sizing, Step, stepsOf, updateOperandSizes, backwardPass}
 use Rattle.definition.specs.Walk.{Outcome, done, stopped, Walk, _>>=_, _>>_, pure, section, state, sizing}
 use Rattle.definition.specs.End.{resolveStatements, atStart}
-use Rattle.definition.specs.ActionList.{roomFor, action-list-opens}
+use Rattle.definition.specs.ActionList.{roomFor, whenRead, action-list-opens}
 
 unfoldable pub filter : {A : Type 0} → (A → Bool) → List A → List A
 filter p [] = []
@@ -37,12 +38,20 @@ ruled a = underRule (stepsOf (operationOf (a .kind))) a
 unfoldable pub isSizedIn : Sizing → ℕ → Bool
 isSizedIn s i = isSome (andThen (getElem? (s .temporaries) i) λ (t : Temporary). t .size)
 
--- The forward pass: the temporaries that it sizes too late. Before stand those of the operations nearer the start.
+-- those of the first list that the second lacks, each once, in front of the second
+unfoldable pub joined : List ℕ → List ℕ → List ℕ
+joined [] ns = ns
+joined (m ∷ ms) ns =
+    let rest = joined ms ns in
+    if any (eqb m) rest then rest else m ∷ rest
+
+-- The forward pass: the temporaries that it sizes too late, each once. Before stand those of the operations nearer the
+-- list's start.
 unfoldable pub sizedLate : Section → List ℕ → List SemanticAction → Sizing → List ℕ
 sizedLate sec before [] s = []
 sizedLate sec before (a ∷ rest) s =
     let t : Sizing = (updateOperandSizes sec true a s) .1 in
-    filter (λ i. not (isSizedIn s i) && isSizedIn t i) before ++ sizedLate sec (ruled a ++ before) rest t
+    joined (filter (λ i. not (isSizedIn s i) && isSizedIn t i) before) (sizedLate sec (ruled a ++ before) rest t)
 
 unfoldable pub sizedLateWalk : Walk (List ℕ)
 sizedLateWalk = do
@@ -58,20 +67,21 @@ walked (done late s) = late
 walked (stopped r ordinal errors) = []
 
 unfoldable pub lateIn : ℕ → ℕ → Parsed Section → List ℕ
-lateIn la lt (parsed sec rest) = walked (sizedLateWalk (roomFor sec la lt) (atStart sec))
-lateIn la lt (refused r) = []
+lateIn lentActions lentTemporaries = whenRead
+    (λ r. [])
+    (λ sec. walked (sizedLateWalk (roomFor sec lentActions lentTemporaries) (atStart sec)))
 
 -- where the premise fails: at these temporaries
 unfoldable pub premiseFailures : List ℕ → ℕ → ℕ → List ℕ
-premiseFailures file la lt = lateIn la lt (read file)
+premiseFailures file lentActions lentTemporaries = lateIn lentActions lentTemporaries (read file)
 
 unfoldable pub none? : List ℕ → Bool
 none? [] = true
 none? (x ∷ xs) = false
 
 unfoldable pub premise : List ℕ → ℕ → ℕ → Bool
-premise file la lt = none? (premiseFailures file la lt)
+premise file lentActions lentTemporaries = none? (premiseFailures file lentActions lentTemporaries)
 
 unfoldable pub premise-opens : Unit {0}
-unfolding action-list-opens filter temporariesAmong operands underRule ruled isSizedIn sizedLate sizedLateWalk walked lateIn premiseFailures none? premise
+unfolding action-list-opens filter temporariesAmong operands underRule ruled isSizedIn joined sizedLate sizedLateWalk walked lateIn premiseFailures none? premise
 premise-opens = tt

@@ -1,7 +1,6 @@
 -- The checker accepts a list exactly when its conditions hold.
 use Prim.Native.Nat.{ℕ, zero, suc, _*_, _-_, _≤_, _<_}
 use mathlib.Core.Path.{_≡_, refl, sym, _∙_, ap, subst}
-use mathlib.Core.Logic.{_↔_}
 use mathlib.Core.Bool.{Bool, true, false, _&&_, not}
 use mathlib.Core.List.{List, [], _∷_, _++_}
 use mathlib.Core.Option.{Option, none, some}
@@ -17,7 +16,8 @@ use Rattle.definition.specs.ActionList.{filled, listWords, placesLabel}
 use Rattle.definition.specs.Checker.{shapeOf, sameCount, countsFit, optionFits, numberFits, valueFits, plainBase, baseFits, layoutFits, isSized, sizeAt, hasSize, allHaveSize, sizeNamed, stepHolds, operationHolds, sizesHold, places, labelsOnce, allBuilt, listHolds, actionFrom, actionsFrom, check}
 use Rattle.definition_guarantee.proofs.Tests.{clash, never, eq-of, eq-same, same, differs, le-of, lt-of, and-true, both, if-true, all-at, then-some, or-true, list-same, any-from, first-none, none-some, some-same}
 use Rattle.definition_guarantee.proofs.Words.{fits-parts, Shaped, Laid, laid, subpiece-shapeless}
-use Rattle.definition_guarantee.specs.Conditions.{Among, IsOperand, input, output, NumberWithin, ValueWithin, ActionRight, Right}
+use Rattle.definition.specs.Right.{Among, IsOperand, input, output, NumberWithin, ValueWithin, ActionRight, Right}
+use Rattle.definition_guarantee.specs.Guarantee.{AcceptsExactly}
 use Rattle.definition_guarantee.proofs.Rules.{is-size}
 use Rattle.definition_guarantee.proofs.RightAccepted.{any-at, Once, padded, right-accepted}
 
@@ -237,6 +237,5 @@ module _ (ws : List ℕ) (n t sub pointer : ℕ) where
             (z .1, (z .0, z .2), k .0, k .1);
       }
 
-  -- the checker accepts exactly when the conditions hold
-  pub accepts-exactly : (check ws n t sub pointer ≡ true) ↔ Right ws n t sub pointer
-  accepts-exactly = (accepted-right, right-accepted ws n t sub pointer)
+pub accepts-exactly : AcceptsExactly
+accepts-exactly ws n t sub pointer = (accepted-right ws n t sub pointer, right-accepted ws n t sub pointer)

@@ -37,7 +37,7 @@ module _ (e : Env) where
 
   pub end-passes : (la : ℕ) (s t : State) (x : Semantics) → 24 * e .actionRoom ≤ la → SmallSection sec → InOrder s → finish e s ≡ done x t
       → sizedLate sec [] ((backwardPass sec (s .actions) (s .sizing)) .0) ((backwardPass sec (s .actions) (s .sizing)) .1) ≡ []
-      → check (filled la (listWords (x .actions))) (length (x .actions)) (length (t .sizing .temporaries)) (length (sec .subtables))
+      → check (filled la (listWords (x .actions))) (length (x .actions)) (length (x .temporaries)) (length (sec .subtables))
       (pointerSize sec) ≡ true
   end-passes la s t x fits small o h late =
       let d = end-done e s x t h in
@@ -45,7 +45,7 @@ module _ (e : Env) where
       let sub : ℕ = length (sec .subtables) in
       let back : List SemanticAction × Sizing = backwardPass sec (s .actions) (s .sizing) in
       let grown = grown-trans (backward-grown sec (s .actions) (s .sizing)) (forward-grown sec (back .0) (back .1)) in
-      let count : length (t .sizing .temporaries) ≡ n = ap length (d .temporaries) ∙ grown .count in
+      let count : length (x .temporaries) ≡ n = ap length (d .temporaries) ∙ grown .count in
       let b = backward-rough sec small n sub (s .actions) (s .sizing) (o .actions) (o .sizes) in
       let f = forward-rough sec small n sub (back .0) (back .1) (b .0) (b .1) in
       let ys : List SemanticAction = d .final in

@@ -244,13 +244,13 @@ module _ (e : Env) where
     abbrev pub inferred : List SemanticAction × Sizing
     inferred = forwardPass sec ((backwardPass sec (s .actions) (s .sizing)) .0) ((backwardPass sec (s .actions) (s .sizing)) .1)
 
-    pub record Ended (x : Semantics) (t : State) : Type 0 where
+    pub record Ended (x : Semantics) : Type 0 where
       pub final : List SemanticAction
       pub finished : FinishedAll sec (inferred .1 .temporaries) (inferred .0) final
       pub actions : x .actions ≡ implicitBuilds (inferred .0) 0 (length (sec .subtables)) ++ final
-      pub temporaries : t .sizing .temporaries ≡ inferred .1 .temporaries
+      pub temporaries : x .temporaries ≡ inferred .1 .temporaries
 
-    pub end-done : (x : Semantics) (t : State) → finish e s ≡ done x t → Ended x t
+    pub end-done : (x : Semantics) (t : State) → finish e s ≡ done x t → Ended x
     unfolding finish on applySizeInference
     end-done x t h =
         let u : State = withSizing (inferred .1) s in
@@ -264,5 +264,6 @@ module _ (e : Env) where
           final = p .0;
           finished = f .1;
           actions = ap (λ (z : Semantics). z .actions) (sym (done-value (r .3)));
-          temporaries = ap (λ (z : State). z .sizing .temporaries) (sym (done-state (r .3)) ∙ n .1 ∙ d ∙ f .0);
+          temporaries = ap (λ (z : Semantics). z .temporaries) (sym (done-value (r .3)))
+              ∙ ap (λ (z : State). z .sizing .temporaries) (d ∙ f .0);
         }

@@ -8,20 +8,26 @@ use mathlib.Core.Option.{Option, none, some}
 use native.Mathlib.Omega.{arith}
 use lib.Dec.{eqb}
 use lib.ListN.{getElem?}
-use Rattle.prelude.specs.Base.{if_then_else_, isSome}
+use Rattle.prelude.specs.Base.{if_then_else_, isSome, any}
 use Rattle.definition.specs.Operations.{Operation}
 use Rattle.definition.specs.Value.{Kind, kindNumber, Value, isKind, ActionKind, SemanticAction, operationOf, Temporary}
 use Rattle.definition.specs.Ast.{Section}
 use Rattle.definition.specs.Sizes.{Operand, in0, in1, out, Step, stepsOf, at, Sizing, applySteps, updateOperandSizes, backwardPass, forwardPass}
-use Rattle.definition.specs.Premise.{filter, temporariesAmong, operands, underRule, ruled, isSizedIn, sizedLate}
+use Rattle.definition.specs.Premise.{filter, temporariesAmong, operands, underRule, ruled, isSizedIn, joined, sizedLate}
 use Rattle.definition_guarantee.specs.Tests.{Each}
-use Rattle.definition_guarantee.proofs.Tests.{clash, In, in-left, in-right, none-some}
+use Rattle.definition_guarantee.proofs.Tests.{clash, never, In, in-left, in-right, none-some}
 use Rattle.definition_guarantee.proofs.Growth.{tmpSize, Grown, grown-refl, grown-trans}
 use Rattle.definition_guarantee.proofs.Rules.{Core, coreOf, isTmp, AllObeyed, RuleHolds, nothing-holds, rule-holds, steps-grown, steps-alike}
 
-append-empty : {A : Type 0} (xs ys : List A) → xs ++ ys ≡ [] → (xs ≡ []) × (ys ≡ [])
-append-empty [] ys e = (refl, e)
-append-empty (x ∷ xs) ys e = let z : _≡_ {A = ℕ} 0 1 = cc in absurd (omega arith)
+joined-empty : (ms ns : List ℕ) → joined ms ns ≡ [] → (ms ≡ []) × (ns ≡ [])
+unfolding joined any if_then_else_
+joined-empty [] ns e = (refl, e)
+joined-empty (m ∷ ms) ns e = absurd (go (joined ms ns) (any (eqb m) (joined ms ns)) refl e)
+  where
+    go : (rest : List ℕ) (b : Bool) → any (eqb m) rest ≡ b → (if b then rest else m ∷ rest) ≡ [] → ⊥
+    go [] true d e = never d
+    go (x ∷ xs) true d e = let z : _≡_ {A = ℕ} 0 1 = cc in omega (arith, z)
+    go rest false d e = let z : _≡_ {A = ℕ} 0 1 = cc in omega (arith, z)
 
 pub filter-none : (p : ℕ → Bool) (xs : List ℕ) (n : ℕ) → filter p xs ≡ [] → In n xs → p n ≡ false
 unfolding filter if_then_else_
@@ -61,7 +67,7 @@ module _ (sec : Section) where
   late-quiet before [] s n e i h = h
   late-quiet before (a ∷ xs) s n e i h =
       let t : Sizing = (updateOperandSizes sec true a s) .1 in
-      let k = append-empty (filter (λ i. not (isSizedIn s i) && isSizedIn t i) before) _ e in
+      let k = joined-empty (filter (λ i. not (isSizedIn s i) && isSizedIn t i) before) _ e in
       late-quiet (ruled a ++ before) xs t n (k .1) (in-right n (ruled a) before i)
       (not-sized (tmpSize (s .temporaries) n) (tmpSize (t .temporaries) n) h
       (filter-none (λ i. not (isSizedIn s i) && isSizedIn t i) before n (k .0) i))
@@ -146,7 +152,7 @@ module _ (sec : Section) where
       let b : SemanticAction = (updateOperandSizes sec true a s) .0 in
       let w : List Temporary = (forwardPass sec xs t) .1 .temporaries in
       let late : sizedLate sec (ruled a ++ before) xs t ≡ [] =
-      append-empty (filter (λ i. not (isSizedIn s i) && isSizedIn t i) before) _ e .1 in
+      joined-empty (filter (λ i. not (isSizedIn s i) && isSizedIn t i) before) _ e .1 in
       let steps : List Step = stepsOf (operationOf (a .kind)) in
       let k : b .kind ≡ a .kind = steps-alike sec true steps a s .kind in (
         subst (λ (x : ActionKind). AllObeyed sec w b (stepsOf (operationOf x))) (sym k)

@@ -10,10 +10,10 @@ use Rattle.definition.specs.SectionFile.{Parsed, parsed, refused, read}
 use Rattle.definition.specs.Sizes.{pointerSize}
 use Rattle.definition.specs.Walk.{State, Env, Outcome, done, stopped}
 use Rattle.definition.specs.End.{Semantics, finish, resolveStatements, resolveSection, atStart}
-use Rattle.definition.specs.ActionList.{filled, listWords, refusal, accepted, answered, roomFor, resolveRead, resolve}
+use Rattle.definition.specs.ActionList.{acceptedResult, refusalResult, refusal, accepted, answered, roomFor, whenRead, resolveRead, resolve}
 use Rattle.definition.specs.Checker.{check}
 use Rattle.definition.specs.Premise.{lateIn, premiseFailures, none?, premise}
-use Rattle.definition.specs.Passing.{subtableCount, pointerSizeIn, refusalIn, actionsIn, temporariesIn, passes}
+use Rattle.definition.specs.Passing.{subtableCount, pointerSizeIn}
 use Rattle.definition_guarantee.specs.Guarantee.{AcceptedListsPass, AcceptedFilesPass}
 use Rattle.definition_guarantee.proofs.Finish.{on-done}
 use Rattle.definition_guarantee.proofs.Ending.{end-passes}
@@ -25,7 +25,7 @@ room : (la : ℕ) → 24 * (la / 24) ≤ la
 room la = omega arith
 
 pub accepted-lists-pass : AcceptedListsPass
-unfolding resolveSection roomFor premise premiseFailures lateIn
+unfolding resolveSection roomFor premise premiseFailures lateIn whenRead
 accepted-lists-pass file rest la lt sec x s r h p =
     let e : Env = roomFor sec la lt in
     let w = read-within file rest sec r in
@@ -37,18 +37,18 @@ accepted-lists-pass file rest la lt sec x s r h p =
 -- The same of a file's answer alone.
 
 answer-passes : (file rest : List ℕ) (la lt : ℕ) (sec : Section) (x : Outcome Semantics) → read file ≡ parsed sec rest
-    → resolveSection (roomFor sec la lt) (atStart sec) ≡ x → refusalIn (answered la lt x) ≡ 0 → premise file la lt ≡ true
-    → check (answered la lt x .actions) (actionsIn (answered la lt x)) (temporariesIn (answered la lt x)) (length (sec .subtables))
+    → resolveSection (roomFor sec la lt) (atStart sec) ≡ x → answered la lt x .result .refusal ≡ 0 → premise file la lt ≡ true
+    → check (answered la lt x .actions) (answered la lt x .result .actions) (answered la lt x .result .temporaries) (length (sec .subtables))
     (pointerSize sec) ≡ true
-unfolding answered accepted refusal filled
+unfolding answered accepted acceptedResult refusal refusalResult
 answer-passes file rest la lt sec (done x s) r h z p = accepted-lists-pass file rest la lt sec x s r h p
 answer-passes file rest la lt sec (stopped q o k) r h z p = let n = positive q in absurd (omega arith)
 
-file-passes : (file : List ℕ) (la lt : ℕ) (x : Parsed Section) → read file ≡ x → refusalIn (resolveRead la lt x) ≡ 0
+file-passes : (file : List ℕ) (la lt : ℕ) (x : Parsed Section) → read file ≡ x → resolveRead la lt x .result .refusal ≡ 0
     → premise file la lt ≡ true
-    → check (resolveRead la lt x .actions) (actionsIn (resolveRead la lt x)) (temporariesIn (resolveRead la lt x)) (subtableCount x)
+    → check (resolveRead la lt x .actions) (resolveRead la lt x .result .actions) (resolveRead la lt x .result .temporaries) (subtableCount x)
     (pointerSizeIn x) ≡ true
-unfolding resolveRead subtableCount pointerSizeIn refusal filled
+unfolding resolveRead whenRead subtableCount pointerSizeIn refusal refusalResult
 file-passes file la lt (parsed sec rest) r z p = answer-passes file rest la lt sec (resolveSection (roomFor sec la lt) (atStart sec))
     r refl z p
 file-passes file la lt (refused q) r z p = let n = positive q in absurd (omega arith)

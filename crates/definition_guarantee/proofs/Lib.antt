@@ -1,5 +1,5 @@
--- The guarantee, the checker's conditions and the premise: to be read are Guarantee, Conditions, CheckerConditions and
--- PremiseLaws; the others hold their lemmas.
+-- The guarantee, the checker's conditions and the premise: to be read are Guarantee, CheckerConditions and PremiseLaws;
+-- the others hold their lemmas.
 pub mod Tests
 -- words read back
 pub mod Words

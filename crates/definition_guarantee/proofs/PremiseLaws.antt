@@ -9,21 +9,22 @@ use mathlib.Core.Option.{Option, none, some}
 use native.Mathlib.Omega.{arith}
 use lib.Dec.{eqb, ltb}
 use lib.ListN.{length, getElem?}
-use Rattle.prelude.specs.Base.{if_then_else_, orElse, andThen, isSome}
+use Rattle.prelude.specs.Base.{if_then_else_, orElse, andThen, isSome, any}
 use Rattle.definition.specs.Value.{SemanticAction, operationOf, Temporary}
 use Rattle.definition.specs.Ast.{Section}
 use Rattle.definition.specs.SectionFile.{Parsed, parsed, refused, read}
 use Rattle.definition.specs.Sizes.{Sizing, stepsOf, updateOperandSizes, backwardPass}
 use Rattle.definition.specs.Walk.{State, Env, Outcome, done, stopped, on, withSizing}
 use Rattle.definition.specs.End.{resolveStatements, atStart}
-use Rattle.definition.specs.ActionList.{roomFor, resolve}
-use Rattle.definition.specs.Premise.{filter, ruled, isSizedIn, sizedLate, sizedLateWalk, walked, lateIn, premiseFailures, none?, premise}
+use Rattle.definition.specs.ActionList.{roomFor, whenRead, resolve}
+use Rattle.definition.specs.Premise.{filter, ruled, isSizedIn, joined, sizedLate, sizedLateWalk, walked, lateIn, premiseFailures, none?, premise}
 use Rattle.definition.specs.Starred.{WorkedSection, starredSections, starred-opens}
 use Rattle.definition_guarantee.proofs.Tests.{In, in-left, in-right, eq-of, differs, lt-of, not-lt, clash}
 use Rattle.definition_guarantee.proofs.Growth.{tmpSize, Grown}
 use Rattle.definition_guarantee.proofs.Rules.{steps-grown}
 use Rattle.definition_guarantee.proofs.Forward.{filter-none, backward-grown}
-use Rattle.definition.specs.Passing.{subtableCount, pointerSizeIn, refusalIn, passes}
+use Rattle.definition_guarantee.proofs.WholeList.{Distinct}
+use Rattle.definition.specs.Passing.{passes}
 use Rattle.definition_guarantee.proofs.Guarantee.{accepted-files-pass}
 use Rattle.definition_guarantee.specs.PremiseLaws.{PremiseNeeded, isUnsized, ruledIn, unsizedBeforeForward, fromWalk, fromSection, unsizedOperands}
 
@@ -32,7 +33,7 @@ unfoldable pub fiveCopies : List ℕ
 fiveCopies = orElse [] (andThen (getElem? starredSections 2) λ (x : WorkedSection). some (x .file))
 
 pub premise-needed : PremiseNeeded fiveCopies 240 8
-unfolding fiveCopies starred-opens subtableCount pointerSizeIn
+unfolding fiveCopies starred-opens
 premise-needed = record { accepted = refl; failures = refl; refused = refl }
 
 unfoldable pub below : ℕ → List ℕ
@@ -108,7 +109,7 @@ module _ (sec : Section) where
 
   late-nowhere : (before : List ℕ) (xs : List SemanticAction) (s : Sizing) → ((i : ℕ) → In i before → Settled (s .temporaries) i)
       → ((i : ℕ) → In i (ruledIn xs) → Settled (s .temporaries) i) → sizedLate sec before xs s ≡ []
-  unfolding sizedLate isSizedIn ruledIn
+  unfolding sizedLate isSizedIn ruledIn joined
   late-nowhere before [] s h k = refl
   late-nowhere before (a ∷ xs) s h k =
       let t : Sizing = (updateOperandSizes sec true a s) .1 in
@@ -158,7 +159,7 @@ module _ (sec : Section) where
 
 -- The premise holds for every file with no unsized operand of an operation with a rule, when the forward pass begins.
 pub no-unsized-operands : (file : List ℕ) (la lt : ℕ) → unsizedOperands file la lt ≡ [] → premise file la lt ≡ true
-unfolding unsizedOperands fromSection fromWalk premise premiseFailures lateIn sizedLateWalk on walked none? roomFor
+unfolding unsizedOperands fromSection whenRead fromWalk premise premiseFailures lateIn sizedLateWalk on walked none? roomFor
 no-unsized-operands file la lt h = go (read file) h
   where
     after : (e : Env) (x : Outcome (Unit {0})) → fromWalk unsizedBeforeForward (e .section) x ≡ []
@@ -174,7 +175,7 @@ no-unsized-operands file la lt h = go (read file) h
 
 -- And so for every file whose temporaries all have sizes after the walk.
 pub no-unsized-temporaries : (file : List ℕ) (la lt : ℕ) → unsizedTemporaries file la lt ≡ [] → premise file la lt ≡ true
-unfolding unsizedTemporaries unsizedOperands fromSection fromWalk
+unfolding unsizedTemporaries unsizedOperands fromSection whenRead fromWalk
 no-unsized-temporaries file la lt h = no-unsized-operands file la lt (go (read file) h)
   where
     after : (sec : Section) (x : Outcome (Unit {0})) → fromWalk unsizedAfterWalk sec x ≡ [] → fromWalk unsizedBeforeForward sec x ≡ []
@@ -186,10 +187,53 @@ no-unsized-temporaries file la lt h = no-unsized-operands file la lt (go (read f
     go (refused r) h = refl
 
 -- Such a file's list passes, if it is accepted.
-pub sized-files-pass : (file : List ℕ) (la lt : ℕ) → refusalIn (resolve file la lt) ≡ 0 → unsizedOperands file la lt ≡ [] → passes file la lt ≡ true
+pub sized-files-pass : (file : List ℕ) (la lt : ℕ) → resolve file la lt .result .refusal ≡ 0 → unsizedOperands file la lt ≡ [] → passes file la lt ≡ true
 sized-files-pass file la lt z h = accepted-files-pass file la lt z (no-unsized-operands file la lt h)
 
 -- In the five copies they are C and D, in the order of the actions' operands.
 pub five-copies-unsized : unsizedOperands fiveCopies 240 8 ≡ 2 ∷ 3 ∷ 3 ∷ 2 ∷ []
 unfolding fiveCopies starred-opens unsizedOperands fromSection fromWalk unsizedBeforeForward isUnsized ruledIn
 five-copies-unsized = refl
+
+-- The premise fails at each of its temporaries once.
+
+not-among : (m : ℕ) (ns : List ℕ) → any (eqb m) ns ≡ false → ¬ In m ns
+unfolding any if_then_else_
+not-among m [] h i = absurd i
+not-among m (n ∷ ns) h i = go (eqb m n) refl h i (not-among m ns)
+  where
+    go : (b : Bool) → eqb m n ≡ b → (if b then true else any (eqb m) ns) ≡ false → (m ≡ n) ⊎ In m ns
+        → (any (eqb m) ns ≡ false → ¬ In m ns) → ⊥
+    go true d h i r = clash refl h
+    go false d h (inl e) r = differs m n d e
+    go false d h (inr i) r = r h i
+
+joined-distinct : (ms ns : List ℕ) → Distinct ns → Distinct (joined ms ns)
+unfolding joined if_then_else_
+joined-distinct [] ns h = h
+joined-distinct (m ∷ ms) ns h = go (any (eqb m) (joined ms ns)) refl (joined-distinct ms ns h)
+  where
+    go : (b : Bool) → any (eqb m) (joined ms ns) ≡ b → Distinct (joined ms ns)
+        → Distinct (if b then joined ms ns else m ∷ joined ms ns)
+    go true d r = r
+    go false d r = (not-among m (joined ms ns) d, r)
+
+late-distinct : (sec : Section) (before : List ℕ) (xs : List SemanticAction) (s : Sizing) → Distinct (sizedLate sec before xs s)
+unfolding sizedLate
+late-distinct sec before [] s = tt
+late-distinct sec before (a ∷ xs) s = joined-distinct _ _ (late-distinct sec (ruled a ++ before) xs _)
+
+pub failures-distinct : (file : List ℕ) (la lt : ℕ) → Distinct (premiseFailures file la lt)
+unfolding premiseFailures lateIn whenRead sizedLateWalk on walked
+failures-distinct file la lt = go (read file)
+  where
+    after : (e : Env) (x : Outcome (Unit {0}))
+        → Distinct (walked (on e x (λ _ f s. done (sizedLate (f .section) [] ((backwardPass (f .section) (s .actions) (s .sizing)) .0)
+        ((backwardPass (f .section) (s .actions) (s .sizing)) .1))
+        (withSizing ((backwardPass (f .section) (s .actions) (s .sizing)) .1) s))))
+    after e (done x s) = late-distinct (e .section) [] _ _
+    after e (stopped r o k) = tt
+
+    go : (x : Parsed Section) → Distinct (lateIn la lt x)
+    go (parsed sec rest) = after (roomFor sec la lt) (resolveStatements (roomFor sec la lt) (atStart sec))
+    go (refused r) = tt

@@ -15,7 +15,7 @@ use Rattle.definition.specs.ActionList.{filled, actionWords, listWords, placesL
 use Rattle.definition.specs.Checker.{sameCount, countsFit, optionFits, numberFits, valueFits, plainBase, baseFits, layoutFits, isSized, sizeAt, hasSize, allHaveSize, sizeNamed, stepHolds, operationHolds, sizesHold, places, labelsOnce, allBuilt, operationNumbered, check}
 use Rattle.definition_guarantee.proofs.Tests.{never, eq-of, eq-same, same, differ, of-lt, and-true, both, all-from, first-from, then-some, any-from, append-none, none-some, some-same}
 use Rattle.definition_guarantee.proofs.Words.{parts-fit, laid-fits, filled-append, action-length, numbered, words-pass}
-use Rattle.definition_guarantee.specs.Conditions.{Among, input, output, NumberWithin, ValueWithin, ActionRight, Right}
+use Rattle.definition.specs.Right.{Among, input, output, NumberWithin, ValueWithin, ActionRight, Right}
 
 pub any-at : {A : Type 0} (p : A → Bool) (xs : List A) (i : ℕ) (x : A) → getElem? xs i ≡ some x → p x ≡ true → any p xs ≡ true
 unfolding any if_then_else_

@@ -9,19 +9,19 @@ use lib.ListN.{getElem?}
 use Rattle.prelude.specs.Base.{orElse, andThen, isSome}
 use Rattle.definition.specs.Value.{SemanticAction, Temporary}
 use Rattle.definition.specs.Ast.{Section}
-use Rattle.definition.specs.SectionFile.{Parsed, parsed, refused, read}
+use Rattle.definition.specs.SectionFile.{Parsed, read}
 use Rattle.definition.specs.Sizes.{Sizing, backwardPass}
 use Rattle.definition.specs.Walk.{State, Outcome, done, stopped}
 use Rattle.definition.specs.End.{resolveStatements, atStart}
-use Rattle.definition.specs.ActionList.{roomFor, resolve}
+use Rattle.definition.specs.ActionList.{roomFor, whenRead, resolve}
 use Rattle.definition.specs.Premise.{filter, ruled, premiseFailures, premise}
-use Rattle.definition.specs.Passing.{refusalIn, passes}
+use Rattle.definition.specs.Passing.{passes}
 
 -- The section is accepted, the premise fails at C and D, and the list does not pass.
-pub record PremiseNeeded (file : List ℕ) (la lt : ℕ) : Type 0 where
-  pub accepted : refusalIn (resolve file la lt) ≡ 0
-  pub failures : premiseFailures file la lt ≡ 3 ∷ 2 ∷ []
-  pub refused : passes file la lt ≡ false
+pub record PremiseNeeded (file : List ℕ) (lentActions lentTemporaries : ℕ) : Type 0 where
+  pub accepted : resolve file lentActions lentTemporaries .result .refusal ≡ 0
+  pub failures : premiseFailures file lentActions lentTemporaries ≡ 3 ∷ 2 ∷ []
+  pub refused : passes file lentActions lentTemporaries ≡ false
 
 -- What a description's writer can look at: the temporaries without a size after the walk over the statements; and those
 -- among the operands of operations with a rule, when the forward pass begins. Where there are none, the premise holds.
@@ -44,8 +44,10 @@ fromWalk f sec (done x s) = f sec s
 fromWalk f sec (stopped r ordinal errors) = []
 
 unfoldable pub fromSection : (Section → State → List ℕ) → ℕ → ℕ → Parsed Section → List ℕ
-fromSection f la lt (parsed sec rest) = fromWalk f sec (resolveStatements (roomFor sec la lt) (atStart sec))
-fromSection f la lt (refused r) = []
+fromSection f lentActions lentTemporaries = whenRead
+    (λ r. [])
+    (λ sec. fromWalk f sec (resolveStatements (roomFor sec lentActions lentTemporaries) (atStart sec)))
 
 unfoldable pub unsizedOperands : List ℕ → ℕ → ℕ → List ℕ
-unsizedOperands file la lt = fromSection unsizedBeforeForward la lt (read file)
+unsizedOperands file lentActions lentTemporaries =
+    fromSection unsizedBeforeForward lentActions lentTemporaries (read file)

@@ -3,12 +3,12 @@ use resolve_answer::answer::Answer;
 use resolve_file::resolve_words;
 ghost use mathlib.Core.Path.{_≡_};
 ghost use lib.ListN.{length};
-ghost use Rattle.definition.specs.ActionList.{resolve};
+ghost use Rattle.definition.specs.ActionList.{numbers, resolve};
 ghost use Rattle.definition.specs.Checker.{check};
 ghost use Rattle.definition.specs.Premise.{premise};
 ghost use mathlib.Core.Bool.{true};
 ghost use Rattle.definition.specs.Passing.{checked};
-ghost use Rattle.mizgalon.specs.Answers.{numbers, answer};
+ghost use Rattle.resolve_refinement.specs.Answers.{result, answer};
 
 // An answer, and whether its list passes the checker; a refused section's does not.
 pub struct Checked {
@@ -18,13 +18,13 @@ pub struct Checked {
 
 // Every file and every pair of lists: an accepted section, or one refusal after which both lists are zero.
 pub fn resolve(file: &[u8], actions: &mut [u64], temporaries: &mut [u64]) -> Answer
-    ensures { λ r. ⌜ answer (numbers r) (now (actions .exit)) (now (temporaries .exit)) ≡ resolve (now (file .entry)) (length (now (actions .entry))) (length (now (temporaries .entry))) ⌝ }
+    ensures { λ r. ⌜ answer (result r) (now (actions .exit)) (now (temporaries .exit)) ≡ resolve (now (file .entry)) (length (now (actions .entry))) (length (now (temporaries .entry))) ⌝ }
 {
     resolve_words(file, actions, temporaries)
 }
 
 fn numbers(answer: Answer) -> [u64; 12]
-    ensures { λ x. ⌜ x ≡ numbers answer ⌝ }
+    ensures { λ x. ⌜ x ≡ numbers (result answer) ⌝ }
 {
     [
         answer.refusal,
@@ -50,7 +50,9 @@ pub extern "C" fn mizgalon_resolve(
     temporaries: &mut [u64],
     result: &mut [u64; 12],
 )
-    ensures { λ _. ⌜ answer (now (result .exit)) (now (actions .exit)) (now (temporaries .exit)) ≡ resolve (now (file .entry)) (length (now (actions .entry))) (length (now (temporaries .entry))) ⌝ }
+    ensures { λ _. ⌜ now (result .exit) ≡ numbers (resolve (now (file .entry)) (length (now (actions .entry))) (length (now (temporaries .entry))) .result) ⌝ }
+    ensures { λ _. ⌜ now (actions .exit) ≡ resolve (now (file .entry)) (length (now (actions .entry))) (length (now (temporaries .entry))) .actions ⌝ }
+    ensures { λ _. ⌜ now (temporaries .exit) ≡ resolve (now (file .entry)) (length (now (actions .entry))) (length (now (temporaries .entry))) .temporaries ⌝ }
 {
     let r = resolve(file, actions, temporaries);
     *result = numbers(r);
@@ -58,7 +60,7 @@ pub extern "C" fn mizgalon_resolve(
 
 // Resolves and checks the outcome. Under the premise every accepted list passes.
 pub fn resolve_checked(file: &[u8], actions: &mut [u64], temporaries: &mut [u64]) -> Checked
-    ensures { λ r. ⌜ answer (numbers (r .answer)) (now (actions .exit)) (now (temporaries .exit)) ≡ resolve (now (file .entry)) (length (now (actions .entry))) (length (now (temporaries .entry))) ⌝ }
+    ensures { λ r. ⌜ answer (result (r .answer)) (now (actions .exit)) (now (temporaries .exit)) ≡ resolve (now (file .entry)) (length (now (actions .entry))) (length (now (temporaries .entry))) ⌝ }
     ensures { λ r. ⌜ r .passes ≡ checked (now (file .entry)) (length (now (actions .entry))) (length (now (temporaries .entry))) ⌝ }
     ensures { λ r. ⌜ (premise (now (file .entry)) (length (now (actions .entry))) (length (now (temporaries .entry))) ≡ true → r .answer .refusal ≡ 0 → r .passes ≡ true) ⌝ }
 {

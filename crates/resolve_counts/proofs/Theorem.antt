@@ -10,6 +10,7 @@ use borrow.Author.Tests.{eq-eqb}
 use Rattle.definition.specs.Refusals.{refusalNumber}
 use Rattle.definition.specs.Ast.{Section}
 use Rattle.definition.specs.SectionFile.{Parsed, parsed, refused, on, streamOf, section, read}
+use Rattle.definition.specs.ActionList.{whenRead}
 use Rattle.definition.specs.Passing.{subtableCount, pointerSizeIn}
 use Rattle.prelude.specs.Base.{if_then_else_}
 use Rattle.file_blocks.specs.Blocks.{refusalOf, joined}
@@ -20,7 +21,7 @@ use Rattle.resolve_refinement.proofs.Start.{pointer-is}
 use Rattle.resolve_counts.specs.Counts.{counts, tableCounts, readCounts, streamCounts}
 
 stream-counts : (x : List ℕ) → length x ≤ 65280 → (y : Parsed Section) → section x ≡ y → streamCounts x ≡ counts (subtableCount y) (pointerSizeIn y)
-unfolding streamCounts readCounts tableCounts refusalOf noTable subtableCount pointerSizeIn if_then_else_
+unfolding streamCounts readCounts tableCounts refusalOf noTable subtableCount pointerSizeIn whenRead if_then_else_
 stream-counts x few (refused r) q =
     let n : readStream x (replicate 3344 0) .refusal ≡ refusalNumber r = stream-refusal x (omega arith) ∙ rw q in
     rw (n, refusal-bad r)
@@ -44,4 +45,4 @@ module _ (file : List ℕ) where
     where
       go : (p : Parsed (List ℕ)) → (refusalOf p ≡ 0 → ⊥) → counts 0 0 ≡ counts (subtableCount (on p (λ stream _. section stream))) (pointerSizeIn (on p (λ stream _. section stream)))
       go (parsed x rest) h = absurd (h (unfold refusalOf in refl))
-      go (refused r) h = unfold subtableCount pointerSizeIn in refl
+      go (refused r) h = unfold subtableCount pointerSizeIn whenRead in refl

@@ -50,7 +50,7 @@ use Rattle.resolve_refinement.specs.Answers.{asAnswer}
 use Rattle.resolve_refinement.proofs.Answers.{refused-is}
 use Rattle.resolve_refinement.proofs.Left.{LeftAs, actions-left, Begun, actions-begun}
 use Rattle.resolve_refinement.proofs.Labels.{labels-kept}
-use Rattle.resolve_refinement.proofs.Accepted.{ExportHeld, accepted-is}
+use Rattle.resolve_refinement.proofs.Accepted.{ExportHeld, semantics, accepted-is}
 
 -- actions as the walk leaves them can be ruled, and after the passes finished
 
@@ -128,12 +128,12 @@ module _ (s t : List ℕ) (e : Env) (front tail marks rest : List ℕ) (holds : 
   M-length : length M ≡ length rest
   M-length = tmps-length marks rest (tmps from) (let c = inferred-is .counted in let r = stood .temporaries in omega arith)
 
-  abbrev semantics : List SemanticAction → Option Export → Semantics
-  semantics ys x = record { actions = d.implicitBuilds (inferred .0) 0 sub ++ ys; export = x }
+  abbrev made : List SemanticAction → State → Option Export → Semantics
+  made ys r x = semantics (e .section) (inferred .0) ys r x
 
   -- errors judged
   abbrev Judgement : List SemanticAction → State → Option Export → WordExport → Type 0
-  Judgement ys r x y = asAnswer (judged (actionsIn front tail ys) M sub (length (st .actions)) w y (encZ (r .sizing))) ≡ answered la (length rest) (on e (d.noErrors (r .sizing .errors) e r) λ _. λ e u. done (semantics ys x) u)
+  Judgement ys r x y = asAnswer (judged (actionsIn front tail ys) M sub (length (st .actions)) w y (encZ (r .sizing))) ≡ answered la (length rest) (on e (d.noErrors (r .sizing .errors) e r) λ _. λ e u. done (made ys r x) u)
 
   module _ (ys : List SemanticAction) (q : State) (finished : d.finishActions (inferred .0) e from ≡ done ys q) where
     after : AfterFinish (inferred .0) from ys q
@@ -151,7 +151,7 @@ module _ (s t : List ℕ) (e : Env) (front tail marks rest : List ℕ) (holds : 
 
     -- with no errors the end has changed nothing but the actions
     accepts : (r : State) → r .sizing .errors ≡ [] → (r .sizing .errors ≡ [] → r ≡ q) → (x : Option Export) (y : WordExport) → ExportHeld (e .section) (count from) x y
-        → asAnswer (accepted (actionsIn front tail ys) M sub (length (st .actions)) w y) ≡ answered la (length rest) (done (semantics ys x) r)
+        → asAnswer (accepted (actionsIn front tail ys) M sub (length (st .actions)) w y) ≡ answered la (length rest) (done (made ys r x) r)
     unfolding answered
     accepts r none-recorded same x y export =
         let i = inferred-is in
@@ -160,14 +160,14 @@ module _ (s t : List ℕ) (e : Env) (front tail marks rest : List ℕ) (holds : 
         let c : r ≡ from = rq ∙ f .0 in
         ap (λ (n : ℕ). asAnswer (accepted (actionsIn front tail ys) M sub n w y)) (sym many)
         ∙ accepted-is (e .section) front tail marks rest few begins short shorter (inferred .0) ys from w x y fits (after .built) (i .temporaries) (omega (arith, i .counted, stood .temporaries)) (sym (i .counted)) (leaves .statements) (leaves .placed ∙ sym (labels (f .1))) export
-        ∙ ap (λ (u : State). answered la (length rest) (done (semantics ys x) u)) (sym c)
+        ∙ ap (λ (u : State). answered la (length rest) (done (made ys u x) u)) (sym c)
 
     judgement : (r : State) → (r .sizing .errors ≡ [] → r ≡ q) → (x : Option Export) (y : WordExport) → ExportHeld (e .section) (count from) x y → Judgement ys r x y
     unfolding judged
     judgement r same x y export = go (r .sizing .errors) refl
       where
         go : (l : List (Option ℕ)) → r .sizing .errors ≡ l
-            → asAnswer (if eqb (length l) 0 then accepted (actionsIn front tail ys) M sub (length (st .actions)) w y else refused (actionsIn front tail ys) M 51 (firstError l) (length l)) ≡ answered la (length rest) (on e (d.noErrors l e r) λ _. λ e u. done (semantics ys x) u)
+            → asAnswer (if eqb (length l) 0 then accepted (actionsIn front tail ys) M sub (length (st .actions)) w y else refused (actionsIn front tail ys) M 51 (firstError l) (length l)) ≡ answered la (length rest) (on e (d.noErrors l e r) λ _. λ e u. done (made ys r x) u)
         go [] i = unfold if_then_else_ d.noErrors on in accepts r i same x y export
         go (o ∷ more) i = rw (ne-eqb (suc (length more)) 0 (λ z. omega arith)) (unfold if_then_else_ d.noErrors on answered refusalNumber firstError in refused-is (actionsIn front tail ys) M la (length rest) errorsRecorded o (suc (length more)) (actions-length front tail ys fits) M-length)
 
@@ -177,7 +177,7 @@ module _ (s t : List ℕ) (e : Env) (front tail marks rest : List ℕ) (holds : 
     Concludes x y =
         asAnswer (if eqb (y .kind) 0 then judged (actionsIn front tail ys) M sub (length (st .actions)) w y (encZ (q .sizing))
         else judged (actionsIn front tail ys) M sub (length (st .actions)) w (exportFixed y (fixSize s t M (y .v) (pointerSize (e .section)) (encZ (q .sizing)))) (fixSize s t M (y .v) (pointerSize (e .section)) (encZ (q .sizing)) .z))
-        ≡ answered la (length rest) (on e (d.finishExport x e q) λ x. λ e r. on e (d.noErrors (r .sizing .errors) e r) λ _. λ e u. done (semantics ys x) u)
+        ≡ answered la (length rest) (on e (d.finishExport x e q) λ x. λ e r. on e (d.noErrors (r .sizing .errors) e r) λ _. λ e u. done (made ys r x) u)
 
     fixed-same : (v : Value) (a : Option ℕ) → ((sizes.fixed (e .section) v a (q .sizing)) .1) .errors ≡ [] → withSizing ((sizes.fixed (e .section) v a (q .sizing)) .1) q ≡ q
     unfolding sizes.fixed
@@ -215,7 +215,7 @@ module _ (s t : List ℕ) (e : Env) (front tail marks rest : List ℕ) (holds : 
   -- the actions finished, or a refusal at the statement begun last
 
   abbrev concluded : List SemanticAction → Env → State → Outcome Semantics
-  concluded ys e q = on e (d.finishExport (st .export) e q) λ x. λ e r. on e (d.noErrors (r .sizing .errors) e r) λ _. λ e u. done (semantics ys x) u
+  concluded ys e q = on e (d.finishExport (st .export) e q) λ x. λ e r. on e (d.noErrors (r .sizing .errors) e r) λ _. λ e u. done (made ys r x) u
 
   export-held : ExportHeld (e .section) (count from) (st .export) (b .export)
   export-held = subst (λ (n : ℕ). ExportHeld (e .section) n (st .export) (b .export)) (sym (inferred-is .counted)) (leaves .export)

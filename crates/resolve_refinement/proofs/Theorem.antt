@@ -40,7 +40,7 @@ module _ (file a m : List ℕ) (short : length a < 2 ^ 60) (shorter : length m <
 
   stream-is : (x rest : List ℕ) → streamOf file ≡ parsed x rest → length x ≤ 65280 → (y : Parsed Section) → section x ≡ y → Lengths (length a) (length m) (resolveStream x a m)
       → asAnswer (resolveStream x a m) ≡ d.resolveRead (length a) (length m) y
-  unfolding resolveStream w.resolveRead d.resolveRead refusalOf noTable
+  unfolding resolveStream w.resolveRead d.resolveRead d.whenRead refusalOf noTable
   stream-is x rest p few (refused r) q l = refuses _ r (readStream x (replicate 3344 0) .refusal) (stream-refusal x (omega arith) ∙ rw q)
   stream-is x rest p few (parsed sec left) q l =
       let n : readStream x (replicate 3344 0) .refusal ≡ 0 = stream-refusal x (omega arith) ∙ rw q in
@@ -74,7 +74,7 @@ module _ (file a m : List ℕ) (short : length a < 2 ^ 60) (shorter : length m <
       go : (p : Parsed (List ℕ)) → streamOf file ≡ p → Lengths (length a) (length m) (if eqb (refusalOf p) 0 then resolveStream (joined (length file / 512) file) a m else answers.refused a m (refusalOf p) 65535 0)
           → asAnswer (if eqb (refusalOf p) 0 then resolveStream (joined (length file / 512) file) a m else answers.refused a m (refusalOf p) 65535 0) ≡ d.resolveRead (length a) (length m) (on p (λ stream _. section stream))
       go (parsed x rest) e l = joined-is x rest e l
-      go (refused r) e l = unfold refusalOf d.resolveRead in refuses _ r (refusalNumber r) refl
+      go (refused r) e l = unfold refusalOf d.resolveRead d.whenRead in refuses _ r (refusalNumber r) refl
 
   -- As a contract has it: of what a call leaves in the lists it knows that each is as long as it was.
   pub answered-is : (r : WordAnswer) (b n : List ℕ) → resolvedTo r b n ≡ resolveFile file a m → length b ≡ length a → length n ≡ length m → asAnswer (resolvedTo r b n) ≡ d.resolve file (length a) (length m)

@@ -4,11 +4,11 @@ use Rattle.codes_refinement.proofs.export_kinds.Reads as reads
 use Rattle.codes_refinement.proofs.export_kinds.Lts as lts
 use borrow.Author.Needs.{needs}
 use mathlib.Core.Path.{refl}
-use Rattle.definition.specs.ActionList.{exportNumber}
+use Rattle.definition.specs.ActionList.{exportKindNumber}
 use Rattle.codes_refinement.specs.Lists.{exportKinds}
 
 returns : tie.Need-returns
-unfolding exportNumber exportKinds
+unfolding exportKindNumber exportKinds
 returns c = refl
 
 pub export-kinds-spec : {M : Type 1} → statement M

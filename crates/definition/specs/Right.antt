@@ -6,11 +6,11 @@ use mathlib.Core.List.{List, _++_}
 use mathlib.Core.Option.{none, some}
 use lib.ListN.{length, getElem?, replicate}
 use Rattle.prelude.specs.Base.{isSome}
 use Rattle.definition.specs.Operations.{Operation}
 use Rattle.definition.specs.Value.{Kind, Value, ActionKind, SemanticAction}
 use Rattle.definition.specs.Sizes.{Operand, FixedSize, equal, sized, ruleOf, at}
 use Rattle.definition.specs.ActionList.{listWords}
-use Rattle.definition.specs.Checker.{Shape, shapeOf, sizeNamed}
+use Rattle.definition.specs.Checker.{Shape, shapeOf, sizeNamed, checker-opens}
 
 -- an element of a list
 abbrev pub Among : {A : Type 0} → A → List A → Type 0
@@ -55,7 +55,8 @@ pub record ActionRight (temporaries subtables pointerSize : ℕ) (a : SemanticAc
   pub equalSizes : (op : Operation) (ps : List Operand) (p q : Operand) (v u : Value) → a .kind ≡ ActionKind.Op op
       → Among (equal ps) (ruleOf op)
       → Among p ps → Among q ps → at p a ≡ some v → at q a ≡ some u → v .size ≡ u .size
-  pub fixedSizes : (op : Operation) (p : Operand) (z : FixedSize) (v : Value) → a .kind ≡ ActionKind.Op op → Among (sized p z) (ruleOf op)
+  pub fixedSizes : (op : Operation) (p : Operand) (z : FixedSize) (v : Value) → a .kind ≡ ActionKind.Op op
+      → Among (sized p z) (ruleOf op)
       → at p a ≡ some v → v .size ≡ some (sizeNamed pointerSize z)
   -- no subpiece is left
   pub noSubpiece : a .kind ≢ ActionKind.Op Operation.Subpiece
@@ -67,9 +68,16 @@ pub record Right (ws : List ℕ) (n temporaries subtables pointerSize : ℕ) : T
   pub count : length actions ≡ n
   pub fits : 24 * n ≤ length ws
   pub words : ws ≡ listWords actions ++ replicate (length ws - 24 * n) 0
-  pub each : (i : ℕ) (a : SemanticAction) → getElem? actions i ≡ some a → ActionRight temporaries subtables pointerSize a
+  pub each : (i : ℕ) (a : SemanticAction) → getElem? actions i ≡ some a
+      → ActionRight temporaries subtables pointerSize a
   -- two actions that place the same label are one action
   pub labelsOnce : (i j : ℕ) (a b : SemanticAction) → getElem? actions i ≡ some a → getElem? actions j ≡ some b
-      → a .kind ≡ ActionKind.Op Operation.PcodeLabel → b .kind ≡ ActionKind.Op Operation.PcodeLabel → a .number ≡ b .number → i ≡ j
+      → a .kind ≡ ActionKind.Op Operation.PcodeLabel → b .kind ≡ ActionKind.Op Operation.PcodeLabel
+      → a .number ≡ b .number → i ≡ j
   -- every subtable is built
-  pub allBuilt : (m : ℕ) → m < subtables → (a : SemanticAction) × Among a actions × (a .kind ≡ ActionKind.Build) × (a .number ≡ m)
+  pub allBuilt : (m : ℕ) → m < subtables
+      → (a : SemanticAction) × Among a actions × (a .kind ≡ ActionKind.Build) × (a .number ≡ m)
+
+unfoldable pub right-opens : Unit {0}
+unfolding checker-opens NumberWithin
+right-opens = tt

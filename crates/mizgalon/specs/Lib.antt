@@ -1,2 +1,0 @@
--- The answer as the numbers of the definition's result.
-pub mod Answers
