@@ -3,6 +3,7 @@ use Prim.Native.Nat.{ℕ, zero, suc, _+_, _*_, _/_, _%_, _^_}
 use mathlib.Core.Bool.{Bool, true, false}
 use mathlib.Core.List.{List, [], _∷_, _++_}
 use mathlib.Core.Option.{none}
+use Rattle.definition.specs.Operations.{Operation}
 use Rattle.definition.specs.Ast.{PcodeOp, PcodeExpr, noArgs, JumpLabel, BranchDst, BranchHint, Statement, Macro, Section}
 use Rattle.definition.specs.SectionFile.{read}
 use Rattle.definition.specs.ActionList.{Answer, numbers, filled, whenRead, resolve}
@@ -242,7 +243,7 @@ starredSections =
           ++ firstNames ++ hex 2 0x0178 ++ spacesAndRegisters
           ++ hex 12 0x050500060021000700000800);
       macros = [];
-      statements = Statement.Copy (PcodeExpr.Op (ident r4) PcodeOp.IntGreater (ident s4)) (ident localX) ∷ [];
+      statements = Statement.Copy (PcodeExpr.Op (ident r4) (PcodeOp.greater Operation.IntLess) (ident s4)) (ident localX) ∷ [];
       result = 0 ∷ 65535 ∷ 1 ∷ 1 ∷ 1 ∷ 0 ∷ 0 ∷ 0 ∷ 0 ∷ 0 ∷ 0 ∷ 0 ∷ [];
       actions = rows ((0 ∷ 12 ∷ 0 ∷ 2 ∷ tmp 0 1 ++ reg 1 4 ++ reg 0 4) ∷ []);
       temporaries = filled 8 (named localX 1 ∷ []);
