@@ -108,10 +108,8 @@ oneInputs =
 unfoldable pub operations : List Operation
 operations =
     operators ++ oneInputs
-    ++ (
-    Operation.Copy ∷ Operation.Load ∷ Operation.Store ∷ Operation.Branch ∷ Operation.PcodeBranch
-    ∷ Operation.PcodeLabel ∷ Operation.PcodeOp ∷ Operation.Arg ∷ Operation.Invalid ∷ Operation.Subpiece
-    ∷ [])
+    ++ (Operation.Copy ∷ Operation.Load ∷ Operation.Store ∷ Operation.Branch ∷ Operation.PcodeBranch
+    ∷ Operation.PcodeLabel ∷ Operation.PcodeOp ∷ Operation.Arg ∷ Operation.Invalid ∷ Operation.Subpiece ∷ [])
 
 abbrev pub isOp : Operation → Operation → Bool
 isOp a b = eqb (operationNumber a) (operationNumber b)

@@ -156,9 +156,8 @@ argsOf item (suc n) = do
 unfoldable pub pcodeOps : List PcodeOp
 pcodeOps =
     map PcodeOp.plain operators
-    ++ map PcodeOp.greater (
-    Operation.IntLess ∷ Operation.IntLessEqual ∷ Operation.IntSignedLess ∷ Operation.IntSignedLessEqual
-    ∷ Operation.FloatLess ∷ Operation.FloatLessEqual ∷ [])
+    ++ map PcodeOp.greater (Operation.IntLess ∷ Operation.IntLessEqual ∷ Operation.IntSignedLess
+    ∷ Operation.IntSignedLessEqual ∷ Operation.FloatLess ∷ Operation.FloatLessEqual ∷ [])
 
 module _ (names : ℕ) where
   abbrev pub name : Read ℕ
