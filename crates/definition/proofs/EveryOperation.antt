@@ -7,7 +7,8 @@ use native.Mathlib.Omega.{arith}
 use lib.Dec.{ltb}
 use lib.ListN.{getElem?}
 use Rattle.prelude.specs.Base.{if_then_else_}
-use Rattle.definition.specs.Operations.{Operation, operationNumber, operations, operations-opens}
+use Rattle.definition.specs.Operations.{Operation, operationNumber, operations}
+use Rattle.definition.proofs.Openers.{operations-opens}
 
 -- functions that give the same over a list give the same at each place
 pub same-at : {A B : Type 0} (f g : A → B) (xs : List A) (i : ℕ) (x : A) → map f xs ≡ map g xs

@@ -1,3 +1,5 @@
+-- The openers, which other crates' proofs use too; what is proved of the definition itself.
+pub mod Openers
 pub mod EveryOperation
 mod Sentences
 mod RightLists

@@ -7,10 +7,11 @@ use native.Mathlib.Omega.{arith}
 use lib.ListN.{length, getElem?, replicate}
 use Rattle.definition.specs.Operations.{Operation}
 use Rattle.definition.specs.Value.{Kind, Value, ActionKind, SemanticAction}
-use Rattle.definition.specs.Sizes.{in0, out, pointer, at, sizes-opens}
+use Rattle.definition.specs.Sizes.{in0, out, pointer, at}
 use Rattle.definition.specs.ActionList.{listWords}
 use Rattle.definition.specs.Checker.{sizeNamed}
 use Rattle.definition.specs.Right.{Among, input, NumberWithin, ValueWithin, ActionRight, Right}
+use Rattle.definition.proofs.Openers.{sizes-opens}
 
 -- the largest offset and size that a value can have
 pub largest-value : ValueWithin 0 0 (record { kind = Kind.Constant; number = 0; offset = 65535; size = some 65534 })

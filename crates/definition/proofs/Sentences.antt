@@ -5,14 +5,14 @@ use mathlib.Core.List.{[], _∷_, map}
 use mathlib.Core.Option.{some}
 use lib.ListN.{drop, replicate}
 use borrow.Author.Tests.{eq-eqb}
-use Rattle.prelude.specs.Base.{base-opens}
 use Rattle.definition.specs.Operations.{Operation, operators}
 use Rattle.definition.specs.Value.{Value}
 use Rattle.definition.specs.SectionFile.{pcodeOps}
-use Rattle.definition.specs.Sizes.{in0, in1, out, one, equal, sized, ruleOf, sizes-opens}
+use Rattle.definition.specs.Sizes.{in0, in1, out, one, equal, sized, ruleOf}
 use Rattle.definition.specs.Walk.{ExprValue, Walk}
 use Rattle.definition.specs.Scope.{find, bindParams}
 use Rattle.definition.specs.Expressions.{binary, resolveOp}
+use Rattle.definition.proofs.Openers.{base-opens, sizes-opens}
 
 -- "The six greater operators swap operands before either is resolved."
 pub greater-swapped : (a b : Walk Value) →

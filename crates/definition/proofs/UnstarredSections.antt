@@ -6,7 +6,8 @@ use mathlib.Core.List.{List, [], _∷_, _++_, map}
 use mathlib.Core.Option.{none}
 use Rattle.definition.specs.Ast.{PcodeExpr, noArgs, arg, Statement}
 use Rattle.definition.specs.ActionList.{filled}
-use Rattle.definition.specs.Starred.{WorkedSection, worked, hex, block, firstNames, spacesAndRegisters, r4, s4, localX, ident, rows, tmp, reg, named, starred-opens}
+use Rattle.definition.specs.Starred.{WorkedSection, worked, hex, block, firstNames, spacesAndRegisters, r4, s4, localX, ident, rows, tmp, reg, named}
+use Rattle.definition.proofs.Openers.{starred-opens}
 
 abbrev paramP : ℕ
 paramP = 8

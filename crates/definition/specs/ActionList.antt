@@ -5,13 +5,13 @@ use mathlib.Core.List.{List, [], _∷_, _++_, map}
 use mathlib.Core.Option.{Option, none, some}
 use lib.ListN.{length, replicate}
 use Rattle.prelude.specs.Base.{if_then_else_, orElse, andThen, sum}
-use Rattle.definition.specs.Refusals.{Refusal, refusalNumber, refusals-opens}
+use Rattle.definition.specs.Refusals.{Refusal, refusalNumber}
 use Rattle.definition.specs.Operations.{Operation, operationNumber, isOp}
 use Rattle.definition.specs.Value.{Value, kindNumber, ActionKind, SemanticAction, operationOf, Temporary, ExportKind, Export}
 use Rattle.definition.specs.Ast.{Section}
-use Rattle.definition.specs.SectionFile.{Parsed, parsed, refused, read, section-file-opens}
+use Rattle.definition.specs.SectionFile.{Parsed, parsed, refused, read}
 use Rattle.definition.specs.Walk.{Env, Outcome, done, stopped}
-use Rattle.definition.specs.End.{Semantics, resolveSection, atStart, end-opens}
+use Rattle.definition.specs.End.{Semantics, resolveSection, atStart}
 
 -- none is 65,535
 unfoldable pub orNone : Option ℕ → ℕ
@@ -192,7 +192,3 @@ module _ (lentActions lentTemporaries : ℕ) where
 -- A file's answer.
 unfoldable pub resolve : List ℕ → ℕ → ℕ → Answer
 resolve file lentActions lentTemporaries = resolveRead lentActions lentTemporaries (read file)
-
-unfoldable pub action-list-opens : Unit {0}
-unfolding section-file-opens refusals-opens end-opens orNone valueWords inputWords actionKindNumber outputWords operationWord filled actionWords listWords temporaryWord placesLabel labelsPlaced points exportKindNumber ofExport refusalResult acceptedResult roomFor whenRead refusal accepted answered resolveRead resolve
-action-list-opens = tt

@@ -11,7 +11,7 @@ use Rattle.definition.specs.Operations.{Operation, operationNumber, oper
 use Rattle.definition.specs.Value.{Kind, Value, ActionKind, SemanticAction, operationOf}
 use Rattle.definition.specs.Sizes.{Operand, FixedSize, one, pointer, Step, equal, sized, unsized, stepsOf, at, isSize}
 use Rattle.definition.specs.End.{builds}
-use Rattle.definition.specs.ActionList.{filled, actionWords, listWords, placesLabel, action-list-opens}
+use Rattle.definition.specs.ActionList.{filled, actionWords, listWords, placesLabel}
 
 -- The input and output counts that `resolve` can give an action, and what its number stays below.
 
@@ -237,7 +237,3 @@ check ws actions temporaries subtables pointerSize =
     if leb (24 * actions) (length ws)
     then orElse false (andThen (actionsFrom actions ws) λ found.
     some (listHolds ws temporaries subtables pointerSize found)) else false
-
-unfoldable pub checker-opens : Unit {0}
-unfolding action-list-opens shapes operationNumbered opNumbered actionKindNumbered kinds sizeFrom valueFrom inputsFrom someValue outputFrom actionFrom actionsFrom sameCount countsFit plainBase baseFits shapeFits optionFits shapeOf numberFits valueFits layoutFits isSized sizeAt hasSize allHaveSize sizeNamed stepHolds operationHolds sizesHold places labelsOnce allBuilt listHolds check
-checker-opens = tt

@@ -13,7 +13,7 @@ use Rattle.definition.specs.Ast.{Macro, Section}
 use Rattle.definition.specs.Sizes.{Sizing, applySizeInference, fixSize, fixOperands}
 use Rattle.definition.specs.Walk.{State, Env, Outcome, stopped, Walk, _>>=_, _>>_, pure, require, expect, env, section, state, sizing, sliced}
 use Rattle.definition.specs.Scope.{sectionScope}
-use Rattle.definition.specs.Statements.{ordinalAfter, resolveBody, statements-opens}
+use Rattle.definition.specs.Statements.{ordinalAfter, resolveBody}
 
 -- 51 has the first error's ordinal and the count
 unfoldable pub noErrors : List (Option ℕ) → Walk (Unit {0})
@@ -119,7 +119,3 @@ atStart sec = record {
   actions = [];
   export = none;
 }
-
-unfoldable pub end-opens : Unit {0}
-unfolding statements-opens noErrors slicedInputs subpieceCopy finishOp finishActions finishExport isBuild builds implicitBuilds finish resolveStatements resolveSection atStart
-end-opens = tt

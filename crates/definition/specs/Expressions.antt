@@ -10,10 +10,10 @@ use Rattle.definition.specs.Refusals.{addressOfNonLocal, addressOfOffset
 use Rattle.definition.specs.Operations.{Operation}
 use Rattle.definition.specs.Value.{Value, local, constant, withSize, truncate, ActionKind}
 use Rattle.definition.specs.Ast.{PcodeOp, PcodeExpr, Args, noArgs, arg, SpaceKind, Space}
-use Rattle.definition.specs.Spellings.{Inbuilt, translateInbuiltFunc, spellings-opens}
+use Rattle.definition.specs.Spellings.{Inbuilt, translateInbuiltFunc}
 use Rattle.definition.specs.Sizes.{setSize}
 use Rattle.definition.specs.Walk.{ExprValue, Walk, _>>=_, _>>_, pure, refuse, require, expect, section, sizing, knownSize, sliced, addTmp, outputOr, push, op, opNoOutput}
-use Rattle.definition.specs.Scope.{Symbol, lookup, asSpace, resolveIdent, scope-opens}
+use Rattle.definition.specs.Scope.{Symbol, lookup, asSpace, resolveIdent}
 
 -- Masks have the low n bits set, all 64 from n = 64.
 
@@ -288,7 +288,3 @@ unfoldable mutual
     v ← valueOf (resolveExpr x)
     vs ← resolveArgValues xs
     pure (v ∷ vs)
-
-unfoldable pub expressions-opens : Unit {0}
-unfolding scope-opens spellings-opens copyTo setStated takeKnown takeStated byteAligned shiftAndMask readSlice readValue readAll sliceRead sliceBits asLocal resolveSpace inConstSpace reference isName addressIn resolveAddress binary resolveOp passArgs callUserOp argCount asInteger onlyInteger subpiece callSymbol callInbuilt callNamed resolveCall resolveExpr
-expressions-opens = tt

@@ -4,7 +4,7 @@ use Prim.Native.Nat.{ℕ}
 use mathlib.Core.Bool.{Bool}
 use mathlib.Core.List.{List, [], _∷_, _++_}
 use lib.Dec.{eqb}
-use Rattle.prelude.specs.Base.{any, base-opens}
+use Rattle.prelude.specs.Base.{any}
 
 pub data Operation : Type 0 where
   -- 0 to 32, the operators
@@ -116,7 +116,3 @@ isOp a b = eqb (operationNumber a) (operationNumber b)
 
 unfoldable pub among : List Operation → Operation → Bool
 among group op = any (isOp op) group
-
-unfoldable pub operations-opens : Unit {0}
-unfolding base-opens operationNumber operators oneInputs operations among
-operations-opens = tt

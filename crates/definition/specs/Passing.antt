@@ -10,7 +10,7 @@ use Rattle.definition.specs.Ast.{Section}
 use Rattle.definition.specs.SectionFile.{Parsed, read}
 use Rattle.definition.specs.Sizes.{pointerSize}
 use Rattle.definition.specs.ActionList.{Answer, whenRead, resolve}
-use Rattle.definition.specs.Checker.{check, checker-opens}
+use Rattle.definition.specs.Checker.{check}
 
 -- the section's subtable count and pointer size
 unfoldable pub subtableCount : Parsed Section → ℕ
@@ -30,7 +30,3 @@ unfoldable pub checked : List ℕ → ℕ → ℕ → Bool
 checked file lentActions lentTemporaries =
     if eqb (resolve file lentActions lentTemporaries .result .refusal) 0
     then passes file lentActions lentTemporaries else false
-
-unfoldable pub passing-opens : Unit {0}
-unfolding checker-opens subtableCount pointerSizeIn checked
-passing-opens = tt

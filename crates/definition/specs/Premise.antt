@@ -13,7 +13,7 @@ use Rattle.definition.specs.SectionFile.{Parsed, read}
 use Rattle.definition.specs.Sizes.{Sizing, Step, stepsOf, updateOperandSizes, backwardPass}
 use Rattle.definition.specs.Walk.{Outcome, done, stopped, Walk, _>>=_, _>>_, pure, section, state, sizing}
 use Rattle.definition.specs.End.{resolveStatements, atStart}
-use Rattle.definition.specs.ActionList.{roomFor, whenRead, action-list-opens}
+use Rattle.definition.specs.ActionList.{roomFor, whenRead}
 
 unfoldable pub filter : {A : Type 0} → (A → Bool) → List A → List A
 filter p [] = []
@@ -81,7 +81,3 @@ none? (x ∷ xs) = false
 
 unfoldable pub premise : List ℕ → ℕ → ℕ → Bool
 premise file lentActions lentTemporaries = none? (premiseFailures file lentActions lentTemporaries)
-
-unfoldable pub premise-opens : Unit {0}
-unfolding action-list-opens filter temporariesAmong operands underRule ruled isSizedIn joined sizedLate sizedLateWalk walked lateIn premiseFailures none? premise
-premise-opens = tt

@@ -51,7 +51,3 @@ refusalNumber Refusal.shiftTooFar = 41
 refusalNumber Refusal.offsetTooFar = 42
 refusalNumber Refusal.subpieceSize = 50
 refusalNumber Refusal.errorsRecorded = 51
-
-unfoldable pub refusals-opens : Unit {0}
-unfolding refusalNumber
-refusals-opens = tt

@@ -10,7 +10,7 @@ use Rattle.definition.specs.Operations.{Operation}
 use Rattle.definition.specs.Value.{Kind, Value, ActionKind, SemanticAction}
 use Rattle.definition.specs.Sizes.{Operand, FixedSize, equal, sized, ruleOf, at}
 use Rattle.definition.specs.ActionList.{listWords}
-use Rattle.definition.specs.Checker.{Shape, shapeOf, sizeNamed, checker-opens}
+use Rattle.definition.specs.Checker.{Shape, shapeOf, sizeNamed}
 
 -- an element of a list
 abbrev pub Among : {A : Type 0} → A → List A → Type 0
@@ -77,7 +77,3 @@ pub record Right (ws : List ℕ) (n temporaries subtables pointerSize : ℕ) : T
   -- every subtable is built
   pub allBuilt : (m : ℕ) → m < subtables
       → (a : SemanticAction) × Among a actions × (a .kind ≡ ActionKind.Build) × (a .number ≡ m)
-
-unfoldable pub right-opens : Unit {0}
-unfolding checker-opens NumberWithin
-right-opens = tt

@@ -4,11 +4,11 @@ use mathlib.Core.Bool.{true, false, not}
 use mathlib.Core.List.{List, [], _∷_, _++_, map}
 use mathlib.Core.Option.{Option, none, some}
 use lib.Dec.{eqb, leb}
-use Rattle.prelude.specs.Base.{if_then_else_, _or_, andThen, isSome, first, base-opens}
+use Rattle.prelude.specs.Base.{if_then_else_, _or_, andThen, isSome, first}
 use Rattle.definition.specs.Refusals.{Refusal, undefined, wrongKind, redeclared, tooManyLabels, labelTwice}
 use Rattle.definition.specs.Value.{Kind, Value, local}
 use Rattle.definition.specs.Ast.{Space as SpaceEntry, Register as RegisterEntry, BitRange as BitRangeEntry, Table as TableEntry, Macro as MacroEntry, Field as FieldEntry, Subtable as SubtableEntry, Section}
-use Rattle.definition.specs.Walk.{ExprValue, Label, Scope, State, Walk, _>>=_, _>>_, pure, refuse, require, section, state, change, withScope, withLabel, addTmp, walk-opens}
+use Rattle.definition.specs.Walk.{ExprValue, Label, Scope, State, Walk, _>>=_, _>>_, pure, refuse, require, section, state, change, withScope, withLabel, addTmp}
 
 unfoldable pub find : {A : Type 0} → ℕ → List (ℕ × A) → Option A
 find n entries = first (λ e. if eqb n (e .0) then some (e .1) else none) entries
@@ -179,7 +179,3 @@ bindParams (n ∷ ns) (x ∷ xs) bound = bindParams ns xs ((n, x) ∷ bound)
 
 unfoldable pub macroScope : List ℕ → List ExprValue → Scope
 macroScope params args = record { params = bindParams params args []; mapping = []; labels = [] }
-
-unfoldable pub scope-opens : Unit {0}
-unfolding base-opens walk-opens find putEntry symbols globals lookup asSpace asTable registerBits globalMeaning innerMeaning meaningOf meaning meant resolveIdent namedTmp labelOr getOrInsertLabel resolveLabel locals sectionScope bindParams macroScope
-scope-opens = tt

@@ -6,10 +6,10 @@ use mathlib.Core.List.{List, [], _∷_, _++_, map}
 use mathlib.Core.Option.{Option, none, some}
 use lib.ListN.{length, take, drop, getD, getElem?}
 use lib.Dec.{eqb, leb, ltb}
-use Rattle.prelude.specs.Base.{if_then_else_, any, all, sum, sameBytes, base-opens}
+use Rattle.prelude.specs.Base.{if_then_else_, any, all, sum, sameBytes}
 use Rattle.definition.specs.Refusals.{Refusal, badLength, blockCheck, malformed}
 use Rattle.definition.specs.Refusals.{outsideLimit, namesNothing, spelledTwice}
-use Rattle.definition.specs.Operations.{Operation, operators, operations-opens}
+use Rattle.definition.specs.Operations.{Operation, operators}
 use Rattle.definition.specs.Ast.{PcodeOp, PcodeExpr, Args, noArgs, arg, JumpLabel, BranchDst, BranchHint}
 use Rattle.definition.specs.Ast.{Statement, SpaceKind, Space, Register, BitRange, Table, Macro, Field, Subtable}
 use Rattle.definition.specs.Ast.{Header, Section}
@@ -383,7 +383,3 @@ section = header >>= lists
 -- the section of a file's bytes; the whole file is read before anything is resolved
 unfoldable pub read : Read Section
 read file = on (streamOf file) λ stream _. section stream
-
-unfoldable pub section-file-opens : Unit {0}
-unfolding base-opens operations-opens on require checksOut bytes payloads wholeBlocks streamOf u8 littleEndian upTo naming orAbsent choose code oneOf listOf argsOf pcodeOps call exprs exprWithin jumpLabel branchDst branchHint statement entries space register bitRange table macro field subtable spelling spellings header nothingLeft lists section read
-section-file-opens = tt

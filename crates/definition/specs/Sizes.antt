@@ -5,10 +5,9 @@ use mathlib.Core.List.{List, [], _∷_, _++_}
 use mathlib.Core.Option.{Option, none, some}
 use lib.ListN.{getElem?, set}
 use lib.Dec.{eqb}
-use Rattle.prelude.specs.Base.{if_then_else_, _or_, orElse, andThen, isSome, all, first, base-opens}
-use Rattle.definition.specs.Operations.{Operation, among, operations-opens}
+use Rattle.prelude.specs.Base.{if_then_else_, _or_, orElse, andThen, isSome, all, first}
+use Rattle.definition.specs.Operations.{Operation, among}
 use Rattle.definition.specs.Value.{Kind, Value, isKind, truncate, SemanticAction, operationOf, Temporary}
-use Rattle.definition.specs.Value.{value-opens}
 use Rattle.definition.specs.Ast.{Space, Register, Table, Field, Subtable, Section}
 
 -- The rules, as a table from operations to steps.
@@ -276,7 +275,3 @@ module _ (sec : Section) where
     inputs ← fixInputs (a .inputs)
     output ← fixOutput (a .output)
     pure (record { kind = a .kind; number = a .number; inputs = inputs; output = output })
-
-unfoldable pub sizes-opens : Unit {0}
-unfolding base-opens operations-opens value-opens rules ruleOf stepsOf isSize butFirst at put pointerSize exportSizeOf sizeOfLocal sizeOf fallbackSize sizedTmp sizeTemporary settled setSize setGiven setOperand setOperands shareSize setSizeOfAll fixedSize setUnsized applyStep applySteps updateOperandSizes backwardPass forwardPass applySizeInference fixed fixSize fixInputs fixOutput fixOperands
-sizes-opens = tt

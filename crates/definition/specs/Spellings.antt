@@ -4,8 +4,8 @@ use Prim.Native.Char.{code}
 use Prim.Native.String.{String, [] as end, _∷_ as _then_}
 use mathlib.Core.List.{List, [], _∷_}
 use mathlib.Core.Option.{Option, none, some}
-use Rattle.prelude.specs.Base.{if_then_else_, first, sameBytes, base-opens}
-use Rattle.definition.specs.Operations.{Operation, operations-opens}
+use Rattle.prelude.specs.Base.{if_then_else_, first, sameBytes}
+use Rattle.definition.specs.Operations.{Operation}
 
 unfoldable pub bytesOf : String → List ℕ
 bytesOf end = []
@@ -47,7 +47,3 @@ inbuilts =
 
 unfoldable pub translateInbuiltFunc : List ℕ → Option Inbuilt
 translateInbuiltFunc name = first (λ (x : Inbuilt). if sameBytes name (x .spelling) then some x else none) inbuilts
-
-unfoldable pub spellings-opens : Unit {0}
-unfolding base-opens operations-opens bytesOf inbuilt inbuilts translateInbuiltFunc
-spellings-opens = tt

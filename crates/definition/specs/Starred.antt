@@ -7,8 +7,8 @@ use Rattle.definition.specs.Operations.{Operation}
 use Rattle.definition.specs.Ast.{PcodeOp, PcodeExpr, noArgs, JumpLabel, BranchDst, BranchHint, Statement, Macro, Section}
 use Rattle.definition.specs.SectionFile.{read}
 use Rattle.definition.specs.ActionList.{Answer, numbers, filled, whenRead, resolve}
-use Rattle.definition.specs.Premise.{premiseFailures, premise-opens}
-use Rattle.definition.specs.Passing.{checked, passing-opens}
+use Rattle.definition.specs.Premise.{premiseFailures}
+use Rattle.definition.specs.Passing.{checked}
 
 pub record WorkedSection : Type 0 where
   pub file : List ℕ
@@ -330,7 +330,3 @@ starredSections =
       checked = false;
     }
     ∷ []
-
-unfoldable pub starred-opens : Unit {0}
-unfolding passing-opens premise-opens worked bytesBefore block firstNames spacesAndRegisters padded starredSections
-starred-opens = tt

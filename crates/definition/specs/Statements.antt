@@ -13,7 +13,7 @@ use Rattle.definition.specs.Ast.{PcodeExpr, Args, JumpLabel, BranchDst, 
 use Rattle.definition.specs.Sizes.{Sizing, pointerSize}
 use Rattle.definition.specs.Walk.{ExprValue, State, Walk, _>>=_, _>>_, pure, refuse, require, expect, section, state, change, withScope, withExport, knownSize, sliced, addTmp, push, op, opNoOutput}
 use Rattle.definition.specs.Scope.{Symbol, lookup, asTable, Meaning, means, wrong, meaning, resolveIdent, namedTmp, getOrInsertLabel, resolveLabel, macroScope}
-use Rattle.definition.specs.Expressions.{mask, setStated, takeStated, byteAligned, readValue, valueOf, readAll, asLocal, resolveAddress, onlyInteger, resolveExpr, resolveArgs, expressions-opens}
+use Rattle.definition.specs.Expressions.{mask, setStated, takeStated, byteAligned, readValue, valueOf, readAll, asLocal, resolveAddress, onlyInteger, resolveExpr, resolveArgs}
 
 -- Targets.
 
@@ -314,7 +314,3 @@ enterMacro body id m xs = do
 unfoldable pub resolveBody : ℕ → ℕ → List Statement → Walk (Unit {0})
 resolveBody zero ordinal body = resolveAll (resolveStatement λ id m xs. refuse macroTooDeep) ordinal body
 resolveBody (suc depth) ordinal body = resolveAll (resolveStatement (enterMacro (resolveBody depth))) ordinal body
-
-unfoldable pub statements-opens : Unit {0}
-unfolding expressions-opens asDestination asName targetName dstMeaning dstNamed resolveDst store writeBits readTo copyInto asReference storeRegister storeIn storeAt exported exportOf build hintNumber jumpValue directAddress resolveBranch delaySlot userOpStatement macroStatement symbolStatement callStatement resolveStatement ordinalAfter beginAt counted begin resolveAll enterMacro resolveBody
-statements-opens = tt

@@ -78,7 +78,3 @@ pub record Export : Type 0 where
   pub kind : ExportKind
   pub value : Value
   pub accessSize : ℕ
-
-unfoldable pub value-opens : Unit {0}
-unfolding kindNumber isKind operationOf
-value-opens = tt

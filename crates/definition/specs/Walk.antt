@@ -5,12 +5,12 @@ use mathlib.Core.List.{List, [], _∷_, _++_}
 use mathlib.Core.Option.{Option, none, some}
 use lib.ListN.{length}
 use lib.Dec.{leb}
-use Rattle.prelude.specs.Base.{if_then_else_, orElse, base-opens}
+use Rattle.prelude.specs.Base.{if_then_else_, orElse}
 use Rattle.definition.specs.Refusals.{Refusal, listFull, tooManyTemporaries, offsetTooFar}
 use Rattle.definition.specs.Operations.{Operation}
 use Rattle.definition.specs.Value.{Kind, Value, local, sliceBytes, ActionKind, SemanticAction, Temporary, Export}
 use Rattle.definition.specs.Ast.{Section}
-use Rattle.definition.specs.Sizes.{Sizing, withTemporaries, sizeOf, updateOperandSizes, sizes-opens}
+use Rattle.definition.specs.Sizes.{Sizing, withTemporaries, sizeOf, updateOperandSizes}
 
 -- `ExprValue`: what an expression means before it is read. Apply stands for NullaryOp, UnaryOp and BinOp: an operation,
 -- its number and its inputs.
@@ -206,7 +206,3 @@ unfoldable pub opNoOutput : Operation → ℕ → List Value → Walk (Unit {0})
 opNoOutput operation n inputs = do
   _ ← pushOp operation n inputs none
   pure tt
-
-unfoldable pub walk-opens : Unit {0}
-unfolding sizes-opens on require expect sliced addTmp outputOr push pushOp op opNoOutput
-walk-opens = tt

@@ -6,11 +6,12 @@ use mathlib.Core.List.{List, [], _∷_}
 use mathlib.Core.Option.{Option, none, some}
 use lib.ListN.{getElem?}
 use Rattle.prelude.specs.Base.{_or_, andThen, isSome, all, first}
-use Rattle.definition.specs.Operations.{Operation, operations-opens}
+use Rattle.definition.specs.Operations.{Operation}
 use Rattle.definition.specs.Value.{Value, truncate, ActionKind, SemanticAction, operationOf, Temporary}
 use Rattle.definition.specs.Ast.{Section}
 use Rattle.definition.specs.Sizes.{Operand, in0, in1, out, FixedSize, one, pointer, Step, equal, sized, unsized, rules, ruleOf, stepsOf, isSize, at, pointerSize, fixedSize}
 use Rattle.definition.specs.Checker.{optionFits, isSized, sizeAt, hasSize, allHaveSize, sizeNamed, stepHolds, operationHolds, sizesHold}
+use Rattle.definition.proofs.Openers.{operations-opens}
 use Rattle.definition_guarantee.specs.Tests.{Each}
 use Rattle.definition_guarantee.proofs.Tests.{same, both, all-cons, all-parts, all-from, first-from, then-some, none-some}
 use Rattle.definition_guarantee.proofs.Growth.{own-size}

@@ -9,11 +9,12 @@ use native.Mathlib.Omega.{arith}
 use lib.Dec.{eqb}
 use lib.ListN.{length, getElem?}
 use Rattle.prelude.specs.Base.{if_then_else_, _or_, orElse, andThen, isSome, all, first}
-use Rattle.definition.specs.Operations.{Operation, operationNumber, isOp, operations-opens}
+use Rattle.definition.specs.Operations.{Operation, operationNumber, isOp}
 use Rattle.definition.specs.Value.{Kind, Value, isKind, truncate, sliceBytes, ActionKind, SemanticAction, operationOf, Temporary}
 use Rattle.definition.specs.Ast.{Register, Field, Subtable, Section}
 use Rattle.definition.specs.Sizes.{Operand, in0, in1, out, FixedSize, one, pointer, Step, equal, sized, unsized, rules, ruleOf, stepsOf, at, put, Sizing, pointerSize, exportSizeOf, sizeOfLocal, sizeOf, fallbackSize, setSize, setGiven, setOperand, setOperands, knownAt, shareSize, setSizeOfAll, fixedSize, setUnsized, applyStep, applySteps, updateOperandSizes, backwardPass, forwardPass, isSize, butFirst}
 use Rattle.definition.specs.Checker.{Shape, shapes, shapeOf, countsFit, sameCount, optionFits, valueFits, layoutFits, baseFits}
+use Rattle.definition.proofs.Openers.{operations-opens}
 use Rattle.definition_guarantee.specs.Tests.{Each}
 use Rattle.definition_guarantee.proofs.Tests.{clash, eq-of, eq-same, same, all-parts, all-set, all-cons, first-from, then-some, none-some}
 use Rattle.definition_guarantee.proofs.Growth.{tmpSize, Touched}

@@ -18,13 +18,14 @@ use Rattle.definition.specs.Walk.{State, Env, Outcome, done, stopped, on, withS
 use Rattle.definition.specs.End.{resolveStatements, atStart}
 use Rattle.definition.specs.ActionList.{roomFor, whenRead, resolve}
 use Rattle.definition.specs.Premise.{filter, ruled, isSizedIn, joined, sizedLate, sizedLateWalk, walked, lateIn, premiseFailures, none?, premise}
-use Rattle.definition.specs.Starred.{WorkedSection, starredSections, starred-opens}
+use Rattle.definition.specs.Starred.{WorkedSection, starredSections}
 use Rattle.definition_guarantee.proofs.Tests.{In, in-left, in-right, eq-of, differs, lt-of, not-lt, clash}
 use Rattle.definition_guarantee.proofs.Growth.{tmpSize, Grown}
 use Rattle.definition_guarantee.proofs.Rules.{steps-grown}
 use Rattle.definition_guarantee.proofs.Forward.{filter-none, backward-grown}
 use Rattle.definition_guarantee.proofs.WholeList.{Distinct}
 use Rattle.definition.specs.Passing.{passes}
+use Rattle.definition.proofs.Openers.{starred-opens}
 use Rattle.definition_guarantee.proofs.Guarantee.{accepted-files-pass}
 use Rattle.definition_guarantee.specs.PremiseLaws.{PremiseNeeded, isUnsized, ruledIn, unsizedBeforeForward, fromWalk, fromSection, unsizedOperands}
 

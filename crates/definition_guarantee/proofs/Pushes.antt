@@ -10,12 +10,13 @@ use lib.Dec.{eqb, leb, ltb}
 use lib.ListN.{length, length-append}
 use Rattle.prelude.specs.Base.{if_then_else_, orElse, andThen, isSome, any, all, first}
 use Rattle.definition.specs.Refusals.{listFull, tooManyTemporaries}
-use Rattle.definition.specs.Operations.{Operation, operationNumber, isOp, operations-opens}
+use Rattle.definition.specs.Operations.{Operation, operationNumber, isOp}
 use Rattle.definition.specs.Value.{Kind, Value, local, ActionKind, SemanticAction, operationOf, Temporary}
 use Rattle.definition.specs.Ast.{Section}
 use Rattle.definition.specs.Sizes.{at, Sizing, withTemporaries, stepsOf, updateOperandSizes}
 use Rattle.definition.specs.Walk.{ExprValue, Scope, State, Env, done, on, require, sizing, withSizing, withAction, addTmp, outputOr, push, pushOp, op, opNoOutput}
 use Rattle.definition.specs.Checker.{Shape, OperationShape, shapes, shapeOf, sameCount, countsFit, optionFits, numberFits, valueFits, baseFits}
+use Rattle.definition.proofs.Openers.{operations-opens}
 use Rattle.definition_guarantee.specs.Tests.{Each}
 use Rattle.definition_guarantee.proofs.Tests.{never, le-of, lt-of, of-lt, eq-of, and-true, both, if-true, each-all, each-append, each-more, then-some, or-true, append-none, none-some, some-same}
 use Rattle.definition_guarantee.proofs.Growth.{tmpSize}

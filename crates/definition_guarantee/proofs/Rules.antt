@@ -8,11 +8,12 @@ use mathlib.Core.List.{List, [], _∷_}
 use mathlib.Core.Option.{Option, none, some}
 use lib.Dec.{eqb}
 use lib.ListN.{length, getElem?, set, length-set}
-use Rattle.prelude.specs.Base.{if_then_else_, _or_, orElse, andThen, isSome, all, first, base-opens}
+use Rattle.prelude.specs.Base.{if_then_else_, _or_, orElse, andThen, isSome, all, first}
 use Rattle.definition.specs.Operations.{Operation, among}
 use Rattle.definition.specs.Value.{Kind, kindNumber, Value, truncate, SemanticAction, Temporary}
 use Rattle.definition.specs.Ast.{Section}
 use Rattle.definition.specs.Sizes.{Operand, in0, in1, out, FixedSize, one, pointer, Step, equal, sized, unsized, Rule, rules, ruleOf, at, put, Sizing, sizeOfLocal, sizeOf, fallbackSize, setSize, setGiven, setOperand, setOperands, knownAt, shareSize, setSizeOfAll, fixedSize, setUnsized, applyStep, applySteps, isSize, butFirst}
+use Rattle.definition.proofs.Openers.{base-opens}
 use Rattle.definition_guarantee.proofs.Tests.{never, eq-of, all-at, first-from, chosen, first-none, none-some, some-same}
 use Rattle.definition_guarantee.proofs.Growth.{tmpSize, Grown, grown-refl, grown-trans, Touched, touched-refl, local-same, local-tmp, known-stays, size-none, own-size, settled-touched}
 

@@ -5,13 +5,14 @@ use mathlib.Core.Bool.{true, false}
 use mathlib.Core.List.{List, [], _∷_}
 use mathlib.Core.Option.{Option, none, some}
 use native.Mathlib.Omega.{arith}
-use Rattle.prelude.specs.Base.{orElse, all, sameBytes, base-opens}
-use Rattle.definition.specs.Operations.{Operation, operations-opens}
+use Rattle.prelude.specs.Base.{orElse, all, sameBytes}
+use Rattle.definition.specs.Operations.{Operation}
 use Rattle.definition.specs.Value.{Kind, Value, local, ActionKind}
 use Rattle.definition.specs.Ast.{PcodeOp}
-use Rattle.definition.specs.Spellings.{Inbuilt, inbuilts, translateInbuiltFunc, spellings-opens}
+use Rattle.definition.specs.Spellings.{Inbuilt, inbuilts, translateInbuiltFunc}
 use Rattle.definition.specs.SectionFile.{pcodeOps}
 use Rattle.definition.specs.Checker.{shapes, shapeOf, sameCount, countsFit, optionFits, numberFits, valueFits, plainBase, baseFits}
+use Rattle.definition.proofs.Openers.{base-opens, operations-opens, spellings-opens}
 use Rattle.definition_guarantee.specs.Limits.{OperatorWithin}
 use Rattle.definition_guarantee.proofs.Tests.{of-lt, all-at, all-cons, first-from, chosen}
 use Rattle.definition_guarantee.proofs.Words.{Fits, parts-fit, Laid}

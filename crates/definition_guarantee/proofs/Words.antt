@@ -9,12 +9,13 @@ use lib.Dec.{eqb, leb}
 use lib.ListN.{length, getElem?}
 use lib.Seq.{take-at, drop-at}
 use borrow.Author.Tests.{not-true}
-use Rattle.prelude.specs.Base.{if_then_else_, orElse, andThen, isSome, any, all, base-opens}
-use Rattle.definition.specs.Operations.{Operation, operationNumber, among, operations-opens}
+use Rattle.prelude.specs.Base.{if_then_else_, orElse, andThen, isSome, any, all}
+use Rattle.definition.specs.Operations.{Operation, operationNumber, among}
 use Rattle.definition.specs.Value.{Kind, kindNumber, Value, ActionKind, SemanticAction, operationOf}
 use Rattle.definition.specs.ActionList.{orNone, valueWords, inputWords, actionKindNumber, outputWords, operationWord, filled, actionWords, listWords}
 use Rattle.definition.specs.Checker.{Shape, OperationShape, shapes, operationNumbered, opNumbered, actionKindNumbered, kinds, sizeFrom, valueFrom, inputsFrom, someValue, outputFrom, actionFrom, actionsFrom, sameCount, countsFit, shapeFits, optionFits, shapeOf, numberFits, valueFits, layoutFits, baseFits, sizesHold, labelsOnce, allBuilt, listHolds, check}
 use Rattle.definition.proofs.EveryOperation.{alike}
+use Rattle.definition.proofs.Openers.{base-opens, operations-opens}
 use Rattle.definition_guarantee.proofs.Tests.{clash, eq-of, differ, le-of, lt-of, of-le, of-lt, and-true, both, if-true, all-parts, all-at, first-from, or-true, then-some, same-list, any-from, chosen, some-same}
 
 -- the second word of a value: its kind, offset and size

@@ -10,7 +10,7 @@ use lib.Dec.{eqb}
 use borrow.Author.Tests.{ne-eqb}
 use Rattle.access.specs.Le.{le16}
 use Rattle.prelude.specs.Base as definition
-use Rattle.prelude.specs.Base.{_or_, orElse, andThen, base-opens, if_then_else_}
+use Rattle.prelude.specs.Base.{_or_, orElse, andThen, if_then_else_}
 use Rattle.definition.specs.Refusals.{Refusal, refusalNumber, undefined, wrongKind, noDefaultSpace}
 use Rattle.definition.specs.Value.{Value}
 use Rattle.definition.specs.Ast.{SpaceKind, Space as SpaceEntry}
@@ -18,6 +18,7 @@ use Rattle.definition.specs.Walk.{ExprValue, State, Env, Outcome, done, stopped
 use Rattle.definition.specs.Scope.{find, Symbol, globals, lookup, asSpace}
 use Rattle.definition.specs.Expressions as d
 use Rattle.definition.specs.ActionList.{orNone}
+use Rattle.definition.proofs.Openers.{base-opens}
 use Rattle.list_values.specs.declared.value.Value.{Value as WordValue}
 use Rattle.list_pushes.specs.declared.push.State.{State as WordState}
 use Rattle.list_pushes.specs.declared.push.Env.{Env as WordEnv}

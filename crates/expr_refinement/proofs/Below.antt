@@ -9,7 +9,7 @@ use native.Mathlib.Omega.{arith}
 use lib.ListN.{length, getElem?, set}
 use lib.Dec.{eqb}
 use Rattle.prelude.specs.Base as definition
-use Rattle.prelude.specs.Base.{orElse, andThen, base-opens, if_then_else_}
+use Rattle.prelude.specs.Base.{orElse, andThen, if_then_else_}
 use Rattle.definition.specs.Operations.{Operation, operationNumber}
 use Rattle.definition.specs.Value.{Kind, kindNumber, Value, truncate, isKind, SemanticAction, operationOf, Temporary}
 use Rattle.definition.specs.Ast.{Section}
@@ -18,6 +18,7 @@ use Rattle.definition.specs.Sizes.{Sizing, pointerSize}
 use Rattle.definition.specs.Walk as d
 use Rattle.definition.specs.Walk.{State, Env, done, withSizing}
 use Rattle.definition.specs.ActionList.{orNone, actionKindNumber, operationWord, placesLabel}
+use Rattle.definition.proofs.Openers.{base-opens}
 use Rattle.list_values.specs.declared.value.Value.{Value as WordValue}
 use Rattle.list_pushes.specs.declared.push.Env.{Env as WordEnv}
 use Rattle.list_values.specs.Base.{Listed, listed, thenL}

@@ -11,7 +11,7 @@ use lib.Dec.{eqb, ltb}
 use borrow.Author.Tests.{eqb-true, ne-eqb, lt-ltb, le-ltb, ltb-false}
 use Rattle.access.specs.Le.{le16, le64}
 use Rattle.prelude.specs.Base as definition
-use Rattle.prelude.specs.Base.{orElse, base-opens, if_then_else_}
+use Rattle.prelude.specs.Base.{orElse, if_then_else_}
 use Rattle.definition.specs.Refusals.{Refusal, refusalNumber, addressOfNonLocal, constantPool, argumentCount, macroInExpression}
 use Rattle.definition.specs.Operations.{Operation, operationNumber}
 use Rattle.definition.specs.Value.{Value}
@@ -25,6 +25,7 @@ use Rattle.definition.specs.Spellings.{Inbuilt, translateInbuiltFunc}
 use Rattle.definition.specs.Scope.{find, Symbol, globals, Meaning, means, wrong, meaning, meant}
 use Rattle.definition.specs.Expressions as d
 use Rattle.definition.specs.ActionList.{orNone}
+use Rattle.definition.proofs.Openers.{base-opens}
 use Rattle.list_values.specs.declared.value.Value.{Value as WordValue}
 use Rattle.list_pushes.specs.declared.push.State.{State as WordState}
 use Rattle.list_pushes.specs.declared.push.Env.{Env as WordEnv}

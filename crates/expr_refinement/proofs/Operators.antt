@@ -9,11 +9,12 @@ use lib.ListN.{length, getElem?}
 use lib.Dec.{eqb, ltb}
 use borrow.Author.Tests.{not-true, eqb-true}
 use Rattle.prelude.specs.Base.{isSome, all, sameBytes, if_then_else_}
-use Rattle.definition.specs.Operations.{Operation, operationNumber, isOp, operations-opens}
+use Rattle.definition.specs.Operations.{Operation, operationNumber, isOp}
 use Rattle.definition.specs.Value.{Value}
 use Rattle.definition.specs.Ast.{PcodeOp}
 use Rattle.definition.specs.SectionFile.{pcodeOps}
 use Rattle.definition.specs.Spellings.{Inbuilt, inbuilt, inbuilts, translateInbuiltFunc}
+use Rattle.definition.proofs.Openers.{operations-opens}
 use Rattle.definition_guarantee.proofs.Tests.{and-true, all-at, first-from, chosen}
 use Rattle.list_refinement.proofs.RuleKinds.{kindOf}
 use Rattle.list_refinement.proofs.FromWalk.{suits, suited}

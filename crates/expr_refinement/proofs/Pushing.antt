@@ -10,7 +10,7 @@ use lib.Dec.{leb}
 use lib.ListN.{length, length-append}
 use borrow.Author.Tests.{leb-true}
 use Rattle.prelude.specs.Base as definition
-use Rattle.prelude.specs.Base.{orElse, andThen, isSome, all, base-opens}
+use Rattle.prelude.specs.Base.{orElse, andThen, isSome, all}
 use Rattle.definition.specs.Refusals.{listFull, tooManyTemporaries}
 use Rattle.definition.specs.Operations.{Operation, operationNumber, isOp}
 use Rattle.definition.specs.Value.{Kind, Value, local, ActionKind, SemanticAction, operationOf, Temporary}
@@ -20,6 +20,7 @@ use Rattle.definition.specs.Sizes.{Operand, Step, equal, sized, unsized, Sizing
 use Rattle.definition.specs.Walk as d
 use Rattle.definition.specs.Walk.{State, Env, Outcome, done, stopped, on, require, withSizing, withAction}
 use Rattle.definition.specs.ActionList.{orNone, actionKindNumber, operationWord, placesLabel, labelsPlaced}
+use Rattle.definition.proofs.Openers.{base-opens}
 use Rattle.list_pushes.specs.declared.push.Env.{Env as WordEnv}
 use Rattle.list_pushes.specs.Pushes.{addTmp, push, pushOp, opTo}
 use Rattle.list_values.specs.Values.{absent, noOutput}

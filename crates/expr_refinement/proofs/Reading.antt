@@ -9,7 +9,7 @@ use lib.ListN.{length}
 use lib.Dec.{eqb, leb}
 use borrow.Author.Tests.{leb-true}
 use Rattle.prelude.specs.Base as definition
-use Rattle.prelude.specs.Base.{orElse, andThen, isSome, base-opens, if_then_else_}
+use Rattle.prelude.specs.Base.{orElse, andThen, isSome, if_then_else_}
 use Rattle.definition.specs.Refusals.{refusalNumber, addressOfOffset, offsetTooFar}
 use Rattle.definition.specs.Operations.{Operation, operationNumber}
 use Rattle.definition.specs.Value.{kindNumber, Value, local, constant, withSize, sliceBytes, truncate, ActionKind, SemanticAction, operationOf}
@@ -20,6 +20,7 @@ use Rattle.definition.specs.Walk as w
 use Rattle.definition.specs.Walk.{ExprValue, State, Env, Outcome, done, on, Walk}
 use Rattle.definition.specs.Expressions as d
 use Rattle.definition.specs.ActionList.{orNone, actionKindNumber, operationWord, placesLabel}
+use Rattle.definition.proofs.Openers.{base-opens}
 use Rattle.list_values.specs.declared.value.Value.{Value as WordValue}
 use Rattle.list_pushes.specs.declared.push.State.{State as WordState}
 use Rattle.list_pushes.specs.declared.push.Env.{Env as WordEnv}

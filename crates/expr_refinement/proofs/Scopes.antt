@@ -11,7 +11,7 @@ use lib.ListN.{length, getD, getElem?}
 use lib.Dec.{eqb, ltb}
 use borrow.Author.Tests.{eqb-true, eqb-false, ne-eqb, eq-eqb, lt-ltb}
 use Rattle.prelude.specs.Base as definition
-use Rattle.prelude.specs.Base.{_or_, andThen, orElse, first, base-opens, if_then_else_}
+use Rattle.prelude.specs.Base.{_or_, andThen, orElse, first, if_then_else_}
 use Rattle.definition.specs.Refusals.{refusalNumber}
 use Rattle.definition.specs.Value.{Kind, kindNumber, Value, local, Temporary}
 use Rattle.definition.specs.Ast.{BitRange as BitRangeEntry, Section}
@@ -19,6 +19,7 @@ use Rattle.definition.specs.Walk.{ExprValue, State, Env, on}
 use Rattle.definition.specs.Scope as d
 use Rattle.definition.specs.Scope.{find, Symbol, globals, Meaning, means, wrong, registerBits, globalMeaning, innerMeaning, meaningOf}
 use Rattle.definition.specs.ActionList.{orNone}
+use Rattle.definition.proofs.Openers.{base-opens}
 use Rattle.list_pushes.specs.declared.push.Env.{Env as WordEnv}
 use Rattle.list_values.specs.Sizes.{entry}
 use Rattle.file_refinement.specs.Holds.{Holds, bitRangeAt, symbolWord}

@@ -9,12 +9,13 @@ use lib.ListN.{length, getD, set, length-set}
 use lib.Seq.{getD-set-same, getD-set-other}
 use lib.Dec.{ltb}
 use borrow.Author.Tests.{ltb-true}
-use Rattle.definition.specs.Operations.{Operation, operationNumber, operations-opens}
+use Rattle.definition.specs.Operations.{Operation, operationNumber}
 use Rattle.definition.proofs.EveryOperation.{alike}
 use Rattle.definition.specs.Value.{Value}
 use Rattle.definition.specs.Ast.{Section}
 use Rattle.definition.specs.Walk.{ExprValue}
 use Rattle.prelude.specs.Base.{if_then_else_}
+use Rattle.definition.proofs.Openers.{operations-opens}
 use Rattle.list_values.specs.Values.{absent, word, valueOf, valueAt, putValue}
 use Rattle.list_refinement.specs.Encoding.{encV, Sound, Each}
 use Rattle.list_refinement.proofs.Operands.{word-is, value-back}

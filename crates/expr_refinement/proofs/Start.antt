@@ -8,11 +8,12 @@ use native.Mathlib.Omega.{arith}
 use lib.Dec.{eqb}
 use borrow.Author.Tests.{ne-eqb}
 use Rattle.prelude.specs.Base as definition
-use Rattle.prelude.specs.Base.{_or_, andThen, first, position, base-opens, if_then_else_}
+use Rattle.prelude.specs.Base.{_or_, andThen, first, position, if_then_else_}
 use Rattle.definition.specs.Value.{Kind, kindNumber, local}
 use Rattle.definition.specs.Ast.{Field, Subtable, Section}
 use Rattle.definition.specs.Scope.{find, locals, sectionScope}
 use Rattle.definition.specs.ActionList.{orNone}
+use Rattle.definition.proofs.Openers.{base-opens}
 use Rattle.file_refinement.specs.Holds.{Holds, localWord}
 use Rattle.expr_scope.specs.Scopes.{Found, ownOf, ownLocal, findLocal, tmpOf, tmpLocal, orTmp, lookupLocal}
 use Rattle.expr_refinement.proofs.Scopes.{encF}

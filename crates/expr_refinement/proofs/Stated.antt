@@ -8,13 +8,14 @@ use native.Mathlib.Omega.{arith}
 use lib.Dec.{eqb}
 use borrow.Author.Tests.{ne-eqb}
 use Rattle.prelude.specs.Base as definition
-use Rattle.prelude.specs.Base.{orElse, base-opens, if_then_else_}
+use Rattle.prelude.specs.Base.{orElse, if_then_else_}
 use Rattle.definition.specs.Value.{kindNumber, Value, truncate}
 use Rattle.definition.specs.Sizes as sizes
 use Rattle.definition.specs.Walk as w
 use Rattle.definition.specs.Walk.{State, Env, Outcome, done, on}
 use Rattle.definition.specs.Expressions as d
 use Rattle.definition.specs.ActionList.{orNone}
+use Rattle.definition.proofs.Openers.{base-opens}
 use Rattle.list_pushes.specs.declared.push.State.{State as WordState}
 use Rattle.list_values.specs.Base.{Listed, listed}
 use Rattle.list_values.specs.Sizes.{sizeOf}

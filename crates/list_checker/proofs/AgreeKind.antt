@@ -9,12 +9,13 @@ use native.Mathlib.Omega.{arith}
 use lib.Dec.{eqb, leb, ltb}
 use borrow.Author.Tests.{lt-leb, eq-eqb, ne-eqb, ltb-true, ltb-false, eqb-true, eqb-false}
 use Rattle.prelude.specs.Base.{if_then_else_, _or_, orElse, andThen, isSome, any, first}
-use Rattle.definition.specs.Operations.{Operation, operationNumber, operations-opens}
+use Rattle.definition.specs.Operations.{Operation, operationNumber}
 use Rattle.definition.specs.Value.{ActionKind, operationOf}
 use Rattle.definition.specs.Sizes.{in0, in1, out, one, pointer, Step, equal, sized, unsized, rules, ruleOf}
 use Rattle.definition.specs.ActionList.{actionKindNumber, operationWord}
 use Rattle.definition.specs.Checker.{Shape, shapes, withOutput, noOutput, operationNumbered, opNumbered, actionKindNumbered, sameCount, shapeOf}
 use Rattle.definition.proofs.EveryOperation.{alike}
+use Rattle.definition.proofs.Openers.{operations-opens}
 use Rattle.list_checker.specs.Action.{Row, triple, shift, comparison, boolean, negation, same, tested, free, load, store, branch, condition, label, user, argument, invalid, unknown, rowOf}
 use Rattle.list_checker.proofs.FitLaws.{row-above}
 

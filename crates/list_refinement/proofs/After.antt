@@ -7,11 +7,12 @@ use mathlib.Core.Option.{Option, none, some}
 use native.Mathlib.Omega.{arith}
 use lib.ListN.{length, length-set}
 use Rattle.prelude.specs.Base as definition
-use Rattle.prelude.specs.Base.{_or_, orElse, andThen, isSome, all, first, base-opens}
+use Rattle.prelude.specs.Base.{_or_, orElse, andThen, isSome, all, first}
 use Rattle.definition.specs.Value.{Value, truncate, SemanticAction}
 use Rattle.definition.specs.Ast.{Section}
 use Rattle.definition.specs.Sizes as d
 use Rattle.definition.specs.Sizes.{Operand, in0, in1, out, FixedSize, one, pointer, Step, equal, sized, unsized, at, put, Sizing, isSize, butFirst, knownAt, setSize, setGiven, setOperand, setOperands, shareSize, setSizeOfAll, fallbackSize, pointerSize, fixedSize, setUnsized, applyStep, applySteps}
+use Rattle.definition.proofs.Openers.{base-opens}
 use Rattle.list_refinement.specs.Encoding.{SoundTmp, Each, SoundAction, SizesHold}
 use Rattle.list_refinement.proofs.Settled.{known-small, settled-sets, Ready, operand-sound, has, put-sound, put-has}
 use Rattle.list_refinement.proofs.Focus.{truncate-sound}

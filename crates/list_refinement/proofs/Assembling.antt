@@ -11,11 +11,12 @@ use lib.Seq.{getD-set-same, getD-set-other, getD-at, set-at, take-at, drop-appen
 use lib.Dec.{eqb}
 use borrow.Author.Tests.{eqb-true, eqb-false}
 use Rattle.prelude.specs.Base as definition
-use Rattle.prelude.specs.Base.{any, base-opens, if_then_else_}
+use Rattle.prelude.specs.Base.{any, if_then_else_}
 use Rattle.definition.specs.Value.{ActionKind, SemanticAction, operationOf}
 use Rattle.definition.specs.End as d
 use Rattle.definition.specs.End.{isBuild, builds}
 use Rattle.definition.specs.ActionList.{inputWords, actionKindNumber, operationWord, filled, actionWords, listWords}
+use Rattle.definition.proofs.Openers.{base-opens}
 use Rattle.list_values.specs.Base.{Listed, listed, thenL}
 use Rattle.access.specs.Loops.{run}
 use Rattle.list_values.specs.Values.{place}

@@ -9,7 +9,7 @@ use lib.ListN.{length, getD, set, drop, length-append, length-set}
 use lib.Dec.{eqb, leb, ltb}
 use borrow.Author.Tests.{ne-eqb, eq-eqb, eqb-true, eqb-false, leb-true, leb-false, lt-ltb, le-ltb}
 use Rattle.prelude.specs.Base as definition
-use Rattle.prelude.specs.Base.{orElse, andThen, any, base-opens, if_then_else_}
+use Rattle.prelude.specs.Base.{orElse, andThen, any, if_then_else_}
 use Rattle.definition.specs.Refusals.{refusalNumber, subpieceSize, offsetTooFar}
 use Rattle.definition.specs.Operations.{Operation, operationNumber, isOp}
 use Rattle.definition.specs.Value.{kindNumber, Value, sliceBytes, ActionKind, SemanticAction, operationOf, Temporary}
@@ -20,6 +20,7 @@ use Rattle.definition.specs.Walk.{State, Env, Outcome, done, stopped, on, Walk,
 use Rattle.definition.specs.End as d
 use Rattle.definition.specs.End.{slicedInputs, isBuild, builds}
 use Rattle.definition.specs.ActionList.{orNone, inputWords, valueWords, actionKindNumber, operationWord, filled, actionWords, listWords}
+use Rattle.definition.proofs.Openers.{base-opens}
 use Rattle.list_values.specs.declared.value.Value.{Value as WordValue}
 use Rattle.list_values.specs.declared.sizes.Sizing.{Sizing as WordSizing}
 use Rattle.list_end.specs.declared.end.Finished.{Finished}

@@ -10,13 +10,14 @@ use lib.Seq.{set-at, getD-at}
 use lib.Dec.{eqb}
 use borrow.Author.Tests.{ne-eqb}
 use Rattle.prelude.specs.Base as definition
-use Rattle.prelude.specs.Base.{_or_, orElse, base-opens, if_then_else_}
+use Rattle.prelude.specs.Base.{_or_, orElse, if_then_else_}
 use Rattle.definition.specs.Operations.{Operation}
 use Rattle.definition.specs.Value.{kindNumber, Value, ActionKind, SemanticAction, operationOf, Temporary}
 use Rattle.definition.specs.Ast.{Section}
 use Rattle.definition.specs.Sizes as d
 use Rattle.definition.specs.Sizes.{Sizing, pointerSize, fallbackSize}
 use Rattle.definition.specs.ActionList.{orNone, valueWords, inputWords, actionKindNumber, operationWord, filled, actionWords}
+use Rattle.definition.proofs.Openers.{base-opens}
 use Rattle.list_end.specs.declared.end.Fixed.{Fixed}
 use Rattle.list_values.specs.Base.{listed, thenL}
 use Rattle.access.specs.Loops.{run}

@@ -9,10 +9,11 @@ use lib.ListN.{length, getD, getElem?}
 use lib.Dec.{eqb}
 use borrow.Author.Tests.{eqb-true}
 use Rattle.prelude.specs.Base as definition
-use Rattle.prelude.specs.Base.{orElse, andThen, base-opens}
+use Rattle.prelude.specs.Base.{orElse, andThen}
 use Rattle.definition.specs.Ast.{Register, Field, Subtable, Section}
 use Rattle.definition.specs.Sizes as d
 use Rattle.definition.specs.ActionList.{orNone}
+use Rattle.definition.proofs.Openers.{base-opens}
 use Rattle.access.specs.Le.{le16}
 use Rattle.list_values.specs.Sizes.{entry, listSize, exportSizeOf}
 use Rattle.file_refinement.specs.Holds.{absentAt, registerAt, tableAt, fieldAt, subtableAt, Holds}

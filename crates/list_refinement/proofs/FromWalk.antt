@@ -7,13 +7,14 @@ use mathlib.Core.Option.{Option, none, some}
 use native.Mathlib.Omega.{arith}
 use lib.ListN.{length, getElem?}
 use lib.Dec.{eqb, leb}
-use Rattle.prelude.specs.Base.{if_then_else_, orElse, andThen, isSome, all, base-opens}
-use Rattle.definition.specs.Operations.{Operation, operationNumber, operations-opens}
+use Rattle.prelude.specs.Base.{if_then_else_, orElse, andThen, isSome, all}
+use Rattle.definition.specs.Operations.{Operation, operationNumber}
 use Rattle.definition.specs.Value.{Kind, Value, ActionKind, SemanticAction}
 use Rattle.definition.specs.Ast.{Section}
 use Rattle.definition.specs.Sizes.{in0, in1, out, at}
 use Rattle.definition.specs.Checker.{Shape, shapes, shapeOf, sameCount, countsFit, numberFits, valueFits, optionFits}
 use Rattle.definition.proofs.EveryOperation.{alike}
+use Rattle.definition.proofs.Openers.{base-opens, operations-opens}
 use Rattle.definition_guarantee.proofs.Tests.{clash, eq-of, le-of, lt-of, and-true, some-same, all-at, all-parts, any-from}
 use Rattle.definition_guarantee.proofs.Words.{Fits, fits-parts, Laid, subpiece-shapeless}
 use Rattle.definition_guarantee.proofs.Layouts.{Rough, laidOut, subpiece}

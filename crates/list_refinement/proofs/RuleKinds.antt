@@ -3,13 +3,14 @@ use Prim.Native.Nat.{ℕ}
 use mathlib.Core.Path.{_≡_, refl}
 use mathlib.Core.Bool.{true, false}
 use mathlib.Core.List.{List, [], _∷_}
-use Rattle.definition.specs.Operations.{Operation, operationNumber, operations-opens}
+use Rattle.definition.specs.Operations.{Operation, operationNumber}
 use Rattle.definition.specs.Value.{SemanticAction}
 use Rattle.definition.specs.Sizes as d
 use Rattle.definition.specs.Sizes.{in0, in1, out, one, pointer, Step, equal, sized, unsized, rules}
 use lib.ListN.{getD}
 use Rattle.prelude.specs.Base.{if_then_else_}
 use Rattle.definition.proofs.EveryOperation.{alike}
+use Rattle.definition.proofs.Openers.{operations-opens}
 use Rattle.list_pushes.specs.Rules.{ruleOf, ruleOfOperator, ruleOfOneInput, ruleOfOther}
 use Rattle.list_refinement.proofs.Settled.{has}
 

@@ -9,12 +9,13 @@ use lib.ListN.{length, getD, set, drop, getElem?, length-set, length-append}
 use lib.Dec.{eqb, eqb·suc-zero}
 use borrow.Author.Tests.{ne-eqb}
 use Rattle.prelude.specs.Base as definition
-use Rattle.prelude.specs.Base.{_or_, orElse, andThen, isSome, base-opens, if_then_else_}
+use Rattle.prelude.specs.Base.{_or_, orElse, andThen, isSome, if_then_else_}
 use Rattle.definition.specs.Value.{Kind, kindNumber, Value, isKind, SemanticAction, Temporary}
 use Rattle.definition.specs.Ast.{Register, Field, Section}
 use Rattle.definition.specs.Sizes as d
 use Rattle.definition.specs.Sizes.{Operand, in0, in1, out, at, put, Sizing, sizedTmp, setSize}
 use Rattle.definition.specs.ActionList.{orNone}
+use Rattle.definition.proofs.Openers.{base-opens}
 use Rattle.list_values.specs.declared.sizes.Sizing.{Sizing as WordSizing}
 use Rattle.list_values.specs.Base.{Listed, listed}
 use Rattle.list_values.specs.Sizes.{tmpSize, listedSize, sizeOfLocal, sizeOf, sumOfErrors, recorded, error, sizeTemporary, settled}

@@ -9,12 +9,13 @@ use lib.ListN.{length}
 use lib.Dec.{eqb}
 use borrow.Author.Tests.{ne-eqb, eq-eqb, eqb-true}
 use Rattle.prelude.specs.Base as definition
-use Rattle.prelude.specs.Base.{_or_, orElse, andThen, first, base-opens, if_then_else_}
-use Rattle.definition.specs.Value.{Kind, Value, SemanticAction, value-opens}
+use Rattle.prelude.specs.Base.{_or_, orElse, andThen, first, if_then_else_}
+use Rattle.definition.specs.Value.{Kind, Value, SemanticAction}
 use Rattle.definition.specs.Ast.{Section}
 use Rattle.definition.specs.Sizes as d
 use Rattle.definition.specs.Sizes.{Operand, in0, in1, out, at, Sizing, isSize, butFirst, knownAt, setOperands, setSizeOfAll, fallbackSize, pointerSize}
 use Rattle.definition.specs.ActionList.{orNone}
+use Rattle.definition.proofs.Openers.{base-opens, value-opens}
 use Rattle.list_values.specs.Values.{valueAt}
 use Rattle.list_values.specs.Sizes.{Sized, thenS, setOperand, setTwo, setThree, fallsBack, pairFallback, sharePair, setSizeOfPair, tripleFallsBack, tripleFallback, shareSize, allEqual, shareTriple, setSizeOfTriple, setUnsized}
 use Rattle.list_refinement.specs.Encoding.{encV, encZ, SizesHold}

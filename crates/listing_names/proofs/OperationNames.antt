@@ -1,9 +1,10 @@
 -- The text that an operation's number has is the name of the operation.
 use mathlib.Core.Path.{_≡_, refl}
 use Rattle.prelude.specs.Base.{if_then_else_}
-use Rattle.definition.specs.Operations.{Operation, operationNumber, operations-opens}
+use Rattle.definition.specs.Operations.{Operation, operationNumber}
 use Rattle.definition.specs.Spellings.{bytesOf}
 use Rattle.definition.proofs.EveryOperation.{alike}
+use Rattle.definition.proofs.Openers.{operations-opens}
 use Rattle.listing_names.specs.Words.{first, rest, word}
 use Rattle.listing_names.specs.Operations.{operationName, operationNames, operationText}
 

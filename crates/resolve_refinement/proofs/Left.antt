@@ -8,13 +8,14 @@ use mathlib.Core.Option.{Option, none, some}
 use lib.ListN.{length, getD, length-set}
 use lib.Dec.{eqb, leb, ltb}
 use Rattle.prelude.specs.Base as definition
-use Rattle.prelude.specs.Base.{andThen, base-opens, if_then_else_}
+use Rattle.prelude.specs.Base.{andThen, if_then_else_}
 use Rattle.definition.specs.Refusals.{Refusal, subpieceSize, offsetTooFar}
 use Rattle.definition.specs.Operations.{Operation, isOp}
 use Rattle.definition.specs.Value.{Value, SemanticAction, operationOf}
 use Rattle.definition.specs.Sizes as sizes
 use Rattle.definition.specs.Walk.{State, Env, Outcome, done, stopped, on, Walk, require, expect, withSizing, sliced}
 use Rattle.definition.specs.End as d
+use Rattle.definition.proofs.Openers.{base-opens}
 use Rattle.list_values.specs.declared.value.Value.{Value as WordValue}
 use Rattle.list_values.specs.declared.sizes.Sizing.{Sizing as WordSizing}
 use Rattle.list_end.specs.declared.end.Fixed.{Fixed}

@@ -10,13 +10,14 @@ use lib.Seq.{length-take-le}
 use lib.Dec.{eqb}
 use Rattle.access.specs.Le.{le16}
 use Rattle.prelude.specs.Base as definition
-use Rattle.prelude.specs.Base.{orElse, andThen, first, base-opens, if_then_else_}
+use Rattle.prelude.specs.Base.{orElse, andThen, first, if_then_else_}
 use Rattle.definition.specs.Value.{Kind, Value, local}
 use Rattle.definition.specs.Ast.{Space, Field, Subtable, Section}
 use Rattle.definition.specs.Sizes as d
 use Rattle.definition.specs.Walk.{Env}
 use Rattle.definition.specs.Scope.{find, locals, sectionScope}
 use Rattle.definition.specs.End.{atStart}
+use Rattle.definition.proofs.Openers.{base-opens}
 use Rattle.definition_guarantee.specs.Limits.{WithinLimits}
 use Rattle.definition_guarantee.proofs.Kept.{small-section}
 use Rattle.definition_guarantee.proofs.KeptLabels.{no-label}

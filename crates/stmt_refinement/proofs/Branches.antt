@@ -9,9 +9,9 @@ use native.Mathlib.Omega.{arith}
 use lib.ListN.{length, getD, getElem?, drop, length-append}
 use lib.Dec.{eqb}
 use Rattle.access.specs.Le.{le16, le64}
-use Rattle.prelude.specs.Base.{base-opens, orElse, isSome, if_then_else_}
+use Rattle.prelude.specs.Base.{orElse, isSome, if_then_else_}
 use Rattle.definition.specs.Refusals.{refusalNumber, tooManyLabels}
-use Rattle.definition.specs.Operations.{Operation, operationNumber, operations-opens}
+use Rattle.definition.specs.Operations.{Operation, operationNumber}
 use Rattle.definition.specs.Value.{kindNumber, Value, constant, SemanticAction, operationOf}
 use Rattle.definition.specs.Ast.{Section, JumpLabel, BranchDst, BranchHint, Statement, Macro}
 use Rattle.definition.specs.SectionFile.{parsed, jumpLabel, branchDst, statement}
@@ -24,6 +24,7 @@ use Rattle.definition.specs.Scope.{Meaning, means, wrong, innerMeaning, meaning
 use Rattle.definition.specs.Expressions as expressions
 use Rattle.definition.specs.Statements as d
 use Rattle.definition.specs.ActionList.{orNone, placesLabel, labelsPlaced}
+use Rattle.definition.proofs.Openers.{base-opens, operations-opens, sizes-opens}
 use Rattle.list_pushes.specs.declared.push.State.{State as WordState}
 use Rattle.list_pushes.specs.declared.push.Env.{Env as WordEnv}
 use Rattle.list_values.specs.Values.{absent, noOutput}
@@ -60,7 +61,7 @@ use Rattle.stmt_refinement.proofs.Labelling.{Labelled, get-or-insert, P
 
 -- a label has no rule for sizes
 label-unsized : (sec : Section) (n : ℕ) (z : Sizing) → sizes.updateOperandSizes sec false (opAction Operation.PcodeLabel n [] none) z ≡ (opAction Operation.PcodeLabel n [] none, z)
-unfolding sizes.sizes-opens
+unfolding sizes-opens
 label-unsized sec n z = refl
 
 -- an operation that was pushed, as a step

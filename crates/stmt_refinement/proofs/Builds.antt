@@ -10,7 +10,7 @@ use lib.Dec.{eqb}
 use borrow.Author.Tests.{lt-ltb, le-ltb}
 use Rattle.access.specs.Le.{le16}
 use Rattle.prelude.specs.Base as definition
-use Rattle.prelude.specs.Base.{orElse, position, base-opens, if_then_else_}
+use Rattle.prelude.specs.Base.{orElse, position, if_then_else_}
 use Rattle.definition.specs.Refusals.{Refusal, refusalNumber, undefined, wrongKind, absentTable}
 use Rattle.definition.specs.Value.{ActionKind, SemanticAction, operationOf}
 use Rattle.definition.specs.Ast.{Subtable}
@@ -19,6 +19,7 @@ use Rattle.definition.specs.Walk as walks
 use Rattle.definition.specs.Scope.{find, Symbol, globals, lookup, asTable}
 use Rattle.definition.specs.Statements as d
 use Rattle.definition.specs.ActionList.{orNone, actionKindNumber, operationWord}
+use Rattle.definition.proofs.Openers.{base-opens}
 use Rattle.list_pushes.specs.declared.push.Env.{Env as WordEnv}
 use Rattle.list_values.specs.Base.{Listed, listed, thenL}
 use Rattle.list_values.specs.Sizes.{entry}

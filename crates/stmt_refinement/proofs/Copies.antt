@@ -8,7 +8,7 @@ use native.Mathlib.Omega.{arith}
 use lib.Dec.{eqb, leb, ltb}
 use borrow.Author.Tests.{leb-true, leb-false, lt-ltb, le-ltb}
 use Rattle.prelude.specs.Base as definition
-use Rattle.prelude.specs.Base.{orElse, isSome, base-opens, if_then_else_}
+use Rattle.prelude.specs.Base.{orElse, isSome, if_then_else_}
 use Rattle.definition.specs.Refusals.{refusalNumber, shiftTooFar, offsetTooFar, notAssignable}
 use Rattle.definition.specs.Operations.{Operation, operationNumber}
 use Rattle.definition.specs.Value.{kindNumber, Value, constant, sliceBytes}
@@ -19,6 +19,7 @@ use Rattle.definition.specs.Walk.{ExprValue, State, Env, Outcome, done, stopped
 use Rattle.definition.specs.Expressions as expressions
 use Rattle.definition.specs.Statements as d
 use Rattle.definition.specs.ActionList.{orNone}
+use Rattle.definition.proofs.Openers.{base-opens}
 use Rattle.list_pushes.specs.declared.push.State.{State as WordState}
 use Rattle.list_pushes.specs.declared.push.Env.{Env as WordEnv}
 use Rattle.list_pushes.specs.declared.push.Read.{Read}

@@ -7,7 +7,7 @@ use native.Mathlib.Omega.{arith}
 use lib.ListN.{getD}
 use lib.Dec.{eqb}
 use Rattle.prelude.specs.Base as definition
-use Rattle.prelude.specs.Base.{orElse, isSome, base-opens, if_then_else_}
+use Rattle.prelude.specs.Base.{orElse, isSome, if_then_else_}
 use Rattle.definition.specs.Refusals.{refusalNumber, jumpToNonLocal}
 use Rattle.definition.specs.Operations.{Operation, operationNumber}
 use Rattle.definition.specs.Value.{Kind, kindNumber, Value, isKind}
@@ -18,6 +18,7 @@ use Rattle.definition.specs.Walk.{ExprValue, State, Env, Outcome, stopped, on, 
 use Rattle.definition.specs.Expressions as expressions
 use Rattle.definition.specs.Statements as d
 use Rattle.definition.specs.ActionList.{orNone}
+use Rattle.definition.proofs.Openers.{base-opens}
 use Rattle.list_pushes.specs.declared.push.State.{State as WordState}
 use Rattle.list_pushes.specs.declared.push.Env.{Env as WordEnv}
 use Rattle.list_refinement.specs.Encoding.{encV, Within, Sound}

@@ -10,11 +10,12 @@ use lib.ListN.{length, getD, set, length-set}
 use lib.Seq.{getD-set-same, getD-set-other}
 use lib.Dec.{ltb, leb}
 use borrow.Author.Tests.{eq-eqb, lt-ltb, le-ltb, ltb-true, ltb-false, leb-true, leb-false}
-use Rattle.prelude.specs.Base.{first, base-opens, if_then_else_}
+use Rattle.prelude.specs.Base.{first, if_then_else_}
 use Rattle.definition.specs.Refusals.{Refusal, refusalNumber, tooManyLabels, labelTwice}
 use Rattle.definition.specs.Walk.{Label, State, Env, Outcome, done, stopped, on, require, withScope, withLabel}
 use Rattle.definition.specs.Scope as scope
 use Rattle.definition.specs.Scope.{find, putEntry, withEntry}
+use Rattle.definition.proofs.Openers.{base-opens}
 use Rattle.definition_guarantee.proofs.Entries.{find-put}
 use Rattle.list_pushes.specs.declared.push.Env.{Env as WordEnv}
 use Rattle.list_values.specs.Base.{Listed, listed}

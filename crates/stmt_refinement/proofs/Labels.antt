@@ -10,9 +10,10 @@ use lib.Seq.{getD-set-same, getD-set-other}
 use lib.Dec.{eqb, ltb, leb}
 use borrow.Author.Tests.{eqb-true, eqb-false, eq-eqb, ne-eqb, lt-ltb, le-ltb, le-leb, lt-leb}
 use Rattle.prelude.specs.Base as definition
-use Rattle.prelude.specs.Base.{_or_, first, base-opens, if_then_else_}
+use Rattle.prelude.specs.Base.{_or_, first, if_then_else_}
 use Rattle.definition.specs.Walk.{Label}
 use Rattle.definition.specs.Scope.{find, putEntry}
+use Rattle.definition.proofs.Openers.{base-opens}
 use Rattle.definition_guarantee.proofs.Entries.{find-put}
 use Rattle.list_values.specs.Base.{listed}
 use Rattle.stmt_branches.specs.declared.labels.Label.{Label as WordLabel}

@@ -10,7 +10,7 @@ use lib.ListN.{length, getD, drop, getElem?, length-append, List·getD-append}
 use lib.Dec.{eqb, ltb, leb}
 use borrow.Author.Tests.{eqb-true, eqb-false, eq-eqb, ne-eqb, ltb-true, ltb-false, lt-ltb, leb-true}
 use Rattle.prelude.specs.Base as definition
-use Rattle.prelude.specs.Base.{_or_, andThen, orElse, isSome, first, base-opens, if_then_else_}
+use Rattle.prelude.specs.Base.{_or_, andThen, orElse, isSome, first, if_then_else_}
 use Rattle.definition.specs.Refusals.{refusalNumber, redeclared, tooManyTemporaries}
 use Rattle.definition.specs.Value.{Kind, kindNumber, Value, local, Temporary}
 use Rattle.definition.specs.Sizes.{withTemporaries}
@@ -19,6 +19,7 @@ use Rattle.definition.specs.Walk.{State, Scope, Env, Outcome, done, stopped, on
 use Rattle.definition.specs.Scope as d
 use Rattle.definition.specs.Scope.{find}
 use Rattle.definition.specs.ActionList.{orNone}
+use Rattle.definition.proofs.Openers.{base-opens}
 use Rattle.definition_guarantee.proofs.Entries.{find-last}
 use Rattle.list_pushes.specs.declared.push.Env.{Env as WordEnv}
 use Rattle.list_pushes.specs.declared.push.Read.{Read}

@@ -6,7 +6,7 @@ use mathlib.Core.List.{List, [], _∷_, _++_}
 use mathlib.Core.Option.{none}
 use native.Mathlib.Omega.{arith}
 use lib.ListN.{length, length-append}
-use Rattle.prelude.specs.Base.{if_then_else_, base-opens}
+use Rattle.prelude.specs.Base.{if_then_else_}
 use Rattle.definition.specs.Operations.{Operation, operationNumber, isOp}
 use Rattle.definition.specs.Value.{Value, SemanticAction}
 use Rattle.definition.specs.Sizes as sizes
@@ -14,6 +14,7 @@ use Rattle.definition.specs.Sizes.{Sizing, pointerSize}
 use Rattle.definition.specs.Walk as d
 use Rattle.definition.specs.Walk.{State, Env, withSizing, withAction}
 use Rattle.definition.specs.ActionList.{placesLabel, labelsPlaced}
+use Rattle.definition.proofs.Openers.{base-opens}
 use Rattle.list_pushes.specs.declared.push.Env.{Env as WordEnv}
 use Rattle.list_pushes.specs.Pushes.{pushOp}
 use Rattle.list_values.specs.Values.{noOutput}

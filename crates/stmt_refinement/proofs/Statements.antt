@@ -9,13 +9,14 @@ use lib.Dec.{eqb}
 use borrow.Author.Tests.{eqb-true}
 use Rattle.access.specs.Le.{le16}
 use Rattle.prelude.specs.Base as definition
-use Rattle.prelude.specs.Base.{sum, base-opens, if_then_else_}
+use Rattle.prelude.specs.Base.{sum, if_then_else_}
 use Rattle.definition.specs.Value.{SemanticAction}
 use Rattle.definition.specs.Ast.{Statement}
 use Rattle.definition.specs.SectionFile.{parsed, statement}
 use Rattle.definition.specs.Walk.{State, Env}
 use Rattle.definition.specs.Statements as d
 use Rattle.definition.specs.ActionList.{placesLabel, labelsPlaced}
+use Rattle.definition.proofs.Openers.{base-opens}
 use Rattle.definition_guarantee.specs.Limits.{StatementWithin, WithinLimits}
 use Rattle.list_pushes.specs.declared.push.Env.{Env as WordEnv}
 use Rattle.stmt_walk.specs.Walks.{Walked}

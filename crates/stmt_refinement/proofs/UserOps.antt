@@ -10,9 +10,9 @@ use lib.Seq.{drop-drop, getD-set-same, getD-set-other}
 use lib.Dec.{leb}
 use borrow.Author.Tests.{eq-eqb, leb-true}
 use Rattle.access.specs.Le.{le16}
-use Rattle.prelude.specs.Base.{base-opens, if_then_else_}
+use Rattle.prelude.specs.Base.{if_then_else_}
 use Rattle.definition.specs.Refusals.{refusalNumber, listFull}
-use Rattle.definition.specs.Operations.{Operation, operationNumber, operations-opens}
+use Rattle.definition.specs.Operations.{Operation, operationNumber}
 use Rattle.definition.specs.Value.{Value, SemanticAction, operationOf}
 use Rattle.definition.specs.Ast.{Args, Section}
 use Rattle.definition.specs.SectionFile.{parsed, argsOf, exprWithin}
@@ -23,6 +23,7 @@ use Rattle.definition.specs.Walk.{ExprValue, State, Env, Outcome, done, stopped
 use Rattle.definition.specs.Expressions as expressions
 use Rattle.definition.specs.Statements as d
 use Rattle.definition.specs.ActionList.{inputWords, valueWords, actionKindNumber, operationWord, filled, actionWords, listWords, placesLabel, labelsPlaced}
+use Rattle.definition.proofs.Openers.{base-opens, operations-opens, sizes-opens}
 use Rattle.list_values.specs.declared.value.Value.{Value as WordValue}
 use Rattle.list_pushes.specs.declared.push.State.{State as WordState}
 use Rattle.list_pushes.specs.declared.push.Env.{Env as WordEnv}
@@ -129,7 +130,7 @@ module _ (sec : Section) (n : ℕ) (vs : List Value) (few : length vs ≤ 8) (so
 
 -- a user op has no rule for sizes
 call-unsized : (sec : Section) (id : ℕ) (vs : List Value) (z : Sizing) → sizes.updateOperandSizes sec false (opAction Operation.PcodeOp id vs none) z ≡ (opAction Operation.PcodeOp id vs none, z)
-unfolding sizes.sizes-opens
+unfolding sizes-opens
 call-unsized sec id vs z = refl
 
 call-is : (id : ℕ) (vs : List Value) (e : Env) (st : State) → walks.opNoOutput Operation.PcodeOp id vs e st ≡ on e (walks.push (opAction Operation.PcodeOp id vs none) e st) (λ _ e1 st1. done tt st1)

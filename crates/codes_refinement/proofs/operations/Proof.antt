@@ -4,7 +4,7 @@ use Rattle.codes_refinement.proofs.operations.Reads as reads
 use Rattle.codes_refinement.proofs.operations.Lts as lts
 use borrow.Author.Needs.{needs}
 use mathlib.Core.Path.{refl}
-use Rattle.definition.specs.Operations.{operations-opens}
+use Rattle.definition.proofs.Openers.{operations-opens}
 
 returns : tie.Need-returns
 unfolding operations-opens
