@@ -1,6 +1,6 @@
 // The kinds of an export; 0 is none.
 
-pub const COMPUTED: u64 = 1;
+pub const VALUE: u64 = 1;
 
 pub const RAM_REF: u64 = 2;
 

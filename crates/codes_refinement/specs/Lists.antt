@@ -28,4 +28,4 @@ actionKinds =
 
 unfoldable pub exportKinds : List ExportKind
 exportKinds =
-    ExportKind.Computed ∷ ExportKind.RamRef ∷ ExportKind.RegisterRef ∷ []
+    ExportKind.PlainValue ∷ ExportKind.RamRef ∷ ExportKind.RegisterRef ∷ []

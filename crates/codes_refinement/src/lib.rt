@@ -156,7 +156,7 @@ fn export_kinds() -> [u64; 3]
     ensures { λ r. ⌜ r ≡ map exportKindNumber exportKinds ⌝ }
 {
     [
-        export_kind::COMPUTED,
+        export_kind::VALUE,
         export_kind::RAM_REF,
         export_kind::REGISTER_REF,
     ]

@@ -20,7 +20,7 @@ use Rattle.definition.specs.Passing as passing
 use Rattle.definition.specs.Starred as starred
 
 unfoldable pub base-opens : Unit {0}
-unfolding base.if_then_else_ base._or_ base.orElse base.andThen base.isSome base.any base.all base.first base.position base.sum base.sameBytes
+unfolding base.if_then_else_ base._or_ base.orElse base.andThen base.isSome base.contains base.any base.all base.filter base.isEmpty base.first base.position base.sum base.sameNumbers base.base-opens
 base-opens = tt
 
 unfoldable pub refusals-opens : Unit {0}
@@ -32,7 +32,7 @@ unfolding base-opens operations.operationNumber operations.operators operations.
 operations-opens = tt
 
 unfoldable pub value-opens : Unit {0}
-unfolding operations-opens value.kindNumber value.isKind value.operationOf
+unfolding operations-opens value.kindNumber value.isKind value.operands value.operationOf
 value-opens = tt
 
 unfoldable pub ast-opens : Unit {0}
@@ -40,7 +40,7 @@ unfolding operations-opens
 ast-opens = tt
 
 unfoldable pub section-file-opens : Unit {0}
-unfolding base-opens refusals-opens operations-opens ast-opens sectionfile.on sectionfile.require sectionfile.checksOut sectionfile.bytes sectionfile.payloads sectionfile.wholeBlocks sectionfile.streamOf sectionfile.u8 sectionfile.littleEndian sectionfile.upTo sectionfile.naming sectionfile.orAbsent sectionfile.choose sectionfile.code sectionfile.oneOf sectionfile.listOf sectionfile.argsOf sectionfile.pcodeOps sectionfile.call sectionfile.exprs sectionfile.exprWithin sectionfile.jumpLabel sectionfile.branchDst sectionfile.branchHint sectionfile.statement sectionfile.entries sectionfile.space sectionfile.register sectionfile.bitRange sectionfile.table sectionfile.macro sectionfile.field sectionfile.subtable sectionfile.spelling sectionfile.spellings sectionfile.header sectionfile.nothingLeft sectionfile.lists sectionfile.section sectionfile.read
+unfolding base-opens refusals-opens operations-opens ast-opens sectionfile.on sectionfile.require sectionfile.checksOut sectionfile.bytes sectionfile.payloads sectionfile.wholeBlocks sectionfile.streamOf sectionfile.u8 sectionfile.littleEndian sectionfile.upTo sectionfile.naming sectionfile.orAbsent sectionfile.choose sectionfile.code sectionfile.oneOf sectionfile.listOf sectionfile.argsOf sectionfile.pcodeOps sectionfile.call sectionfile.exprs sectionfile.exprWithin sectionfile.jumpLabel sectionfile.branchDst sectionfile.branchHint sectionfile.statement sectionfile.entries sectionfile.space sectionfile.register sectionfile.bitRange sectionfile.table sectionfile.macro sectionfile.field sectionfile.subtable sectionfile.spelling sectionfile.spellings sectionfile.header sectionfile.nothingLeft sectionfile.lists sectionfile.readSection sectionfile.read
 section-file-opens = tt
 
 unfoldable pub spellings-opens : Unit {0}
@@ -48,7 +48,7 @@ unfolding base-opens operations-opens spellings.bytesOf spellings.inbuilt spelli
 spellings-opens = tt
 
 unfoldable pub sizes-opens : Unit {0}
-unfolding base-opens operations-opens value-opens ast-opens sizes.rules sizes.ruleOf sizes.stepsOf sizes.isSize sizes.butFirst sizes.at sizes.put sizes.pointerSize sizes.exportSizeOf sizes.sizeOfLocal sizes.sizeOf sizes.fallbackSize sizes.sizedTmp sizes.sizeTemporary sizes.settled sizes.setSize sizes.setGiven sizes.setOperand sizes.setOperands sizes.shareSize sizes.setSizeOfAll sizes.fixedSize sizes.setUnsized sizes.applyStep sizes.applySteps sizes.updateOperandSizes sizes.backwardPass sizes.forwardPass sizes.applySizeInference sizes.fixed sizes.fixSize sizes.fixInputs sizes.fixOutput sizes.fixOperands
+unfolding base-opens operations-opens value-opens ast-opens sizes.fixedSize sizes.rules sizes.ruleOf sizes.stepsOf sizes.butFirst sizes.at sizes.put sizes.pointerSize sizes.exportSizeOf sizes.sizeOfLocal sizes.sizeOf sizes.fallbackSize sizes.setTmpSize sizes.sizeTemporary sizes.settled sizes.setSize sizes.setGiven sizes.setOperand sizes.setOperands sizes.shareSize sizes.setSizeOfAll sizes.setUnsized sizes.applyStep sizes.applySteps sizes.updateOperandSizes sizes.backwardPass sizes.forwardPass sizes.applySizeInference sizes.fixTo sizes.fixSize sizes.fixInputs sizes.fixOutput sizes.fixOperands
 sizes-opens = tt
 
 unfoldable pub walk-opens : Unit {0}
@@ -60,7 +60,7 @@ unfolding base-opens refusals-opens value-opens ast-opens walk-opens scope.find 
 scope-opens = tt
 
 unfoldable pub expressions-opens : Unit {0}
-unfolding base-opens refusals-opens operations-opens value-opens ast-opens spellings-opens sizes-opens walk-opens scope-opens expressions.copyTo expressions.setStated expressions.takeKnown expressions.takeStated expressions.byteAligned expressions.shiftAndMask expressions.readSlice expressions.readValue expressions.readAll expressions.sliceRead expressions.sliceBits expressions.asLocal expressions.resolveSpace expressions.inConstSpace expressions.reference expressions.isName expressions.addressIn expressions.resolveAddress expressions.binary expressions.resolveOp expressions.passArgs expressions.callUserOp expressions.argCount expressions.asInteger expressions.onlyInteger expressions.subpiece expressions.callSymbol expressions.callInbuilt expressions.callNamed expressions.resolveCall expressions.resolveExpr
+unfolding base-opens refusals-opens operations-opens value-opens ast-opens spellings-opens sizes-opens walk-opens scope-opens expressions.copyTo expressions.setStated expressions.takeKnown expressions.takeStated expressions.byteAligned expressions.shiftAndMask expressions.readSlice expressions.readValue expressions.readAll expressions.sliceRead expressions.sliceBits expressions.asLocal expressions.resolveSpace expressions.inConstSpace expressions.reference expressions.addressIn expressions.resolveAddress expressions.binary expressions.resolveOp expressions.passArgs expressions.callUserOp expressions.argCount expressions.asInteger expressions.onlyInteger expressions.subpiece expressions.callSymbol expressions.callInbuilt expressions.callNamed expressions.resolveCall expressions.resolveExpr
 expressions-opens = tt
 
 unfoldable pub statements-opens : Unit {0}
@@ -76,7 +76,7 @@ unfolding base-opens refusals-opens operations-opens value-opens ast-opens secti
 action-list-opens = tt
 
 unfoldable pub checker-opens : Unit {0}
-unfolding base-opens operations-opens value-opens sizes-opens end-opens action-list-opens checker.shapes checker.operationNumbered checker.opNumbered checker.actionKindNumbered checker.kinds checker.sizeFrom checker.valueFrom checker.inputsFrom checker.someValue checker.outputFrom checker.actionFrom checker.actionsFrom checker.sameCount checker.countsFit checker.plainBase checker.baseFits checker.shapeFits checker.optionFits checker.shapeOf checker.numberFits checker.valueFits checker.layoutFits checker.isSized checker.sizeAt checker.hasSize checker.allHaveSize checker.sizeNamed checker.stepHolds checker.operationHolds checker.sizesHold checker.places checker.labelsOnce checker.allBuilt checker.listHolds checker.check
+unfolding base-opens operations-opens value-opens sizes-opens end-opens action-list-opens checker.shapes checker.operationNumbered checker.opNumbered checker.actionKindNumbered checker.kinds checker.sizeFrom checker.valueFrom checker.inputsFrom checker.someValue checker.outputFrom checker.actionFrom checker.actionsFrom checker.sameCount checker.countsFit checker.plainBase checker.baseFits checker.shapeFits checker.optionFits checker.shapeOf checker.numberFits checker.valueFits checker.layoutFits checker.isSized checker.sizeAt checker.hasSize checker.allHaveSize checker.stepHolds checker.operationHolds checker.sizesHold checker.places checker.labelsOnce checker.allBuilt checker.listHolds checker.check
 checker-opens = tt
 
 unfoldable pub right-opens : Unit {0}
@@ -84,7 +84,7 @@ unfolding base-opens operations-opens value-opens sizes-opens action-list-opens 
 right-opens = tt
 
 unfoldable pub premise-opens : Unit {0}
-unfolding base-opens value-opens ast-opens section-file-opens sizes-opens walk-opens end-opens action-list-opens premise.filter premise.temporariesAmong premise.operands premise.underRule premise.ruled premise.isSizedIn premise.joined premise.sizedLate premise.sizedLateWalk premise.walked premise.lateIn premise.premiseFailures premise.none? premise.premise
+unfolding base-opens value-opens ast-opens section-file-opens sizes-opens walk-opens end-opens action-list-opens premise.temporariesAmong premise.underRule premise.ruled premise.isSizedIn premise.joined premise.sizedLate premise.sizedLateWalk premise.walked premise.lateIn premise.premiseFailures premise.premise
 premise-opens = tt
 
 unfoldable pub passing-opens : Unit {0}

@@ -7,9 +7,8 @@ use native.Mathlib.Omega.{arith}
 use lib.ListN.{length, getElem?, replicate}
 use Rattle.definition.specs.Operations.{Operation}
 use Rattle.definition.specs.Value.{Kind, Value, ActionKind, SemanticAction}
-use Rattle.definition.specs.Sizes.{in0, out, pointer, at}
+use Rattle.definition.specs.Sizes.{in0, out, pointer, at, fixedSize}
 use Rattle.definition.specs.ActionList.{listWords}
-use Rattle.definition.specs.Checker.{sizeNamed}
 use Rattle.definition.specs.Right.{Among, input, NumberWithin, ValueWithin, ActionRight, Right}
 use Rattle.definition.proofs.Openers.{sizes-opens}
 
@@ -30,7 +29,7 @@ module _ (temporaries subtables pointerSize : ℕ) (a : SemanticAction) (r : Act
 
   -- what is loaded from has pointer size
   pub load-pointers : a .kind ≡ ActionKind.Op Operation.Load → at in0 a ≡ some v → v .size ≡ some pointerSize
-  unfolding sizes-opens sizeNamed
+  unfolding sizes-opens fixedSize
   load-pointers k e = r .fixedSizes Operation.Load in0 pointer v k (0, refl) e
 
 only-one : (xs : List SemanticAction) (x y : SemanticAction) → length xs ≡ 1 → Among x xs → Among y xs → x ≡ y

@@ -8,7 +8,7 @@ use borrow.Author.Tests.{eq-eqb}
 use Rattle.definition.specs.Operations.{Operation, operators}
 use Rattle.definition.specs.Value.{Value}
 use Rattle.definition.specs.SectionFile.{pcodeOps}
-use Rattle.definition.specs.Sizes.{in0, in1, out, one, equal, sized, ruleOf}
+use Rattle.definition.specs.Sizes.{in0, in1, out, one, equal, exactly, ruleOf}
 use Rattle.definition.specs.Walk.{ExprValue, Walk}
 use Rattle.definition.specs.Scope.{find, bindParams}
 use Rattle.definition.specs.Expressions.{binary, resolveOp}
@@ -27,7 +27,7 @@ pub comparisons-ruled :
     map ruleOf (Operation.IntCarry ∷ Operation.IntSignedCarry ∷ Operation.IntSignedBorrow
     ∷ Operation.IntSignedLess ∷ Operation.IntSignedLessEqual ∷ Operation.IntLess ∷ Operation.IntLessEqual ∷ Operation.IntEqual ∷ Operation.IntNotEqual
     ∷ Operation.FloatLess ∷ Operation.FloatLessEqual ∷ Operation.FloatEqual ∷ Operation.FloatNotEqual ∷ [])
-    ≡ replicate 13 (equal (in0 ∷ in1 ∷ []) ∷ sized out one ∷ [])
+    ≡ replicate 13 (equal (in0 ∷ in1 ∷ []) ∷ exactly out one ∷ [])
 unfolding sizes-opens
 comparisons-ruled = refl
 

@@ -84,7 +84,7 @@ unfoldable pub points : ℕ → ℕ → ℕ
 points actions temporaries = (2 * actions + temporaries + 5) / 10
 
 unfoldable pub exportKindNumber : ExportKind → ℕ
-exportKindNumber ExportKind.Computed = 1
+exportKindNumber ExportKind.PlainValue = 1
 exportKindNumber ExportKind.RamRef = 2
 exportKindNumber ExportKind.RegisterRef = 3
 

@@ -6,10 +6,10 @@ use mathlib.Core.List.{List, [], _∷_, _++_, map}
 use mathlib.Core.Option.{Option, none, some}
 use lib.ListN.{length, take, drop, getD, getElem?}
 use lib.Dec.{eqb, leb, ltb}
-use Rattle.prelude.specs.Base.{if_then_else_, orElse, andThen, isSome, any, all, first, sameBytes}
+use Rattle.prelude.specs.Base.{if_then_else_, orElse, andThen, isSome, any, all, first, sameNumbers, contains}
 use Rattle.definition.specs.Operations.{Operation, operationNumber, operators, oneInputs, among, isOp}
 use Rattle.definition.specs.Value.{Kind, Value, ActionKind, SemanticAction, operationOf}
-use Rattle.definition.specs.Sizes.{Operand, FixedSize, one, pointer, Step, equal, sized, unsized, stepsOf, at, isSize}
+use Rattle.definition.specs.Sizes.{Operand, fixedSize, Step, equal, exactly, byDefault, stepsOf, at}
 use Rattle.definition.specs.End.{builds}
 use Rattle.definition.specs.ActionList.{filled, actionWords, listWords, placesLabel}
 
@@ -186,21 +186,17 @@ sizeAt a p = andThen (at p a) λ (v : Value). v .size
 
 unfoldable pub hasSize : ℕ → Option Value → Bool
 hasSize n none = true
-hasSize n (some v) = isSize n (v .size)
+hasSize n (some v) = contains n (v .size)
 
 unfoldable pub allHaveSize : SemanticAction → List Operand → Option ℕ → Bool
 allHaveSize a ps none = true
 allHaveSize a ps (some n) = all (λ p. hasSize n (at p a)) ps
 
 module _ (pointerSize : ℕ) where
-  unfoldable pub sizeNamed : FixedSize → ℕ
-  sizeNamed one = 1
-  sizeNamed pointer = pointerSize
-
   unfoldable pub stepHolds : SemanticAction → Step → Bool
   stepHolds a (equal ps) = allHaveSize a ps (first (sizeAt a) ps)
-  stepHolds a (sized p z) = hasSize (sizeNamed z) (at p a)
-  stepHolds a (unsized p z) = true
+  stepHolds a (exactly p z) = hasSize (fixedSize pointerSize z) (at p a)
+  stepHolds a (byDefault p z) = true
 
   unfoldable pub operationHolds : Option Operation → SemanticAction → Bool
   operationHolds none a = true
@@ -225,7 +221,7 @@ allBuilt actions (suc n) = any (builds n) actions && allBuilt actions n
 
 unfoldable pub listHolds : List ℕ → ℕ → ℕ → ℕ → List SemanticAction → Bool
 listHolds ws temporaries subtables pointerSize actions =
-    sameBytes ws (filled (length ws) (listWords actions))
+    sameNumbers ws (filled (length ws) (listWords actions))
     && all (layoutFits temporaries subtables) actions
     && all (sizesHold pointerSize) actions
     && labelsOnce actions

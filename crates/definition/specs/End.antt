@@ -11,7 +11,7 @@ use Rattle.definition.specs.Operations.{Operation, isOp}
 use Rattle.definition.specs.Value.{Value, ActionKind, SemanticAction, operationOf, Temporary, Export}
 use Rattle.definition.specs.Ast.{Macro, Section}
 use Rattle.definition.specs.Sizes.{Sizing, applySizeInference, fixSize, fixOperands}
-use Rattle.definition.specs.Walk.{State, Env, Outcome, stopped, Walk, _>>=_, _>>_, pure, require, expect, env, section, state, sizing, sliced}
+use Rattle.definition.specs.Walk.{State, Env, Outcome, stopped, Walk, _>>=_, _>>_, pure, require, expect, env, section, state, bySizes, sliced}
 use Rattle.definition.specs.Scope.{sectionScope}
 use Rattle.definition.specs.Statements.{ordinalAfter, resolveBody}
 
@@ -37,7 +37,7 @@ subpieceCopy a = do
 unfoldable pub finishOp : Option Operation → SemanticAction → Walk SemanticAction
 finishOp none a = pure a
 finishOp (some operation) a = do
-  b ← sizing λ sec. fixOperands sec a
+  b ← bySizes λ sec. fixOperands sec a
   if isOp Operation.Subpiece operation then subpieceCopy b else pure b
 
 unfoldable pub finishActions : List SemanticAction → Walk (List SemanticAction)
@@ -50,7 +50,7 @@ finishActions (a ∷ rest) = do
 unfoldable pub finishExport : Option Export → Walk (Option Export)
 finishExport none = pure none
 finishExport (some x) = do
-  v ← sizing λ sec. fixSize sec (x .value)
+  v ← bySizes λ sec. fixSize sec (x .value)
   pure (some (record { kind = x .kind; value = v; accessSize = x .accessSize }))
 
 unfoldable pub isBuild : ActionKind → Bool
@@ -85,7 +85,7 @@ unfoldable pub finish : Walk Semantics
 finish = do
   sec ← section
   s ← state
-  sized ← sizing λ sec. applySizeInference sec (s .actions)
+  sized ← bySizes λ sec. applySizeInference sec (s .actions)
   final ← finishActions sized
   export ← finishExport (s .export)
   t ← state

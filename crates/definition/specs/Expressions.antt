@@ -5,14 +5,14 @@ use mathlib.Core.List.{List, [], _∷_}
 use mathlib.Core.Option.{Option, none, some}
 use lib.ListN.{take, drop, getD, getElem?}
 use lib.Dec.{eqb, leb, ltb}
-use Rattle.prelude.specs.Base.{if_then_else_, _or_, orElse, andThen}
+use Rattle.prelude.specs.Base.{if_then_else_, _or_, orElse, andThen, contains}
 use Rattle.definition.specs.Refusals.{addressOfNonLocal, addressOfOffset, constantPool, argumentCount, macroInExpression, subpieceArgument, slicePastEnd, constSpace, noDefaultSpace, otherSpace, shiftTooFar}
 use Rattle.definition.specs.Operations.{Operation}
 use Rattle.definition.specs.Value.{Value, local, constant, withSize, truncate, ActionKind}
 use Rattle.definition.specs.Ast.{PcodeOp, PcodeExpr, Args, noArgs, arg, SpaceKind, Space}
 use Rattle.definition.specs.Spellings.{Inbuilt, translateInbuiltFunc}
 use Rattle.definition.specs.Sizes.{setSize}
-use Rattle.definition.specs.Walk.{ExprValue, Walk, _>>=_, _>>_, pure, refuse, require, expect, section, sizing, knownSize, sliced, addTmp, outputOr, push, op, opNoOutput}
+use Rattle.definition.specs.Walk.{ExprValue, Walk, _>>=_, _>>_, pure, refuse, require, expect, section, bySizes, knownSize, sliced, addTmp, outputOr, push, op, opNoOutput}
 use Rattle.definition.specs.Scope.{Symbol, lookup, asSpace, resolveIdent}
 
 -- Masks have the low n bits set, all 64 from n = 64.
@@ -35,11 +35,11 @@ copyTo (some to) v = op Operation.Copy 0 (v ∷ []) (some to)
 
 -- a register access's stated size is set as under Sizes; 0 sets none
 unfoldable pub setStated : ℕ → Value → Walk Value
-setStated size v = if eqb size 0 then pure v else sizing λ sec. setSize sec size v
+setStated size v = if eqb size 0 then pure v else bySizes λ sec. setSize sec size v
 
 unfoldable pub takeKnown : Option ℕ → ℕ → Value → Walk Value
 takeKnown (some known) size v = pure (truncate size v)
-takeKnown none size v = sizing λ sec. setSize sec size v
+takeKnown none size v = bySizes λ sec. setSize sec size v
 
 -- a RAM access's stated size is taken silently; 0 sets none
 unfoldable pub takeStated : ℕ → Value → Walk Value
@@ -157,10 +157,6 @@ reference SpaceKind.RamSpace pointer size = pure (ExprValue.RamRef pointer size)
 reference SpaceKind.RegisterSpace pointer size = pure (ExprValue.RegisterRef pointer size)
 reference SpaceKind.OtherSpace pointer size = refuse otherSpace
 
-unfoldable pub isName : ℕ → Option ℕ → Bool
-isName n (some m) = eqb n m
-isName n none = false
-
 unfoldable pub addressIn : Option ℕ → Option ℕ → ExprValue → Walk ExprValue
 addressIn space size x = do
   to ← resolveSpace space
@@ -171,7 +167,7 @@ unfoldable pub resolveAddress : Option ℕ → Option ℕ → Walk ExprValue →
 resolveAddress space size pointer = do
   x ← pointer
   sec ← section
-  if isName (sec .header .const) space then inConstSpace size x else addressIn space size x
+  if contains (sec .header .const) space then inConstSpace size x else addressIn space size x
 
 -- Operators. The six greater ones swap their operands before either is resolved.
 

@@ -1,5 +1,6 @@
--- The definition, in the order of document 01: the value, the section file, the scope, the statement rules, sizes, the
--- action list, the checker and its conditions, the premise, the starred sections.
+-- The definition, to be read from the first module to the last. The modules stand in document 01's order (the value,
+-- the section file, the scope, the statement rules, the action list, the checker, the premise, the starred sections), but
+-- for what others stand on: refusals and operations come first, and sizes before the walk, which applies them at a push.
 pub mod Refusals
 pub mod Operations
 pub mod Value

@@ -6,26 +6,18 @@ use mathlib.Core.List.{List, [], _∷_, _++_}
 use mathlib.Core.Option.{Option, none, some}
 use lib.ListN.{getElem?}
 use lib.Dec.{eqb}
-use Rattle.prelude.specs.Base.{if_then_else_, andThen, isSome, any}
-use Rattle.definition.specs.Value.{Kind, Value, isKind, SemanticAction, operationOf, Temporary}
+use Rattle.prelude.specs.Base.{if_then_else_, andThen, isSome, any, filter, isEmpty}
+use Rattle.definition.specs.Value.{Kind, Value, isKind, SemanticAction, operationOf, Temporary, operands}
 use Rattle.definition.specs.Ast.{Section}
 use Rattle.definition.specs.SectionFile.{Parsed, read}
 use Rattle.definition.specs.Sizes.{Sizing, Step, stepsOf, updateOperandSizes, backwardPass}
-use Rattle.definition.specs.Walk.{Outcome, done, stopped, Walk, _>>=_, _>>_, pure, section, state, sizing}
+use Rattle.definition.specs.Walk.{Outcome, done, stopped, Walk, _>>=_, _>>_, pure, section, state, bySizes}
 use Rattle.definition.specs.End.{resolveStatements, atStart}
 use Rattle.definition.specs.ActionList.{roomFor, whenRead}
-
-unfoldable pub filter : {A : Type 0} → (A → Bool) → List A → List A
-filter p [] = []
-filter p (x ∷ xs) = if p x then x ∷ filter p xs else filter p xs
 
 unfoldable pub temporariesAmong : List Value → List ℕ
 temporariesAmong [] = []
 temporariesAmong (v ∷ vs) = if isKind Kind.PcodeTmp v then v .number ∷ temporariesAmong vs else temporariesAmong vs
-
-unfoldable pub operands : Option Value → List Value → List Value
-operands none inputs = inputs
-operands (some v) inputs = v ∷ inputs
 
 unfoldable pub underRule : List Step → SemanticAction → List ℕ
 underRule [] a = []
@@ -58,7 +50,7 @@ sizedLateWalk = do
   resolveStatements
   sec ← section
   s ← state
-  back ← sizing λ sec. backwardPass sec (s .actions)
+  back ← bySizes λ sec. backwardPass sec (s .actions)
   t ← state
   pure (sizedLate sec [] back (t .sizing))
 
@@ -75,9 +67,5 @@ lateIn lentActions lentTemporaries = whenRead
 unfoldable pub premiseFailures : List ℕ → ℕ → ℕ → List ℕ
 premiseFailures file lentActions lentTemporaries = lateIn lentActions lentTemporaries (read file)
 
-unfoldable pub none? : List ℕ → Bool
-none? [] = true
-none? (x ∷ xs) = false
-
 unfoldable pub premise : List ℕ → ℕ → ℕ → Bool
-premise file lentActions lentTemporaries = none? (premiseFailures file lentActions lentTemporaries)
+premise file lentActions lentTemporaries = isEmpty (premiseFailures file lentActions lentTemporaries)

@@ -8,9 +8,9 @@ use lib.ListN.{length, getElem?, replicate}
 use Rattle.prelude.specs.Base.{isSome}
 use Rattle.definition.specs.Operations.{Operation}
 use Rattle.definition.specs.Value.{Kind, Value, ActionKind, SemanticAction}
-use Rattle.definition.specs.Sizes.{Operand, FixedSize, equal, sized, ruleOf, at}
+use Rattle.definition.specs.Sizes.{Operand, FixedSize, equal, exactly, ruleOf, at, fixedSize}
 use Rattle.definition.specs.ActionList.{listWords}
-use Rattle.definition.specs.Checker.{Shape, shapeOf, sizeNamed}
+use Rattle.definition.specs.Checker.{Shape, shapeOf}
 
 -- an element of a list
 abbrev pub Among : {A : Type 0} → A → List A → Type 0
@@ -56,8 +56,8 @@ pub record ActionRight (temporaries subtables pointerSize : ℕ) (a : SemanticAc
       → Among (equal ps) (ruleOf op)
       → Among p ps → Among q ps → at p a ≡ some v → at q a ≡ some u → v .size ≡ u .size
   pub fixedSizes : (op : Operation) (p : Operand) (z : FixedSize) (v : Value) → a .kind ≡ ActionKind.Op op
-      → Among (sized p z) (ruleOf op)
-      → at p a ≡ some v → v .size ≡ some (sizeNamed pointerSize z)
+      → Among (exactly p z) (ruleOf op)
+      → at p a ≡ some v → v .size ≡ some (fixedSize pointerSize z)
   -- no subpiece is left
   pub noSubpiece : a .kind ≢ ActionKind.Op Operation.Subpiece
 

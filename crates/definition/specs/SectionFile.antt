@@ -6,7 +6,7 @@ use mathlib.Core.List.{List, [], _∷_, _++_, map}
 use mathlib.Core.Option.{Option, none, some}
 use lib.ListN.{length, take, drop, getD, getElem?}
 use lib.Dec.{eqb, leb, ltb}
-use Rattle.prelude.specs.Base.{if_then_else_, any, all, sum, sameBytes}
+use Rattle.prelude.specs.Base.{if_then_else_, any, all, sum, sameNumbers}
 use Rattle.definition.specs.Refusals.{Refusal, badLength, blockCheck, malformed}
 use Rattle.definition.specs.Refusals.{outsideLimit, namesNothing, spelledTwice}
 use Rattle.definition.specs.Operations.{Operation, operators}
@@ -284,7 +284,7 @@ spelling taken = do
   n ← u8
   require (leb 1 n && leb n 24) outsideLimit
   letters ← listOf u8 n
-  require (not (any (sameBytes letters) taken)) spelledTwice
+  require (not (any (sameNumbers letters) taken)) spelledTwice
   pure letters
 
 unfoldable pub spellings : List (List ℕ) → ℕ → Read (List (List ℕ))
@@ -377,9 +377,9 @@ lists h = do
     statements = statements;
   })
 
-unfoldable pub section : Read Section
-section = header >>= lists
+unfoldable pub readSection : Read Section
+readSection = header >>= lists
 
 -- the section of a file's bytes; the whole file is read before anything is resolved
 unfoldable pub read : Read Section
-read file = on (streamOf file) λ stream _. section stream
+read file = on (streamOf file) λ stream _. readSection stream

@@ -5,7 +5,7 @@ use mathlib.Core.List.{List, [], _∷_, _++_}
 use mathlib.Core.Option.{Option, none, some}
 use lib.ListN.{getElem?, set}
 use lib.Dec.{eqb}
-use Rattle.prelude.specs.Base.{if_then_else_, _or_, orElse, andThen, isSome, all, first}
+use Rattle.prelude.specs.Base.{if_then_else_, _or_, orElse, andThen, isSome, all, first, contains}
 use Rattle.definition.specs.Operations.{Operation, among}
 use Rattle.definition.specs.Value.{Kind, Value, isKind, truncate, SemanticAction, operationOf, Temporary}
 use Rattle.definition.specs.Ast.{Space, Register, Table, Field, Subtable, Section}
@@ -18,13 +18,18 @@ pub data Operand : Type 0 where
 pub data FixedSize : Type 0 where
   one pointer : FixedSize
 
+-- in bytes, given the pointer size
+unfoldable pub fixedSize : ℕ → FixedSize → ℕ
+fixedSize pointerSize one = 1
+fixedSize pointerSize pointer = pointerSize
+
 pub data Step : Type 0 where
   -- these operands have one size
   equal : List Operand → Step
   -- this operand has that size
-  sized : Operand → FixedSize → Step
+  exactly : Operand → FixedSize → Step
   -- this operand takes that size where it is unsized
-  unsized : Operand → FixedSize → Step
+  byDefault : Operand → FixedSize → Step
 
 pub record Rule : Type 0 where
   pub operations : List Operation
@@ -41,7 +46,7 @@ rules =
     -- shifts
     ∷ record {
       operations = Operation.IntLeft ∷ Operation.IntRight ∷ Operation.IntSignedRight ∷ [];
-      steps = equal (in0 ∷ out ∷ []) ∷ unsized in1 pointer ∷ [];
+      steps = equal (in0 ∷ out ∷ []) ∷ byDefault in1 pointer ∷ [];
     }
     -- integer and float arithmetic, and, xor, or
     ∷ record {
@@ -58,18 +63,18 @@ rules =
           ∷ Operation.IntSignedLess ∷ Operation.IntSignedLessEqual ∷ Operation.IntLess ∷ Operation.IntLessEqual
           ∷ Operation.IntEqual ∷ Operation.IntNotEqual
           ∷ Operation.FloatLess ∷ Operation.FloatLessEqual ∷ Operation.FloatEqual ∷ Operation.FloatNotEqual ∷ [];
-      steps = equal (in0 ∷ in1 ∷ []) ∷ sized out one ∷ [];
+      steps = equal (in0 ∷ in1 ∷ []) ∷ exactly out one ∷ [];
     }
     -- boolean operations
     ∷ record {
       operations = Operation.BoolXor ∷ Operation.BoolAnd ∷ Operation.BoolOr ∷ Operation.BoolNot ∷ [];
-      steps = sized in0 one ∷ sized in1 one ∷ sized out one ∷ [];
+      steps = exactly in0 one ∷ exactly in1 one ∷ exactly out one ∷ [];
     }
     -- nan
-    ∷ record { operations = Operation.FloatIsNan ∷ []; steps = sized out one ∷ [] }
-    ∷ record { operations = Operation.Load ∷ Operation.Store ∷ []; steps = sized in0 pointer ∷ [] }
-    ∷ record { operations = Operation.Branch ∷ []; steps = sized in0 one ∷ unsized in1 pointer ∷ [] }
-    ∷ record { operations = Operation.PcodeBranch ∷ []; steps = sized in0 one ∷ [] }
+    ∷ record { operations = Operation.FloatIsNan ∷ []; steps = exactly out one ∷ [] }
+    ∷ record { operations = Operation.Load ∷ Operation.Store ∷ []; steps = exactly in0 pointer ∷ [] }
+    ∷ record { operations = Operation.Branch ∷ []; steps = exactly in0 one ∷ byDefault in1 pointer ∷ [] }
+    ∷ record { operations = Operation.PcodeBranch ∷ []; steps = exactly in0 one ∷ [] }
     ∷ []
 
 -- others: no rule
@@ -79,10 +84,6 @@ ruleOf op = orElse [] (first (λ (r : Rule). if among (r .operations) op then so
 unfoldable pub stepsOf : Option Operation → List Step
 stepsOf (some op) = ruleOf op
 stepsOf none = []
-
-unfoldable pub isSize : ℕ → Option ℕ → Bool
-isSize n (some m) = eqb n m
-isSize n none = false
 
 -- all but the first that passes
 unfoldable pub butFirst : (Operand → Bool) → List Operand → List Operand
@@ -153,14 +154,14 @@ module _ (sec : Section) where
       if isKind Kind.InstStart v || isKind Kind.InstNext v || isKind Kind.Constant v || isKind Kind.Field v
       then some pointerSize else none
 
-  unfoldable pub sizedTmp : ℕ → Option Temporary → ℕ → Sizing → Sizing
-  sizedTmp i (some t) n s = withTemporaries (set (s .temporaries) i (record { name = t .name; size = some n })) s
-  sizedTmp i none n s = s
+  unfoldable pub setTmpSize : ℕ → Option Temporary → ℕ → Sizing → Sizing
+  setTmpSize i (some t) n s = withTemporaries (set (s .temporaries) i (record { name = t .name; size = some n })) s
+  setTmpSize i none n s = s
 
   -- an unknown size on a temporary sizes it everywhere
   unfoldable pub sizeTemporary : ℕ → Value → Sizing → Sizing
   sizeTemporary n v s =
-      if isKind Kind.PcodeTmp v then sizedTmp (v .number) (getElem? (s .temporaries) (v .number)) n s else s
+      if isKind Kind.PcodeTmp v then setTmpSize (v .number) (getElem? (s .temporaries) (v .number)) n s else s
 
   -- a different known size is an error, but for a subtable
   unfoldable pub settled : Option ℕ → ℕ → Value → Sizing → Sizing
@@ -193,7 +194,7 @@ module _ (sec : Section) where
   -- the fallback, where there is one.
   unfoldable pub shareSize : Option ℕ → Option ℕ → List Operand → SemanticAction → Sizer SemanticAction
   shareSize (some n) fallback ps a s =
-      if all (λ p. isSize n (knownAt a s p)) ps then (a, s)
+      if all (λ p. contains n (knownAt a s p)) ps then (a, s)
       else setOperands n (butFirst (λ p. isSome (knownAt a s p)) ps) a s
   shareSize none (some n) ps a s = setOperands n ps a s
   shareSize none none ps a s = (a, s)
@@ -204,18 +205,14 @@ module _ (sec : Section) where
       shareSize (first (knownAt a s) ps)
       (if useFallback then first (λ p. andThen (at p a) fallbackSize) ps else none) ps a s
 
-  unfoldable pub fixedSize : FixedSize → ℕ
-  fixedSize one = 1
-  fixedSize pointer = pointerSize
-
   unfoldable pub setUnsized : Option ℕ → ℕ → Operand → SemanticAction → Sizer SemanticAction
   setUnsized (some known) n p a = pure a
   setUnsized none n p a = setOperand n p a
 
   unfoldable pub applyStep : Bool → Step → SemanticAction → Sizer SemanticAction
   applyStep useFallback (equal ps) a s = setSizeOfAll useFallback ps a s
-  applyStep useFallback (sized p z) a s = setOperand (fixedSize z) p a s
-  applyStep useFallback (unsized p z) a s = setUnsized (knownAt a s p) (fixedSize z) p a s
+  applyStep useFallback (exactly p z) a s = setOperand (fixedSize pointerSize z) p a s
+  applyStep useFallback (byDefault p z) a s = setUnsized (knownAt a s p) (fixedSize pointerSize z) p a s
 
   unfoldable pub applySteps : Bool → List Step → SemanticAction → Sizer SemanticAction
   applySteps useFallback [] a = pure a
@@ -250,12 +247,12 @@ module _ (sec : Section) where
 
   -- At the end: the known size, else the fallback, else an error.
 
-  unfoldable pub fixed : Value → Option ℕ → Sizer Value
-  fixed v (some n) s = (truncate n v, s)
-  fixed v none s = (v, error s)
+  unfoldable pub fixTo : Value → Option ℕ → Sizer Value
+  fixTo v (some n) s = (truncate n v, s)
+  fixTo v none s = (v, error s)
 
   unfoldable pub fixSize : Value → Sizer Value
-  fixSize v s = fixed v (sizeOf (s .temporaries) v or fallbackSize v) s
+  fixSize v s = fixTo v (sizeOf (s .temporaries) v or fallbackSize v) s
 
   unfoldable pub fixInputs : List Value → Sizer (List Value)
   fixInputs [] = pure []

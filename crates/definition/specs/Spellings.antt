@@ -4,7 +4,7 @@ use Prim.Native.Char.{code}
 use Prim.Native.String.{String, [] as end, _∷_ as _then_}
 use mathlib.Core.List.{List, [], _∷_}
 use mathlib.Core.Option.{Option, none, some}
-use Rattle.prelude.specs.Base.{if_then_else_, first, sameBytes}
+use Rattle.prelude.specs.Base.{if_then_else_, first, sameNumbers}
 use Rattle.definition.specs.Operations.{Operation}
 
 unfoldable pub bytesOf : String → List ℕ
@@ -46,4 +46,4 @@ inbuilts =
     ∷ []
 
 unfoldable pub translateInbuiltFunc : List ℕ → Option Inbuilt
-translateInbuiltFunc name = first (λ (x : Inbuilt). if sameBytes name (x .spelling) then some x else none) inbuilts
+translateInbuiltFunc name = first (λ (x : Inbuilt). if sameNumbers name (x .spelling) then some x else none) inbuilts

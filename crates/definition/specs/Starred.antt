@@ -243,7 +243,8 @@ starredSections =
           ++ firstNames ++ hex 2 0x0178 ++ spacesAndRegisters
           ++ hex 12 0x050500060021000700000800);
       macros = [];
-      statements = Statement.Copy (PcodeExpr.Op (ident r4) (PcodeOp.greater Operation.IntLess) (ident s4)) (ident localX) ∷ [];
+      statements =
+          Statement.Copy (PcodeExpr.Op (ident r4) (PcodeOp.greater Operation.IntLess) (ident s4)) (ident localX) ∷ [];
       result = 0 ∷ 65535 ∷ 1 ∷ 1 ∷ 1 ∷ 0 ∷ 0 ∷ 0 ∷ 0 ∷ 0 ∷ 0 ∷ 0 ∷ [];
       actions = rows ((0 ∷ 12 ∷ 0 ∷ 2 ∷ tmp 0 1 ++ reg 1 4 ++ reg 0 4) ∷ []);
       temporaries = filled 8 (named localX 1 ∷ []);

@@ -11,7 +11,7 @@ use Rattle.definition.specs.Operations.{Operation}
 use Rattle.definition.specs.Value.{Kind, Value, isKind, constant, ActionKind, ExportKind, Export}
 use Rattle.definition.specs.Ast.{PcodeExpr, Args, JumpLabel, BranchDst, BranchHint, Statement, Macro, Subtable}
 use Rattle.definition.specs.Sizes.{Sizing, pointerSize}
-use Rattle.definition.specs.Walk.{ExprValue, State, Walk, _>>=_, _>>_, pure, refuse, require, expect, section, state, change, withScope, withExport, knownSize, sliced, addTmp, push, op, opNoOutput}
+use Rattle.definition.specs.Walk.{ExprValue, State, Walk, _>>=_, _>>_, pure, refuse, require, expect, section, state, change, stateOf, withScope, withSizing, withExport, knownSize, sliced, addTmp, push, op, opNoOutput}
 use Rattle.definition.specs.Scope.{Symbol, lookup, asTable, Meaning, means, wrong, meaning, resolveIdent, namedTmp, getOrInsertLabel, resolveLabel, macroScope}
 use Rattle.definition.specs.Expressions.{mask, setStated, takeStated, byteAligned, readValue, valueOf, readAll, asLocal, resolveAddress, onlyInteger, resolveExpr, resolveArgs}
 
@@ -147,7 +147,7 @@ unfoldable pub exportOf : ExprValue → Option Reference → Walk Export
 exportOf x (some reference) = pure (exported reference)
 exportOf x none = do
   v ← readValue x none
-  pure (record { kind = ExportKind.Computed; value = v; accessSize = 0 })
+  pure (record { kind = ExportKind.PlainValue; value = v; accessSize = 0 })
 
 -- Builds: the first subtable of the table.
 
@@ -266,24 +266,12 @@ ordinalAfter macros = sum (map (λ (m : Macro). length (m .body)) macros)
 -- A statement begins: it has its ordinal, may not follow an export, and is counted up to 4,096.
 
 unfoldable pub beginAt : ℕ → State → State
-beginAt ordinal s = record {
-  statements = s .statements;
-  scope = s .scope;
-  nextLabel = s .nextLabel;
-  sizing = record { begun = some ordinal; temporaries = s .sizing .temporaries; errors = s .sizing .errors };
-  actions = s .actions;
-  export = s .export;
-}
+beginAt ordinal s =
+    let z = s .sizing in
+    withSizing (record { begun = some ordinal; temporaries = z .temporaries; errors = z .errors }) s
 
 unfoldable pub counted : State → State
-counted s = record {
-  statements = suc (s .statements);
-  scope = s .scope;
-  nextLabel = s .nextLabel;
-  sizing = s .sizing;
-  actions = s .actions;
-  export = s .export;
-}
+counted s = stateOf (suc (s .statements)) (s .scope) (s .nextLabel) (s .sizing) (s .actions) (s .export)
 
 unfoldable pub begin : ℕ → Walk (Unit {0})
 begin ordinal = do

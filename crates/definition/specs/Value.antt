@@ -1,7 +1,7 @@
 -- THE VALUE, and what the resolver makes of values: actions, temporaries, the export.
 use Prim.Native.Nat.{ℕ, _+_}
 use mathlib.Core.Bool.{Bool}
-use mathlib.Core.List.{List}
+use mathlib.Core.List.{List, _∷_}
 use mathlib.Core.Option.{Option, none, some}
 use lib.Dec.{eqb}
 use Rattle.definition.specs.Operations.{Operation}
@@ -59,6 +59,11 @@ pub record SemanticAction : Type 0 where
   pub inputs : List Value
   pub output : Option Value
 
+-- an operation's operands: its inputs, and any output
+unfoldable pub operands : Option Value → List Value → List Value
+operands none inputs = inputs
+operands (some v) inputs = v ∷ inputs
+
 unfoldable pub operationOf : ActionKind → Option Operation
 operationOf (ActionKind.Op op) = some op
 operationOf ActionKind.AddressOf = none
@@ -72,7 +77,7 @@ pub record Temporary : Type 0 where
   pub size : Option ℕ
 
 pub data ExportKind : Type 0 where
-  Computed RamRef RegisterRef : ExportKind
+  PlainValue RamRef RegisterRef : ExportKind
 
 pub record Export : Type 0 where
   pub kind : ExportKind

@@ -99,60 +99,37 @@ state e s = done s s
 abbrev pub change : (State → State) → Walk (Unit {0})
 change f e s = done tt (f s)
 
-abbrev pub withScope : Scope → State → State
-withScope x s = record {
-  statements = s .statements;
-  scope = x;
-  nextLabel = s .nextLabel;
-  sizing = s .sizing;
-  actions = s .actions;
-  export = s .export;
+-- a state by its parts, in their order
+abbrev pub stateOf : ℕ → Scope → ℕ → Sizing → List SemanticAction → Option Export → State
+stateOf statements scope nextLabel sizing actions export = record {
+  statements = statements;
+  scope = scope;
+  nextLabel = nextLabel;
+  sizing = sizing;
+  actions = actions;
+  export = export;
 }
+
+abbrev pub withScope : Scope → State → State
+withScope x s = stateOf (s .statements) x (s .nextLabel) (s .sizing) (s .actions) (s .export)
 
 abbrev pub withLabel : Scope → State → State
-withLabel x s = record {
-  statements = s .statements;
-  scope = x;
-  nextLabel = suc (s .nextLabel);
-  sizing = s .sizing;
-  actions = s .actions;
-  export = s .export;
-}
+withLabel x s = stateOf (s .statements) x (suc (s .nextLabel)) (s .sizing) (s .actions) (s .export)
 
 abbrev pub withSizing : Sizing → State → State
-withSizing x s = record {
-  statements = s .statements;
-  scope = s .scope;
-  nextLabel = s .nextLabel;
-  sizing = x;
-  actions = s .actions;
-  export = s .export;
-}
+withSizing x s = stateOf (s .statements) (s .scope) (s .nextLabel) x (s .actions) (s .export)
 
 abbrev pub withAction : SemanticAction → State → State
-withAction a s = record {
-  statements = s .statements;
-  scope = s .scope;
-  nextLabel = s .nextLabel;
-  sizing = s .sizing;
-  actions = s .actions ++ (a ∷ []);
-  export = s .export;
-}
+withAction a s = stateOf (s .statements) (s .scope) (s .nextLabel) (s .sizing) (s .actions ++ (a ∷ [])) (s .export)
 
 abbrev pub withExport : Export → State → State
-withExport x s = record {
-  statements = s .statements;
-  scope = s .scope;
-  nextLabel = s .nextLabel;
-  sizing = s .sizing;
-  actions = s .actions;
-  export = some x;
-}
+withExport x s = stateOf (s .statements) (s .scope) (s .nextLabel) (s .sizing) (s .actions) (some x)
 
 -- Sizes within the walk.
 
-abbrev pub sizing : {A : Type 0} → (Section → Sizing → A × Sizing) → Walk A
-sizing f e s = let (a, x) = f (e .section) (s .sizing) in done a (withSizing x s)
+-- a change of sizes as a step of the walk
+abbrev pub bySizes : {A : Type 0} → (Section → Sizing → A × Sizing) → Walk A
+bySizes f e s = let (a, x) = f (e .section) (s .sizing) in done a (withSizing x s)
 
 abbrev pub knownSize : Value → Walk (Option ℕ)
 knownSize v e s = done (sizeOf (e .section) (s .sizing .temporaries) v) s
@@ -191,7 +168,7 @@ push a = do
 unfoldable pub pushOp : Operation → ℕ → List Value → Option Value → Walk SemanticAction
 pushOp op n inputs output = do
   let a : SemanticAction = record { kind = ActionKind.Op op; number = n; inputs = inputs; output = output }
-  a ← sizing λ sec. updateOperandSizes sec false a
+  a ← bySizes λ sec. updateOperandSizes sec false a
   push a
   pure a
 

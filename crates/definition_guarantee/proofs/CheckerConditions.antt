@@ -10,10 +10,10 @@ use lib.ListN.{length, getElem?, replicate, take, drop}
 use Rattle.prelude.specs.Base.{if_then_else_, orElse, andThen, isSome, any, all, first}
 use Rattle.definition.specs.Operations.{Operation, operationNumber}
 use Rattle.definition.specs.Value.{Kind, Value, ActionKind, SemanticAction, operationOf}
-use Rattle.definition.specs.Sizes.{Operand, equal, sized, ruleOf, stepsOf, at}
+use Rattle.definition.specs.Sizes.{Operand, equal, exactly, ruleOf, stepsOf, at, fixedSize}
 use Rattle.definition.specs.End.{isBuild, builds}
 use Rattle.definition.specs.ActionList.{filled, listWords, placesLabel}
-use Rattle.definition.specs.Checker.{shapeOf, sameCount, countsFit, optionFits, numberFits, valueFits, plainBase, baseFits, layoutFits, isSized, sizeAt, hasSize, allHaveSize, sizeNamed, stepHolds, operationHolds, sizesHold, places, labelsOnce, allBuilt, listHolds, actionFrom, actionsFrom, check}
+use Rattle.definition.specs.Checker.{shapeOf, sameCount, countsFit, optionFits, numberFits, valueFits, plainBase, baseFits, layoutFits, isSized, sizeAt, hasSize, allHaveSize, stepHolds, operationHolds, sizesHold, places, labelsOnce, allBuilt, listHolds, actionFrom, actionsFrom, check}
 use Rattle.definition_guarantee.proofs.Tests.{clash, never, eq-of, eq-same, same, differs, le-of, lt-of, and-true, both, if-true, all-at, then-some, or-true, list-same, any-from, first-none, none-some, some-same}
 use Rattle.definition_guarantee.proofs.Words.{fits-parts, Shaped, Laid, laid, subpiece-shapeless}
 use Rattle.definition.specs.Right.{Among, IsOperand, input, output, NumberWithin, ValueWithin, ActionRight, Right}
@@ -129,8 +129,8 @@ module _ (t sub pointer : ℕ) where
     sizes = λ op v e o. op-sizes a op (op-holds a op e k) .0 v o;
     equalSizes = λ op ps p q v u e i ip iq d f. equal-sizes pointer a ps p q v u
         (all-at (stepHolds pointer a) (ruleOf op) (i .0) (equal ps) (op-sizes a op (op-holds a op e k) .1) (i .1)) ip iq d f;
-    fixedSizes = λ op p z v e i d. has-size (sizeNamed pointer z) (at p a) v
-        (all-at (stepHolds pointer a) (ruleOf op) (i .0) (sized p z) (op-sizes a op (op-holds a op e k) .1) (i .1)) d;
+    fixedSizes = λ op p z v e i d. has-size (fixedSize pointer z) (at p a) v
+        (all-at (stepHolds pointer a) (ruleOf op) (i .0) (exactly p z) (op-sizes a op (op-holds a op e k) .1) (i .1)) d;
     noSubpiece = λ e. clash refl (subpiece-shapeless t sub Operation.Subpiece (s .shape) (ap (shapeOf t sub) (sym e) ∙ s .is)
         (eqb (operationNumber Operation.Subpiece) 66) refl);
   }

@@ -5,12 +5,12 @@ use mathlib.Core.Bool.{true}
 use mathlib.Core.List.{List, [], _∷_}
 use mathlib.Core.Option.{Option, none, some}
 use lib.ListN.{getElem?}
-use Rattle.prelude.specs.Base.{_or_, andThen, isSome, all, first}
+use Rattle.prelude.specs.Base.{_or_, andThen, isSome, all, first, contains}
 use Rattle.definition.specs.Operations.{Operation}
 use Rattle.definition.specs.Value.{Value, truncate, ActionKind, SemanticAction, operationOf, Temporary}
 use Rattle.definition.specs.Ast.{Section}
-use Rattle.definition.specs.Sizes.{Operand, in0, in1, out, FixedSize, one, pointer, Step, equal, sized, unsized, rules, ruleOf, stepsOf, isSize, at, pointerSize, fixedSize}
-use Rattle.definition.specs.Checker.{optionFits, isSized, sizeAt, hasSize, allHaveSize, sizeNamed, stepHolds, operationHolds, sizesHold}
+use Rattle.definition.specs.Sizes.{Operand, in0, in1, out, FixedSize, one, pointer, Step, equal, exactly, byDefault, rules, ruleOf, stepsOf, at, pointerSize, fixedSize}
+use Rattle.definition.specs.Checker.{optionFits, isSized, sizeAt, hasSize, allHaveSize, stepHolds, operationHolds, sizesHold}
 use Rattle.definition.proofs.Openers.{operations-opens}
 use Rattle.definition_guarantee.specs.Tests.{Each}
 use Rattle.definition_guarantee.proofs.Tests.{same, both, all-cons, all-parts, all-from, first-from, then-some, none-some}
@@ -62,13 +62,8 @@ module _ (sec : Section) where
   unfolding _or_
   own-final w v m n k e = let c = own-size sec w v n k in let d : some n ≡ some m = rw c at e in cc
 
-  named-size : (z : FixedSize) → sizeNamed (pointerSize sec) z ≡ fixedSize sec z
-  unfolding sizeNamed fixedSize
-  named-size one = refl
-  named-size pointer = refl
-
   has-size : (n : ℕ) (x : Option Value) → ((u : Value) → x ≡ some u → u .size ≡ some n) → hasSize n x ≡ true
-  unfolding hasSize isSize
+  unfolding hasSize contains
   has-size n none h = refl
   has-size n (some u) h = rw (h u refl) (same n)
 
@@ -100,14 +95,14 @@ module _ (sec : Section) where
                   (there .3) in
                   let k : some (there .1) ≡ some n = ap (λ (x : Value). x .size) (sym (there .4)) ∙ s .2 in
                   ap (λ (x : Value). x .size) (here .4) ∙ ap some m ∙ k
-  step-holds w a c (sized p z) f o = has-size _ (at p c) sizes
+  step-holds w a c (exactly p z) f o = has-size _ (at p c) sizes
     where
-      sizes : (u : Value) → at p c ≡ some u → u .size ≡ some (sizeNamed (pointerSize sec) z)
+      sizes : (u : Value) → at p c ≡ some u → u .size ≡ some (fixedSize (pointerSize sec) z)
       sizes u e =
           let here = fixed-some w (at p a) u (subst (FixedOption sec w (at p a)) e (fixed-at w a c p f)) in
           ap (λ (x : Value). x .size) (here .4) ∙ ap some
-          (own-final w (here .0) (here .1) _ (o (here .0) (here .2)) (here .3) ∙ sym (named-size z))
-  step-holds w a c (unsized p z) f o = refl
+          (own-final w (here .0) (here .1) _ (o (here .0) (here .2)) (here .3))
+  step-holds w a c (byDefault p z) f o = refl
 
   steps-hold : (w : List Temporary) (a c : SemanticAction) (xs : List Step) → FixedAction sec w a c → AllObeyed sec w a xs
       → all (stepHolds (pointerSize sec) c) xs ≡ true
@@ -128,7 +123,7 @@ module _ (sec : Section) where
       → andThen o (λ (v : Value). v .size) ≡ some z → SlicedInputs sec n z vs us
       → operationHolds (pointerSize sec) (some Operation.Copy)
       (record { kind = ActionKind.Op Operation.Copy; number = 0; inputs = us; output = o }) ≡ true
-  unfolding operationHolds stepsOf ruleOf rules operations-opens stepHolds allHaveSize sizeAt hasSize at isSize isSized optionFits
+  unfolding operationHolds stepsOf ruleOf rules operations-opens stepHolds allHaveSize sizeAt hasSize at contains isSized optionFits
   copy-holds n z vs us none i o e s = none-some {x = none} refl e
   copy-holds n z [] [] (some v) i o e s = rw e (rw (same z))
   copy-holds n z [] (u ∷ us) (some v) i o e s = absurd s

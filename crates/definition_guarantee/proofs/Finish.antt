@@ -11,7 +11,7 @@ use Rattle.definition.specs.Refusals.{Refusal, subpieceSize}
 use Rattle.definition.specs.Operations.{Operation, isOp}
 use Rattle.definition.specs.Value.{Value, truncate, sliceBytes, ActionKind, SemanticAction, operationOf, Temporary, Export}
 use Rattle.definition.specs.Ast.{Section}
-use Rattle.definition.specs.Sizes.{Sizing, fixed, fixSize, fixInputs, fixOutput, fixOperands, backwardPass, forwardPass, applySizeInference}
+use Rattle.definition.specs.Sizes.{Sizing, fixTo, fixSize, fixInputs, fixOutput, fixOperands, backwardPass, forwardPass, applySizeInference}
 use Rattle.definition.specs.Walk.{State, Env, Outcome, done, stopped, on, Walk, require, expect, sliced, withSizing}
 use Rattle.definition.specs.End.{slicedInputs, subpieceCopy, finishOp, finishActions, finishExport, implicitBuilds, noErrors, Semantics, finish}
 use Rattle.definition_guarantee.proofs.Tests.{le-of}
@@ -61,9 +61,9 @@ module _ (sec : Section) where
     pub inputs : FixedAll w (a .inputs) (c .inputs)
     pub output : FixedOption w (a .output) (c .output)
 
-  fix-value : (v : Value) (x : Option ℕ) (s : Sizing) → finalSize sec (s .temporaries) v ≡ x → (fixed sec v x s) .1 .errors ≡ []
-      → ((fixed sec v x s) .1 ≡ s) × Fixed (s .temporaries) v ((fixed sec v x s) .0)
-  unfolding fixed
+  fix-value : (v : Value) (x : Option ℕ) (s : Sizing) → finalSize sec (s .temporaries) v ≡ x → (fixTo sec v x s) .1 .errors ≡ []
+      → ((fixTo sec v x s) .1 ≡ s) × Fixed (s .temporaries) v ((fixTo sec v x s) .0)
+  unfolding fixTo
   fix-value v (some n) s e h = (refl, (n, e, refl))
   fix-value v none s e h = snoc-empty (s .errors) (s .begun) h
 

@@ -8,12 +8,12 @@ use mathlib.Core.Option.{Option, none, some}
 use native.Mathlib.Omega.{arith}
 use lib.Dec.{eqb}
 use lib.ListN.{getElem?}
-use Rattle.prelude.specs.Base.{if_then_else_, isSome, any}
+use Rattle.prelude.specs.Base.{if_then_else_, isSome, any, filter}
 use Rattle.definition.specs.Operations.{Operation}
-use Rattle.definition.specs.Value.{Kind, kindNumber, Value, isKind, ActionKind, SemanticAction, operationOf, Temporary}
+use Rattle.definition.specs.Value.{Kind, kindNumber, Value, isKind, ActionKind, SemanticAction, operationOf, Temporary, operands}
 use Rattle.definition.specs.Ast.{Section}
 use Rattle.definition.specs.Sizes.{Operand, in0, in1, out, Step, stepsOf, at, Sizing, applySteps, updateOperandSizes, backwardPass, forwardPass}
-use Rattle.definition.specs.Premise.{filter, temporariesAmong, operands, underRule, ruled, isSizedIn, joined, sizedLate}
+use Rattle.definition.specs.Premise.{temporariesAmong, underRule, ruled, isSizedIn, joined, sizedLate}
 use Rattle.definition_guarantee.specs.Tests.{Each}
 use Rattle.definition_guarantee.proofs.Tests.{clash, never, In, in-left, in-right, none-some}
 use Rattle.definition_guarantee.proofs.Growth.{tmpSize, Grown, grown-refl, grown-trans}

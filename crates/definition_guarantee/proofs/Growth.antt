@@ -10,7 +10,7 @@ use lib.ListN.{length, getElem?, set, length-set}
 use Rattle.prelude.specs.Base.{if_then_else_, _or_, andThen}
 use Rattle.definition.specs.Value.{Kind, kindNumber, Value, isKind, Temporary}
 use Rattle.definition.specs.Ast.{Section}
-use Rattle.definition.specs.Sizes.{Sizing, sizeOfLocal, sizeOf, sizedTmp, sizeTemporary, settled}
+use Rattle.definition.specs.Sizes.{Sizing, sizeOfLocal, sizeOf, setTmpSize, sizeTemporary, settled}
 use Rattle.definition_guarantee.proofs.Tests.{clash, never, none-some}
 
 -- a temporary's size
@@ -119,8 +119,8 @@ module _ (sec : Section) where
   own-size ts v n e = rw e
 
   tmp-touched : (i n : ℕ) (x : Option Temporary) (s : Sizing) → tmpSize (s .temporaries) i ≡ none
-      → Touched n (s .temporaries) ((sizedTmp sec i x n s) .temporaries)
-  unfolding sizedTmp
+      → Touched n (s .temporaries) ((setTmpSize sec i x n s) .temporaries)
+  unfolding setTmpSize
   tmp-touched i n (some t) s h = set-touched (s .temporaries) i n (record { name = t .name; size = some n }) refl h
   tmp-touched i n none s h = touched-refl
 
@@ -140,7 +140,7 @@ module _ (sec : Section) where
   settled-touched v n s none e = go (eqb (kindNumber Kind.PcodeTmp) (kindNumber (v .kind))) refl
     where
       go : (b : Bool) → eqb (kindNumber Kind.PcodeTmp) (kindNumber (v .kind)) ≡ b
-          → Touched n (s .temporaries) ((if b then sizedTmp sec (v .number) (getElem? (s .temporaries) (v .number))
+          → Touched n (s .temporaries) ((if b then setTmpSize sec (v .number) (getElem? (s .temporaries) (v .number))
           n s else s) .temporaries)
       go true d = tmp-touched (v .number) n (getElem? (s .temporaries) (v .number)) s
           (sym (local-tmp (s .temporaries) (v .kind) (v .number) d) ∙ size-none (s .temporaries) v e .1)

@@ -5,6 +5,7 @@ use mathlib.Core.Bool.{true}
 use mathlib.Core.List.{List}
 use native.Mathlib.Omega.{arith}
 use lib.ListN.{length}
+use Rattle.prelude.specs.Base.{isEmpty}
 use Rattle.definition.specs.Ast.{Section}
 use Rattle.definition.specs.SectionFile.{Parsed, parsed, refused, read}
 use Rattle.definition.specs.Sizes.{pointerSize}
@@ -12,7 +13,7 @@ use Rattle.definition.specs.Walk.{State, Env, Outcome, done, stopped}
 use Rattle.definition.specs.End.{Semantics, finish, resolveStatements, resolveSection, atStart}
 use Rattle.definition.specs.ActionList.{acceptedResult, refusalResult, refusal, accepted, answered, roomFor, whenRead, resolveRead, resolve}
 use Rattle.definition.specs.Checker.{check}
-use Rattle.definition.specs.Premise.{lateIn, premiseFailures, none?, premise}
+use Rattle.definition.specs.Premise.{lateIn, premiseFailures, premise}
 use Rattle.definition.specs.Passing.{subtableCount, pointerSizeIn}
 use Rattle.definition_guarantee.specs.Guarantee.{AcceptedListsPass, AcceptedFilesPass}
 use Rattle.definition_guarantee.proofs.Finish.{on-done}
@@ -30,7 +31,7 @@ accepted-lists-pass file rest la lt sec x s r h p =
     let e : Env = roomFor sec la lt in
     let w = read-within file rest sec r in
     let q = on-done e (resolveStatements e (atStart sec)) (λ _. finish) x s h in
-    let held : none? (lateIn la lt (parsed sec rest)) ≡ true = rw r at p in
+    let held : isEmpty (lateIn la lt (parsed sec rest)) ≡ true = rw r at p in
     end-passes e la (q .1) s x (room la) (small-section sec w) (walk-in-order e (q .1) (q .0) w (q .2)) (q .3)
     (late-none e (q .1) (q .0) (q .2) held)
 

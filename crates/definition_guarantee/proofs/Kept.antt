@@ -14,7 +14,7 @@ use Rattle.definition.specs.Operations.{Operation}
 use Rattle.definition.specs.Value.{Kind, Value, ActionKind, SemanticAction}
 use Rattle.definition.specs.Ast.{Space, Register, Table, Field, Subtable, Section}
 use Rattle.definition.specs.Sizes.{Sizing, pointerSize, exportSizeOf, sizeOf, setSize, settled}
-use Rattle.definition.specs.Walk.{ExprValue, Label, Scope, State, Env, Outcome, done, stopped, on, Walk, _>>=_, _>>_, pure, refuse, require, expect, section, sizing, knownSize, withSizing, sliced, op, change}
+use Rattle.definition.specs.Walk.{ExprValue, Label, Scope, State, Env, Outcome, done, stopped, on, Walk, _>>=_, _>>_, pure, refuse, require, expect, section, bySizes, knownSize, withSizing, sliced, op, change}
 use Rattle.definition.specs.Scope.{find}
 use Rattle.definition.specs.Checker.{Shape, shapeOf, sameCount, optionFits, numberFits, valueFits}
 use Rattle.definition_guarantee.specs.Tests.{Each}
@@ -299,7 +299,7 @@ sized-later s x c = record {
 }
 
 pub keep-setSize : {e : Env} {n : ℕ} → WithinLimits (e .section) → (z : ℕ) (v : Value) → z < 65535 → ValueFits e n v
-    → Keeps e n (λ k w. ValueFits e k w) (sizing λ sec. setSize sec z v)
+    → Keeps e n (λ k w. ValueFits e k w) (bySizes λ sec. setSize sec z v)
 unfolding setSize orElse
 keep-setSize {e} {n} w z v h f = record {
   keeps = λ s c o.

@@ -14,7 +14,7 @@ use Rattle.definition.specs.Operations.{Operation, operationNumber}
 use Rattle.definition.specs.Value.{Value, ActionKind, SemanticAction, operationOf}
 use Rattle.definition.specs.Ast.{Statement, Macro}
 use Rattle.definition.specs.Sizes.{updateOperandSizes}
-use Rattle.definition.specs.Walk.{ExprValue, Label, State, Env, Outcome, done, stopped, on, Walk, pure, require, sizing, withScope, withLabel, withSizing, withAction, push, pushOp, opNoOutput}
+use Rattle.definition.specs.Walk.{ExprValue, Label, State, Env, Outcome, done, stopped, on, Walk, pure, require, bySizes, withScope, withLabel, withSizing, withAction, push, pushOp, opNoOutput}
 use Rattle.definition.specs.Scope.{find, putEntry, namedTmp, withEntry, labelOr, getOrInsertLabel, resolveLabel, bindParams, macroScope}
 use Rattle.definition.specs.Statements.{enterMacro}
 use Rattle.definition_guarantee.specs.Tests.{Each}

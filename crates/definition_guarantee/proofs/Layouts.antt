@@ -8,11 +8,11 @@ use mathlib.Core.Option.{Option, none, some}
 use native.Mathlib.Omega.{arith}
 use lib.Dec.{eqb}
 use lib.ListN.{length, getElem?}
-use Rattle.prelude.specs.Base.{if_then_else_, _or_, orElse, andThen, isSome, all, first}
+use Rattle.prelude.specs.Base.{if_then_else_, _or_, orElse, andThen, isSome, all, first, contains}
 use Rattle.definition.specs.Operations.{Operation, operationNumber, isOp}
 use Rattle.definition.specs.Value.{Kind, Value, isKind, truncate, sliceBytes, ActionKind, SemanticAction, operationOf, Temporary}
 use Rattle.definition.specs.Ast.{Register, Field, Subtable, Section}
-use Rattle.definition.specs.Sizes.{Operand, in0, in1, out, FixedSize, one, pointer, Step, equal, sized, unsized, rules, ruleOf, stepsOf, at, put, Sizing, pointerSize, exportSizeOf, sizeOfLocal, sizeOf, fallbackSize, setSize, setGiven, setOperand, setOperands, knownAt, shareSize, setSizeOfAll, fixedSize, setUnsized, applyStep, applySteps, updateOperandSizes, backwardPass, forwardPass, isSize, butFirst}
+use Rattle.definition.specs.Sizes.{Operand, in0, in1, out, FixedSize, one, pointer, Step, equal, exactly, byDefault, rules, ruleOf, stepsOf, at, put, Sizing, pointerSize, exportSizeOf, sizeOfLocal, sizeOf, fallbackSize, setSize, setGiven, setOperand, setOperands, knownAt, shareSize, setSizeOfAll, fixedSize, setUnsized, applyStep, applySteps, updateOperandSizes, backwardPass, forwardPass, butFirst}
 use Rattle.definition.specs.Checker.{Shape, shapes, shapeOf, countsFit, sameCount, optionFits, valueFits, layoutFits, baseFits}
 use Rattle.definition.proofs.Openers.{operations-opens}
 use Rattle.definition_guarantee.specs.Tests.{Each}
@@ -91,7 +91,7 @@ module _ (sec : Section) (limits : SmallSection sec) where
       go (some m) d e = known-small t sub w v n s f (d ∙ e)
       go none d e = fallback-small v n e
 
-  fixed-small : (z : FixedSize) → fixedSize sec z < 65535
+  fixed-small : (z : FixedSize) → fixedSize (pointerSize sec) z < 65535
   unfolding fixedSize
   fixed-small one = omega arith
   fixed-small pointer = limits .pointer
@@ -191,7 +191,7 @@ module _ (sec : Section) (limits : SmallSection sec) where
         → ((n : ℕ) → x ≡ some n → n < 65535) → ((n : ℕ) → y ≡ some n → n < 65535) → Good op a s
         → Good op ((shareSize sec x y ps a s) .0) ((shareSize sec x y ps a s) .1)
     unfolding shareSize if_then_else_
-    share-good op (some n) y ps a s h k g = go (all (λ p. isSize n (knownAt sec a s p)) ps)
+    share-good op (some n) y ps a s h k g = go (all (λ p. contains n (knownAt sec a s p)) ps)
       where
         qs : List Operand
         qs = butFirst (λ p. isSome (knownAt sec a s p)) ps
@@ -229,8 +229,8 @@ module _ (sec : Section) (limits : SmallSection sec) where
         → Good op ((applyStep sec late x a s) .0) ((applyStep sec late x a s) .1)
     unfolding applyStep setSizeOfAll
     step-good op late (equal ps) a s g = share-good op _ _ ps a s (first-known op ps a s g) (first-fallback late ps a) g
-    step-good op late (sized p z) a s g = set-good op (fixedSize sec z) p a s (fixed-small z) g
-    step-good op late (unsized p z) a s g = unsized-good op _ (fixedSize sec z) p a s (fixed-small z) g
+    step-good op late (exactly p z) a s g = set-good op (fixedSize (pointerSize sec) z) p a s (fixed-small z) g
+    step-good op late (byDefault p z) a s g = unsized-good op _ (fixedSize (pointerSize sec) z) p a s (fixed-small z) g
 
     steps-good : (op : Operation) (late : Bool) (xs : List Step) (a : SemanticAction) (s : Sizing) → Good op a s
         → Good op ((applySteps sec late xs a s) .0) ((applySteps sec late xs a s) .1)

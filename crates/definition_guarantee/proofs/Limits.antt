@@ -11,7 +11,7 @@ use Rattle.prelude.specs.Base.{if_then_else_, orElse}
 use Rattle.definition.specs.Refusals.{malformed, outsideLimit}
 use Rattle.definition.specs.Ast.{PcodeExpr, Args, noArgs, arg, Statement, Space, Register, BitRange, Table, Macro, Field, Header, Section}
 use Rattle.definition.specs.Expressions.{argCount}
-use Rattle.definition.specs.SectionFile.{Parsed, parsed, refused, Read, on, _>>=_, _>>_, pure, refuse, upTo, orAbsent, size, sizeOr, choose, code, oneOf, smallCount, listOf, argsOf, pcodeOps, call, exprs, exprWithin, jumpLabel, branchDst, statement, entries, space, register, bitRange, table, macro, field, header, lists, section, streamOf, read}
+use Rattle.definition.specs.SectionFile.{Parsed, parsed, refused, Read, on, _>>=_, _>>_, pure, refuse, upTo, orAbsent, size, sizeOr, choose, code, oneOf, smallCount, listOf, argsOf, pcodeOps, call, exprs, exprWithin, jumpLabel, branchDst, statement, entries, space, register, bitRange, table, macro, field, header, lists, readSection, streamOf, read}
 use Rattle.definition_guarantee.specs.Tests.{Each}
 use Rattle.definition_guarantee.specs.Limits.{SizeWithin, ExprWithin, ArgsWithin, JumpWithin, DestinationWithin, StatementWithin, WithinLimits}
 use Rattle.definition_guarantee.proofs.Readings.{Reading, Reads, bind, returns, refuses, passed, passes, reads-upTo, reads-bits}
@@ -221,8 +221,8 @@ reads-lists h u =
       statements = p₈;
     }))
 
-reads-section : Reads WithinLimits section
-unfolding section
+reads-section : Reads WithinLimits readSection
+unfolding readSection
 reads-section = bind header lists reads-header (λ h u. reads-lists h u)
 
 pub read-within : (bytes rest : List ℕ) (sec : Section) → read bytes ≡ parsed sec rest → WithinLimits sec
@@ -233,6 +233,6 @@ read-within bytes rest sec h = go (streamOf bytes) h
     held (parsed a s) w e = let d : a ≡ sec = cc in subst WithinLimits d w
     held (refused r) w e = let z : _≡_ {A = ℕ} 0 1 = cc in absurd (omega arith)
 
-    go : (x : Parsed (List ℕ)) → on x (λ stream _. section stream) ≡ parsed sec rest → WithinLimits sec
-    go (parsed stream s) e = held (section stream) (reads-section .reads stream) e
+    go : (x : Parsed (List ℕ)) → on x (λ stream _. readSection stream) ≡ parsed sec rest → WithinLimits sec
+    go (parsed stream s) e = held (readSection stream) (reads-section .reads stream) e
     go (refused r) e = let z : _≡_ {A = ℕ} 0 1 = cc in absurd (omega arith)

@@ -7,7 +7,7 @@ use mathlib.Core.Option.{none}
 use native.Mathlib.Omega.{arith}
 use lib.Dec.{leb}
 use lib.ListN.{length, length-map}
-use Rattle.prelude.specs.Base.{andThen}
+use Rattle.prelude.specs.Base.{andThen, isEmpty}
 use Rattle.definition.specs.Refusals.{Refusal, refusalNumber, listFull}
 use Rattle.definition.specs.Value.{Kind, Value}
 use Rattle.definition.specs.Ast.{Field, Subtable}
@@ -17,7 +17,7 @@ use Rattle.definition.specs.Scope.{locals, sectionScope}
 use Rattle.definition.specs.Statements.{ordinalAfter, resolveBody}
 use Rattle.definition.specs.End.{resolveStatements, atStart}
 use Rattle.definition.specs.Checker.{numberFits}
-use Rattle.definition.specs.Premise.{sizedLate, sizedLateWalk, walked, none?}
+use Rattle.definition.specs.Premise.{sizedLate, sizedLateWalk, walked}
 use Rattle.definition_guarantee.specs.Tests.{Each}
 use Rattle.definition_guarantee.proofs.Tests.{never, le-of, of-lt, each-append, none-some}
 use Rattle.definition_guarantee.proofs.Finish.{on-done, done-state, never-stopped, require-done}
@@ -93,13 +93,13 @@ walk-in-order e t x w h = go (leb (length (e .section .subtables)) (e .actionRoo
 
 -- the premise, of the state that the walk has left
 pub late-none : (e : Env) (t : State) (x : Unit {0}) → resolveStatements e (atStart (e .section)) ≡ done x t
-    → none? (walked (sizedLateWalk e (atStart (e .section)))) ≡ true
+    → isEmpty (walked (sizedLateWalk e (atStart (e .section)))) ≡ true
     → sizedLate (e .section) [] ((backwardPass (e .section) (t .actions) (t .sizing)) .0)
     ((backwardPass (e .section) (t .actions) (t .sizing)) .1) ≡ []
-unfolding sizedLateWalk on none? walked
+unfolding sizedLateWalk on isEmpty walked
 late-none e t x h p = empty _ (rw h at p)
   where
-    empty : (xs : List ℕ) → none? xs ≡ true → xs ≡ []
+    empty : (xs : List ℕ) → isEmpty xs ≡ true → xs ≡ []
     empty [] d = refl
     empty (y ∷ ys) d = never d
 

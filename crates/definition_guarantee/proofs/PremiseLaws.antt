@@ -9,7 +9,7 @@ use mathlib.Core.Option.{Option, none, some}
 use native.Mathlib.Omega.{arith}
 use lib.Dec.{eqb, ltb}
 use lib.ListN.{length, getElem?}
-use Rattle.prelude.specs.Base.{if_then_else_, orElse, andThen, isSome, any}
+use Rattle.prelude.specs.Base.{if_then_else_, orElse, andThen, isSome, any, filter, isEmpty}
 use Rattle.definition.specs.Value.{SemanticAction, operationOf, Temporary}
 use Rattle.definition.specs.Ast.{Section}
 use Rattle.definition.specs.SectionFile.{Parsed, parsed, refused, read}
@@ -17,7 +17,7 @@ use Rattle.definition.specs.Sizes.{Sizing, stepsOf, updateOperandSizes, backwar
 use Rattle.definition.specs.Walk.{State, Env, Outcome, done, stopped, on, withSizing}
 use Rattle.definition.specs.End.{resolveStatements, atStart}
 use Rattle.definition.specs.ActionList.{roomFor, whenRead, resolve}
-use Rattle.definition.specs.Premise.{filter, ruled, isSizedIn, joined, sizedLate, sizedLateWalk, walked, lateIn, premiseFailures, none?, premise}
+use Rattle.definition.specs.Premise.{ruled, isSizedIn, joined, sizedLate, sizedLateWalk, walked, lateIn, premiseFailures, premise}
 use Rattle.definition.specs.Starred.{WorkedSection, starredSections}
 use Rattle.definition_guarantee.proofs.Tests.{In, in-left, in-right, eq-of, differs, lt-of, not-lt, clash}
 use Rattle.definition_guarantee.proofs.Growth.{tmpSize, Grown}
@@ -160,17 +160,17 @@ module _ (sec : Section) where
 
 -- The premise holds for every file with no unsized operand of an operation with a rule, when the forward pass begins.
 pub no-unsized-operands : (file : List ℕ) (la lt : ℕ) → unsizedOperands file la lt ≡ [] → premise file la lt ≡ true
-unfolding unsizedOperands fromSection whenRead fromWalk premise premiseFailures lateIn sizedLateWalk on walked none? roomFor
+unfolding unsizedOperands fromSection whenRead fromWalk premise premiseFailures lateIn sizedLateWalk on walked isEmpty roomFor
 no-unsized-operands file la lt h = go (read file) h
   where
     after : (e : Env) (x : Outcome (Unit {0})) → fromWalk unsizedBeforeForward (e .section) x ≡ []
-        → none? (walked (on e x (λ _ f s. done (sizedLate (f .section) [] ((backwardPass (f .section) (s .actions) (s .sizing)) .0)
+        → isEmpty (walked (on e x (λ _ f s. done (sizedLate (f .section) [] ((backwardPass (f .section) (s .actions) (s .sizing)) .0)
         ((backwardPass (f .section) (s .actions) (s .sizing)) .1))
         (withSizing ((backwardPass (f .section) (s .actions) (s .sizing)) .1) s)))) ≡ true
     after e (done x s) h = rw (operands-settled (e .section) s h)
     after e (stopped r o k) h = refl
 
-    go : (x : Parsed Section) → fromSection unsizedBeforeForward la lt x ≡ [] → none? (lateIn la lt x) ≡ true
+    go : (x : Parsed Section) → fromSection unsizedBeforeForward la lt x ≡ [] → isEmpty (lateIn la lt x) ≡ true
     go (parsed sec rest) h = after (roomFor sec la lt) (resolveStatements (roomFor sec la lt) (atStart sec)) h
     go (refused r) h = refl
 

@@ -14,7 +14,7 @@ use Rattle.definition.specs.Operations.{Operation, operationNumber, isOp}
 use Rattle.definition.specs.Value.{Kind, Value, local, ActionKind, SemanticAction, operationOf, Temporary}
 use Rattle.definition.specs.Ast.{Section}
 use Rattle.definition.specs.Sizes.{at, Sizing, withTemporaries, stepsOf, updateOperandSizes}
-use Rattle.definition.specs.Walk.{ExprValue, Scope, State, Env, done, on, require, sizing, withSizing, withAction, addTmp, outputOr, push, pushOp, op, opNoOutput}
+use Rattle.definition.specs.Walk.{ExprValue, Scope, State, Env, done, on, require, bySizes, withSizing, withAction, addTmp, outputOr, push, pushOp, op, opNoOutput}
 use Rattle.definition.specs.Checker.{Shape, OperationShape, shapes, shapeOf, sameCount, countsFit, optionFits, numberFits, valueFits, baseFits}
 use Rattle.definition.proofs.Openers.{operations-opens}
 use Rattle.definition_guarantee.specs.Tests.{Each}
@@ -172,7 +172,7 @@ updated sec a s = (
 )
 
 pub keep-update : {e : Env} {n : ℕ} → WithinLimits (e .section) → (a : SemanticAction) → Rough n (length (e .section .subtables)) a
-    → Keeps e n (λ k b. Rough k (length (e .section .subtables)) b × Alike a b) (sizing λ sec. updateOperandSizes sec false a)
+    → Keeps e n (λ k b. Rough k (length (e .section .subtables)) b × Alike a b) (bySizes λ sec. updateOperandSizes sec false a)
 keep-update {e} {n} w a r = record { keeps = λ s c o. go s c o }
   where
     go : (s : State) → n ≤ count s → Kept e s → Ends e s (λ k b. Rough k (length (e .section .subtables)) b × Alike a b)

@@ -6,13 +6,13 @@ use mathlib.Core.List.{List, [], _∷_, _++_}
 use mathlib.Core.Option.{Option, none, some}
 use native.Mathlib.Omega.{arith}
 use lib.ListN.{length, getElem?, replicate, length-append}
-use Rattle.prelude.specs.Base.{if_then_else_, orElse, andThen, isSome, any, all, first}
+use Rattle.prelude.specs.Base.{if_then_else_, orElse, andThen, isSome, any, all, first, contains}
 use Rattle.definition.specs.Operations.{Operation, operationNumber, isOp}
 use Rattle.definition.specs.Value.{Kind, Value, ActionKind, SemanticAction, operationOf}
-use Rattle.definition.specs.Sizes.{Operand, Step, equal, sized, unsized, ruleOf, stepsOf, at, isSize}
+use Rattle.definition.specs.Sizes.{Operand, Step, equal, exactly, byDefault, ruleOf, stepsOf, at, fixedSize}
 use Rattle.definition.specs.End.{isBuild, builds}
 use Rattle.definition.specs.ActionList.{filled, actionWords, listWords, placesLabel}
-use Rattle.definition.specs.Checker.{sameCount, countsFit, optionFits, numberFits, valueFits, plainBase, baseFits, layoutFits, isSized, sizeAt, hasSize, allHaveSize, sizeNamed, stepHolds, operationHolds, sizesHold, places, labelsOnce, allBuilt, operationNumbered, check}
+use Rattle.definition.specs.Checker.{sameCount, countsFit, optionFits, numberFits, valueFits, plainBase, baseFits, layoutFits, isSized, sizeAt, hasSize, allHaveSize, stepHolds, operationHolds, sizesHold, places, labelsOnce, allBuilt, operationNumbered, check}
 use Rattle.definition_guarantee.proofs.Tests.{never, eq-of, eq-same, same, differ, of-lt, and-true, both, all-from, first-from, then-some, any-from, append-none, none-some, some-same}
 use Rattle.definition_guarantee.proofs.Words.{parts-fit, laid-fits, filled-append, action-length, numbered, words-pass}
 use Rattle.definition.specs.Right.{Among, input, output, NumberWithin, ValueWithin, ActionRight, Right}
@@ -78,7 +78,7 @@ unfolding isSome
 there-size z n e = rw e
 
 size-has : (n : ℕ) (x : Option Value) → ((v : Value) → x ≡ some v → v .size ≡ some n) → hasSize n x ≡ true
-unfolding hasSize isSize
+unfolding hasSize contains
 size-has n none h = refl
 size-has n (some u) h = rw (h u refl) (same n)
 
@@ -123,8 +123,8 @@ module _ (t sub pointer : ℕ) where
     where
       step : (x : Step) → Among x (ruleOf op) → stepHolds pointer a x ≡ true
       step (equal ps) i = sizes-equal pointer a ps (λ p q v u ip iq c d. r .equalSizes op ps p q v u e i ip iq c d)
-      step (sized p z) i = size-has (sizeNamed pointer z) (at p a) (λ v d. r .fixedSizes op p z v e i d)
-      step (unsized p z) i = refl
+      step (exactly p z) i = size-has (fixedSize pointer z) (at p a) (λ v d. r .fixedSizes op p z v e i d)
+      step (byDefault p z) i = refl
   action-holds a ActionKind.AddressOf e r = refl
   action-holds a ActionKind.LoadRegister e r = refl
   action-holds a ActionKind.StoreRegister e r = refl

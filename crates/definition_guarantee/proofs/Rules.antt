@@ -8,11 +8,11 @@ use mathlib.Core.List.{List, [], _∷_}
 use mathlib.Core.Option.{Option, none, some}
 use lib.Dec.{eqb}
 use lib.ListN.{length, getElem?, set, length-set}
-use Rattle.prelude.specs.Base.{if_then_else_, _or_, orElse, andThen, isSome, all, first}
+use Rattle.prelude.specs.Base.{if_then_else_, _or_, orElse, andThen, isSome, all, first, contains}
 use Rattle.definition.specs.Operations.{Operation, among}
 use Rattle.definition.specs.Value.{Kind, kindNumber, Value, truncate, SemanticAction, Temporary}
 use Rattle.definition.specs.Ast.{Section}
-use Rattle.definition.specs.Sizes.{Operand, in0, in1, out, FixedSize, one, pointer, Step, equal, sized, unsized, Rule, rules, ruleOf, at, put, Sizing, sizeOfLocal, sizeOf, fallbackSize, setSize, setGiven, setOperand, setOperands, knownAt, shareSize, setSizeOfAll, fixedSize, setUnsized, applyStep, applySteps, isSize, butFirst}
+use Rattle.definition.specs.Sizes.{Operand, in0, in1, out, FixedSize, one, pointer, Step, equal, exactly, byDefault, Rule, rules, ruleOf, at, put, Sizing, sizeOfLocal, sizeOf, fallbackSize, setSize, setGiven, setOperand, setOperands, knownAt, shareSize, setSizeOfAll, fixedSize, setUnsized, applyStep, applySteps, butFirst, pointerSize}
 use Rattle.definition.proofs.Openers.{base-opens}
 use Rattle.definition_guarantee.proofs.Tests.{never, eq-of, all-at, first-from, chosen, first-none, none-some, some-same}
 use Rattle.definition_guarantee.proofs.Growth.{tmpSize, Grown, grown-refl, grown-trans, Touched, touched-refl, local-same, local-tmp, known-stays, size-none, own-size, settled-touched}
@@ -73,8 +73,8 @@ at-other out in0 v a e = refl
 at-other out in1 v a e = refl
 at-other out out v a e = never e
 
-pub is-size : (n : ℕ) (x : Option ℕ) → isSize n x ≡ true → x ≡ some n
-unfolding isSize
+pub is-size : (n : ℕ) (x : Option ℕ) → contains n x ≡ true → x ≡ some n
+unfolding contains
 is-size n (some m) e = ap some (sym (eq-of n m e))
 is-size n none e = never e
 
@@ -284,7 +284,7 @@ module _ (sec : Section) where
       → first (λ p. andThen (at p a) (fallbackSize sec)) ps ≡ y
       → Shared ps a s ((shareSize sec x y ps a s) .0) ((shareSize sec x y ps a s) .1)
   unfolding shareSize if_then_else_ andThen
-  share ps a s (some n) y e d = go (all (λ p. isSize n (knownAt sec a s p)) ps) refl
+  share ps a s (some n) y e d = go (all (λ p. contains n (knownAt sec a s p)) ps) refl
     where
       qs : List Operand
       qs = butFirst (λ p. isSome (knownAt sec a s p)) ps
@@ -294,9 +294,9 @@ module _ (sec : Section) where
       pick q (inl c) = all-known n qs (c .0) q a s (c .1)
       pick q (inr c) = all-keep n qs q a s c
 
-      go : (b : Bool) → all (λ p. isSize n (knownAt sec a s p)) ps ≡ b
+      go : (b : Bool) → all (λ p. contains n (knownAt sec a s p)) ps ≡ b
           → Shared ps a s ((if b then (a, s) else setOperands sec n qs a s) .0) ((if b then (a, s) else setOperands sec n qs a s) .1)
-      go true h = sharing n (λ i q c. known-from n q a s (is-size n _ (all-at (λ p. isSize n (knownAt sec a s p)) ps i q h c)))
+      go true h = sharing n (λ i q c. known-from n q a s (is-size n _ (all-at (λ p. contains n (knownAt sec a s p)) ps i q h c)))
       go false h = sharing n (λ i q c. pick q (covered n ps i q a s e c))
   share ps a s none (some n) e d = sharing n (λ i q c. all-known n ps i q a s c)
   share ps a s none none e d = nothing refl refl (λ i q v c k.
@@ -307,7 +307,7 @@ module _ (sec : Section) where
   share-grown : (x y : Option ℕ) (ps : List Operand) (a : SemanticAction) (s : Sizing)
       → Grown (s .temporaries) ((shareSize sec x y ps a s) .1 .temporaries)
   unfolding shareSize if_then_else_
-  share-grown (some n) y ps a s = go (all (λ p. isSize n (knownAt sec a s p)) ps)
+  share-grown (some n) y ps a s = go (all (λ p. contains n (knownAt sec a s p)) ps)
     where
       go : (b : Bool) → Grown (s .temporaries) ((if b then (a, s) else setOperands sec n (butFirst (λ p. isSome (knownAt sec a s p)) ps)
           a s) .1 .temporaries)
@@ -318,7 +318,7 @@ module _ (sec : Section) where
 
   share-alike : (x y : Option ℕ) (ps : List Operand) (a : SemanticAction) (s : Sizing) → Alike a ((shareSize sec x y ps a s) .0)
   unfolding shareSize if_then_else_
-  share-alike (some n) y ps a s = go (all (λ p. isSize n (knownAt sec a s p)) ps)
+  share-alike (some n) y ps a s = go (all (λ p. contains n (knownAt sec a s p)) ps)
     where
       go : (b : Bool) → Alike a ((if b then (a, s) else setOperands sec n (butFirst (λ p. isSome (knownAt sec a s p)) ps) a s) .0)
       go true = alike-refl
@@ -349,14 +349,14 @@ module _ (sec : Section) where
       → Grown (s .temporaries) ((applyStep sec late x a s) .1 .temporaries)
   unfolding applyStep setSizeOfAll
   step-grown late (equal ps) a s = share-grown _ _ ps a s
-  step-grown late (sized p z) a s = sets (fixedSize sec z) p a s .touched .grown
-  step-grown late (unsized p z) a s = unsized-grown _ (fixedSize sec z) p a s .grown
+  step-grown late (exactly p z) a s = sets (fixedSize (pointerSize sec) z) p a s .touched .grown
+  step-grown late (byDefault p z) a s = unsized-grown _ (fixedSize (pointerSize sec) z) p a s .grown
 
   step-alike : (late : Bool) (x : Step) (a : SemanticAction) (s : Sizing) → Alike a ((applyStep sec late x a s) .0)
   unfolding applyStep setSizeOfAll
   step-alike late (equal ps) a s = share-alike _ _ ps a s
-  step-alike late (sized p z) a s = sets (fixedSize sec z) p a s .alike
-  step-alike late (unsized p z) a s = unsized-alike _ (fixedSize sec z) p a s
+  step-alike late (exactly p z) a s = sets (fixedSize (pointerSize sec) z) p a s .alike
+  step-alike late (byDefault p z) a s = unsized-alike _ (fixedSize (pointerSize sec) z) p a s
 
   pub steps-grown : (late : Bool) (xs : List Step) (a : SemanticAction) (s : Sizing)
       → Grown (s .temporaries) ((applySteps sec late xs a s) .1 .temporaries)
@@ -389,8 +389,8 @@ module _ (sec : Section) where
       (i j : ℕ) (p q : Operand) (v u : Value) (m n : ℕ) → getElem? ps i ≡ some p → getElem? ps j ≡ some q → at p b ≡ some v
       → at q b ≡ some u
       → finalSize w v ≡ some m → finalSize w u ≡ some n → m ≡ n
-  Obeyed w b (sized p z) = (v : Value) → at p b ≡ some v → v .size ≡ some (fixedSize sec z)
-  Obeyed w b (unsized p z) = Unit {0}
+  Obeyed w b (exactly p z) = (v : Value) → at p b ≡ some v → v .size ≡ some (fixedSize (pointerSize sec) z)
+  Obeyed w b (byDefault p z) = Unit {0}
 
   abbrev pub AllObeyed : List Temporary → SemanticAction → List Step → Type 0
   AllObeyed w b [] = Unit {0}
@@ -491,13 +491,13 @@ module _ (sec : Section) where
               (q .quiet p v vp) vm
 
   sized-holds : (p : Operand) (z : FixedSize) (xs : List Step)
-      → ((a : SemanticAction) (s : Sizing) → at p ((applySteps sec true xs a s) .0) ≡ at p a) → RuleHolds xs → RuleHolds (sized p z ∷ xs)
+      → ((a : SemanticAction) (s : Sizing) → at p ((applySteps sec true xs a s) .0) ≡ at p a) → RuleHolds xs → RuleHolds (exactly p z ∷ xs)
   unfolding applySteps applyStep
   sized-holds p z xs frame rest = record {
-    holds = λ a s w g q. ((λ v e. sets (fixedSize sec z) p a s .own v (sym (frame _ _) ∙ e)), rest .holds _ _ w g q);
+    holds = λ a s w g q. ((λ v e. sets (fixedSize (pointerSize sec) z) p a s .own v (sym (frame _ _) ∙ e)), rest .holds _ _ w g q);
   }
 
-  unsized-holds : (p : Operand) (z : FixedSize) (xs : List Step) → RuleHolds xs → RuleHolds (unsized p z ∷ xs)
+  unsized-holds : (p : Operand) (z : FixedSize) (xs : List Step) → RuleHolds xs → RuleHolds (byDefault p z ∷ xs)
   unfolding applySteps applyStep
   unsized-holds p z xs rest = record { holds = λ a s w g q. (tt, rest .holds _ _ w g q) }
 
@@ -505,14 +505,14 @@ module _ (sec : Section) where
 
   sized-frame : (p q : Operand) (z : FixedSize) (xs : List Step) → apart p q ≡ true
       → ((a : SemanticAction) (s : Sizing) → at q ((applySteps sec true xs a s) .0) ≡ at q a)
-      → (a : SemanticAction) (s : Sizing) → at q ((applySteps sec true (sized p z ∷ xs) a s) .0) ≡ at q a
+      → (a : SemanticAction) (s : Sizing) → at q ((applySteps sec true (exactly p z ∷ xs) a s) .0) ≡ at q a
   unfolding applySteps applyStep
-  sized-frame p q z xs d rest a s = rest _ _ ∙ sets (fixedSize sec z) p a s .others q d
+  sized-frame p q z xs d rest a s = rest _ _ ∙ sets (fixedSize (pointerSize sec) z) p a s .others q d
 
   unsized-frame : (p q : Operand) (z : FixedSize) → apart p q ≡ true → (a : SemanticAction) (s : Sizing)
-      → at q ((applySteps sec true (unsized p z ∷ []) a s) .0) ≡ at q a
+      → at q ((applySteps sec true (byDefault p z ∷ []) a s) .0) ≡ at q a
   unfolding applySteps applyStep
-  unsized-frame p q z d a s = unsized-others _ (fixedSize sec z) p q a s d
+  unsized-frame p q z d a s = unsized-others _ (fixedSize (pointerSize sec) z) p q a s d
 
   empty-frame : (q : Operand) (a : SemanticAction) (s : Sizing) → at q ((applySteps sec true [] a s) .0) ≡ at q a
   unfolding applySteps
@@ -523,14 +523,14 @@ module _ (sec : Section) where
   empty-touch z a s = touched-refl
 
   sized-touch : (p : Operand) (z : FixedSize) (a : SemanticAction) (s : Sizing)
-      → Touched (fixedSize sec z) (s .temporaries) ((applySteps sec true (sized p z ∷ []) a s) .1 .temporaries)
+      → Touched (fixedSize (pointerSize sec) z) (s .temporaries) ((applySteps sec true (exactly p z ∷ []) a s) .1 .temporaries)
   unfolding applySteps applyStep
-  sized-touch p z a s = sets (fixedSize sec z) p a s .touched
+  sized-touch p z a s = sets (fixedSize (pointerSize sec) z) p a s .touched
 
   unsized-touch : (p : Operand) (z : FixedSize) (a : SemanticAction) (s : Sizing)
-      → Touched (fixedSize sec z) (s .temporaries) ((applySteps sec true (unsized p z ∷ []) a s) .1 .temporaries)
+      → Touched (fixedSize (pointerSize sec) z) (s .temporaries) ((applySteps sec true (byDefault p z ∷ []) a s) .1 .temporaries)
   unfolding applySteps applyStep
-  unsized-touch p z a s = unsized-grown _ (fixedSize sec z) p a s
+  unsized-touch p z a s = unsized-grown _ (fixedSize (pointerSize sec) z) p a s
 
   abbrev RulesHold : List Rule → Type 0
   RulesHold [] = Unit {0}
@@ -557,25 +557,25 @@ module _ (sec : Section) where
   table-holds = (
     equal-holds (in0 ∷ out ∷ []) [] 0 (empty-touch 0) (λ i q e. empty-frame q) nothing-holds,
     (
-      equal-holds (in0 ∷ out ∷ []) (unsized in1 pointer ∷ []) _ (unsized-touch in1 pointer)
+      equal-holds (in0 ∷ out ∷ []) (byDefault in1 pointer ∷ []) _ (unsized-touch in1 pointer)
           (λ i q e. unsized-frame in1 q pointer (not-in1 q i e)) (unsized-holds in1 pointer [] nothing-holds),
       (
         equal-holds (in0 ∷ in1 ∷ out ∷ []) [] 0 (empty-touch 0) (λ i q e. empty-frame q) nothing-holds,
         (
-          equal-holds (in0 ∷ in1 ∷ []) (sized out one ∷ []) _ (sized-touch out one)
+          equal-holds (in0 ∷ in1 ∷ []) (exactly out one ∷ []) _ (sized-touch out one)
               (λ i q e. sized-frame out q one [] (one-of in0 in1 q i e refl refl) (empty-frame q))
               (sized-holds out one [] (empty-frame out) nothing-holds),
           (
-            sized-holds in0 one (sized in1 one ∷ sized out one ∷ [])
-                (sized-frame in1 in0 one (sized out one ∷ []) refl (sized-frame out in0 one [] refl (empty-frame in0)))
-                (sized-holds in1 one (sized out one ∷ []) (sized-frame out in1 one [] refl (empty-frame in1))
+            sized-holds in0 one (exactly in1 one ∷ exactly out one ∷ [])
+                (sized-frame in1 in0 one (exactly out one ∷ []) refl (sized-frame out in0 one [] refl (empty-frame in0)))
+                (sized-holds in1 one (exactly out one ∷ []) (sized-frame out in1 one [] refl (empty-frame in1))
                 (sized-holds out one [] (empty-frame out) nothing-holds)),
             (
               sized-holds out one [] (empty-frame out) nothing-holds,
               (
                 sized-holds in0 pointer [] (empty-frame in0) nothing-holds,
                 (
-                  sized-holds in0 one (unsized in1 pointer ∷ []) (unsized-frame in1 in0 pointer refl)
+                  sized-holds in0 one (byDefault in1 pointer ∷ []) (unsized-frame in1 in0 pointer refl)
                       (unsized-holds in1 pointer [] nothing-holds),
                   (sized-holds in0 one [] (empty-frame in0) nothing-holds, tt),
                 ),

@@ -5,7 +5,7 @@ use mathlib.Core.Bool.{true, false}
 use mathlib.Core.List.{List, [], _∷_}
 use mathlib.Core.Option.{Option, none, some}
 use native.Mathlib.Omega.{arith}
-use Rattle.prelude.specs.Base.{orElse, all, sameBytes}
+use Rattle.prelude.specs.Base.{orElse, all, sameNumbers}
 use Rattle.definition.specs.Operations.{Operation}
 use Rattle.definition.specs.Value.{Kind, Value, local, ActionKind}
 use Rattle.definition.specs.Ast.{PcodeOp}
@@ -93,7 +93,7 @@ pub inbuilt-applies : (name : List ℕ) (f : Inbuilt) → translateInbuiltFunc n
 unfolding translateInbuiltFunc
 inbuilt-applies name f e =
     let q = first-from _ inbuilts f e in
-    let d : q .1 ≡ f = chosen (sameBytes name (q .1 .spelling)) (q .1) f (q .3) in
+    let d : q .1 ≡ f = chosen (sameNumbers name (q .1 .spelling)) (q .1) f (q .3) in
     subst (λ (x : Inbuilt). Applicable (x .op) 0 (x .arguments)) d
     (plain (all-at (λ (x : Inbuilt). applies true (x .op) 0 (x .arguments)) inbuilts (q .0) (q .1) inbuilts-apply (q .2)))
 

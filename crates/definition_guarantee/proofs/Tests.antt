@@ -8,7 +8,7 @@ use mathlib.Core.Option.{Option, none, some}
 use native.Mathlib.Omega.{arith}
 use lib.Dec.{T, eqb, leb, ltb, eqb→eq, eqb-refl, leb→le, le→leb, ltb→lt, lt→ltb, nltb→le}
 use lib.ListN.{getElem?, set}
-use Rattle.prelude.specs.Base.{if_then_else_, _or_, orElse, andThen, any, all, first, sameBytes}
+use Rattle.prelude.specs.Base.{if_then_else_, _or_, orElse, andThen, any, all, first, sameNumbers}
 use Rattle.definition_guarantee.specs.Tests.{Each}
 
 pub T-of : {b : Bool} → b ≡ true → T b
@@ -175,19 +175,19 @@ module _ {A : Type 0} where
   append-none [] = refl
   append-none (x ∷ xs) = ap (λ (l : List A). x ∷ l) (append-none xs)
 
-pub same-list : (xs : List ℕ) → sameBytes xs xs ≡ true
-unfolding sameBytes
+pub same-list : (xs : List ℕ) → sameNumbers xs xs ≡ true
+unfolding sameNumbers
 same-list [] = refl
 same-list (x ∷ xs) = if-both (same x) (same-list xs)
 
-by-head : (x y : ℕ) (xs ys : List ℕ) → (b : Bool) → eqb x y ≡ b → (sameBytes xs ys ≡ true → xs ≡ ys)
-    → (if b then sameBytes xs ys else false) ≡ true → (x ∷ xs) ≡ (y ∷ ys)
+by-head : (x y : ℕ) (xs ys : List ℕ) → (b : Bool) → eqb x y ≡ b → (sameNumbers xs ys ≡ true → xs ≡ ys)
+    → (if b then sameNumbers xs ys else false) ≡ true → (x ∷ xs) ≡ (y ∷ ys)
 unfolding if_then_else_
 by-head x y xs ys true e tails h = let p : x ≡ y = eq-of x y e in let q : xs ≡ ys = tails h in cc
 by-head x y xs ys false e tails h = never h
 
-pub list-same : (xs ys : List ℕ) → sameBytes xs ys ≡ true → xs ≡ ys
-unfolding sameBytes
+pub list-same : (xs ys : List ℕ) → sameNumbers xs ys ≡ true → xs ≡ ys
+unfolding sameNumbers
 list-same [] [] h = refl
 list-same [] (y ∷ ys) h = never h
 list-same (x ∷ xs) [] h = never h

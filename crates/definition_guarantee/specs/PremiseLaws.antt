@@ -6,7 +6,7 @@ use mathlib.Core.Bool.{Bool, false, not}
 use mathlib.Core.List.{List, [], _∷_, _++_}
 use mathlib.Core.Option.{none, some}
 use lib.ListN.{getElem?}
-use Rattle.prelude.specs.Base.{orElse, andThen, isSome}
+use Rattle.prelude.specs.Base.{orElse, andThen, isSome, filter}
 use Rattle.definition.specs.Value.{SemanticAction, Temporary}
 use Rattle.definition.specs.Ast.{Section}
 use Rattle.definition.specs.SectionFile.{Parsed, read}
@@ -14,7 +14,7 @@ use Rattle.definition.specs.Sizes.{Sizing, backwardPass}
 use Rattle.definition.specs.Walk.{State, Outcome, done, stopped}
 use Rattle.definition.specs.End.{resolveStatements, atStart}
 use Rattle.definition.specs.ActionList.{roomFor, whenRead, resolve}
-use Rattle.definition.specs.Premise.{filter, ruled, premiseFailures, premise}
+use Rattle.definition.specs.Premise.{ruled, premiseFailures, premise}
 use Rattle.definition.specs.Passing.{passes}
 
 -- The section is accepted, the premise fails at C and D, and the list does not pass.

@@ -8,12 +8,12 @@ use lib.ListN.{length, getD, take, drop, length-drop, List·getD-eq-default}
 use lib.Seq.{take-all}
 use lib.Dec.{eqb}
 use borrow.Author.Tests.{eqb-true, eq-eqb}
-use Rattle.prelude.specs.Base.{if_then_else_, sameBytes}
+use Rattle.prelude.specs.Base.{if_then_else_, sameNumbers}
 use Rattle.expr_inbuilts.specs.declared.inbuilt.Inbuilt.{Inbuilt}
 use Rattle.expr_inbuilts.specs.Inbuilts.{attempt, logical, carries, extensions, roundings, conversions, inbuiltOf, inbuiltAt}
 
-same-refl : (a : List ℕ) → sameBytes a a ≡ true
-unfolding sameBytes if_then_else_
+same-refl : (a : List ℕ) → sameNumbers a a ≡ true
+unfolding sameNumbers if_then_else_
 same-refl [] = refl
 same-refl (x ∷ xs) = rw (eq-eqb x x refl) (same-refl xs)
 
@@ -27,29 +27,29 @@ unfolding if_then_else_
 if-second true b e = e
 if-second false b e = absurd (let z : _≡_ {A = ℕ} 0 1 = cc in omega arith)
 
-same-eq : (a b : List ℕ) → sameBytes a b ≡ true → a ≡ b
-unfolding sameBytes
+same-eq : (a b : List ℕ) → sameNumbers a b ≡ true → a ≡ b
+unfolding sameNumbers
 same-eq [] [] e = refl
 same-eq [] (y ∷ ys) e = absurd (let z : _≡_ {A = ℕ} 0 1 = cc in omega arith)
 same-eq (x ∷ xs) [] e = absurd (let z : _≡_ {A = ℕ} 0 1 = cc in omega arith)
 same-eq (x ∷ xs) (y ∷ ys) e =
-    let p : x ≡ y = eqb-true x y (if-first (eqb x y) (sameBytes xs ys) e) in
-    let q : xs ≡ ys = same-eq xs ys (if-second (eqb x y) (sameBytes xs ys) e) in
+    let p : x ≡ y = eqb-true x y (if-first (eqb x y) (sameNumbers xs ys) e) in
+    let q : xs ≡ ys = same-eq xs ys (if-second (eqb x y) (sameNumbers xs ys) e) in
     λ i. p i ∷ q i
 
-pub same-law : (a b : List ℕ) (r : Bool) → (r ≡ true → a ≡ b) → (a ≡ b → r ≡ true) → r ≡ sameBytes a b
+pub same-law : (a b : List ℕ) (r : Bool) → (r ≡ true → a ≡ b) → (a ≡ b → r ≡ true) → r ≡ sameNumbers a b
 same-law a b true f g = let e = f refl in rw (← e) (sym (same-refl a))
-same-law a b false f g = go (sameBytes a b) refl
+same-law a b false f g = go (sameNumbers a b) refl
   where
-    go : (t : Bool) → sameBytes a b ≡ t → false ≡ sameBytes a b
+    go : (t : Bool) → sameNumbers a b ≡ t → false ≡ sameNumbers a b
     go true e = absurd (let h : false ≡ true = g (same-eq a b e) in let z : _≡_ {A = ℕ} 0 1 = cc in omega arith)
     go false e = sym e
 
-pub attempt-hit : (w x : List ℕ) (o n : ℕ) (r : Inbuilt) (h : Bool) → h ≡ sameBytes w x → h ≡ true → _≡_ {A = Inbuilt} (record { op = o; arguments = n }) (attempt w x o n r)
+pub attempt-hit : (w x : List ℕ) (o n : ℕ) (r : Inbuilt) (h : Bool) → h ≡ sameNumbers w x → h ≡ true → _≡_ {A = Inbuilt} (record { op = o; arguments = n }) (attempt w x o n r)
 unfolding attempt if_then_else_
 attempt-hit w x o n r h e k = rw (← e, k)
 
-pub attempt-miss : (w x : List ℕ) (o n : ℕ) (r : Inbuilt) (h : Bool) → h ≡ sameBytes w x → h ≡ false → r ≡ attempt w x o n r
+pub attempt-miss : (w x : List ℕ) (o n : ℕ) (r : Inbuilt) (h : Bool) → h ≡ sameNumbers w x → h ≡ false → r ≡ attempt w x o n r
 unfolding attempt if_then_else_
 attempt-miss w x o n r h e k = rw (← e, k)
 

@@ -2,11 +2,11 @@
 use Prim.Native.Nat.{ℕ, _+_}
 use mathlib.Core.List.{List, [], _∷_}
 use lib.ListN.{getD, take, drop}
-use Rattle.prelude.specs.Base.{if_then_else_, sameBytes}
+use Rattle.prelude.specs.Base.{if_then_else_, sameNumbers}
 use Rattle.expr_inbuilts.specs.declared.inbuilt.Inbuilt.{Inbuilt}
 
 unfoldable pub attempt : List ℕ → List ℕ → ℕ → ℕ → Inbuilt → Inbuilt
-attempt w spelling op arguments other = if sameBytes w spelling then record { op = op; arguments = arguments } else other
+attempt w spelling op arguments other = if sameNumbers w spelling then record { op = op; arguments = arguments } else other
 
 unfoldable pub logical : List ℕ → Inbuilt → Inbuilt
 logical w r =

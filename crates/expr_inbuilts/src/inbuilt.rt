@@ -1,7 +1,7 @@
 // The 22 spellings of `translate_inbuilt_func`, compared byte for byte with a name of the stream.
 use codes::operation;
 ghost use mathlib.Core.Path.{_≡_};
-ghost use Rattle.prelude.specs.Base.{sameBytes};
+ghost use Rattle.prelude.specs.Base.{sameNumbers};
 ghost use Rattle.expr_inbuilts.specs.Inbuilts.{attempt, logical, carries, extensions, roundings, conversions, inbuiltOf, inbuiltAt};
 
 // An operation's number, and its count of arguments; no arguments where the name is none.
@@ -11,7 +11,7 @@ pub struct Inbuilt {
 }
 
 fn same(left: &[u8], right: &[u8]) -> bool
-    ensures { λ r. ⌜ r ≡ sameBytes (now (left .entry)) (now (right .entry)) ⌝ }
+    ensures { λ r. ⌜ r ≡ sameNumbers (now (left .entry)) (now (right .entry)) ⌝ }
 {
     check::same(left, right)
 }

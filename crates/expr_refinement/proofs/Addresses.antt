@@ -10,7 +10,7 @@ use lib.Dec.{eqb}
 use borrow.Author.Tests.{ne-eqb}
 use Rattle.access.specs.Le.{le16}
 use Rattle.prelude.specs.Base as definition
-use Rattle.prelude.specs.Base.{_or_, orElse, andThen, if_then_else_}
+use Rattle.prelude.specs.Base.{_or_, orElse, andThen, if_then_else_, contains}
 use Rattle.definition.specs.Refusals.{Refusal, refusalNumber, undefined, wrongKind, noDefaultSpace}
 use Rattle.definition.specs.Value.{Value}
 use Rattle.definition.specs.Ast.{SpaceKind, Space as SpaceEntry}
@@ -120,8 +120,8 @@ module _ (s t : List ℕ) (e : Env) (holds : Holds s t (e .section)) (st : State
       let k = h n refl in
       rw (ne-eqb n 65535 (λ q. omega arith), global-is s t (e .section) holds n k) (named-finds (find n (globals (e .section))) (found-placed (e .section) n _ refl))
 
-  pub const-is : (space : Option ℕ) → ((y : ℕ) → space ≡ some y → y < 1024) → eqb (orNone space) (le16 s 30) ≡ d.isName (e .section .header .const) space
-  unfolding orNone orElse d.isName
+  pub const-is : (space : Option ℕ) → ((y : ℕ) → space ≡ some y → y < 1024) → eqb (orNone space) (le16 s 30) ≡ contains (e .section .header .const) space
+  unfolding orNone orElse contains
   const-is none h = let k = holds .limits .const in let l = holds .limits .names in ne-eqb 65535 (le16 s 30) (λ q. omega arith)
   const-is (some n) h = rw (← holds .const) (eqb-swap n (e .section .header .const))
 
@@ -190,9 +190,9 @@ module _ (s t : List ℕ) (e : Env) (front tail marks rest : List ℕ) (we : Wor
 
   -- the place that a pointer, already resolved, refers to
   pub address : (st : State) → Stood (e .section) tail marks rest spare st → (space size : Option ℕ) (x : ExprValue) → ((y : ℕ) → space ≡ some y → y < 1024) → Small size → SoundX (e .section) (count st) x
-      → Answers st (resolveAddress s t (A st) (M st) we (orNone space) (orNone size) (encX x) next (W st)) ((definition.if_then_else_ (d.isName (e .section .header .const) space) (d.inConstSpace size x) (d.addressIn space size x)) e st)
+      → Answers st (resolveAddress s t (A st) (M st) we (orNone space) (orNone size) (encX x) next (W st)) ((definition.if_then_else_ (contains (e .section .header .const) space) (d.inConstSpace size x) (d.addressIn space size x)) e st)
   unfolding resolveAddress
-  address st f space size x k l h = rw (const-is s t e holds st space k) (go (d.isName (e .section .header .const) space))
+  address st f space size x k l h = rw (const-is s t e holds st space k) (go (contains (e .section .header .const) space))
     where
       go : (b : Bool) → Answers st (if b then resolved (inConstSpace (encX x) (orNone size) next (W st)) (A st) (M st) else addressIn s t (A st) (M st) we (orNone space) (orNone size) (encX x) next (W st)) ((definition.if_then_else_ b (d.inConstSpace size x) (d.addressIn space size x)) e st)
       go true = unfold if_then_else_ base-opens in in-const st f size x l h

@@ -72,8 +72,8 @@ module _ (sec : Section) (n : ℕ) (v : Value) (z : Sizing) where
     pub names : (i : ℕ) → nameAt (y .temporaries) i ≡ nameAt (z .temporaries) i
     pub begun : y .begun ≡ z .begun
 
-  tmp-kept : (i : ℕ) (t : Option Temporary) → getElem? (z .temporaries) i ≡ t → Kept (sizes.sizedTmp sec i t n z)
-  unfolding sizes.sizedTmp
+  tmp-kept : (i : ℕ) (t : Option Temporary) → getElem? (z .temporaries) i ≡ t → Kept (sizes.setTmpSize sec i t n z)
+  unfolding sizes.setTmpSize
   tmp-kept i none e = record { names = λ j. refl; begun = refl }
   tmp-kept i (some t) e = record { names = λ j. name-set (z .temporaries) i j n t e; begun = refl }
 
@@ -81,7 +81,7 @@ module _ (sec : Section) (n : ℕ) (v : Value) (z : Sizing) where
   unfolding sizes.settled sizes.sizeTemporary base-opens
   settled-kept none = go (isKind Kind.PcodeTmp v)
     where
-      go : (b : Bool) → Kept (definition.if_then_else_ b (sizes.sizedTmp sec (v .number) (getElem? (z .temporaries) (v .number)) n z) z)
+      go : (b : Bool) → Kept (definition.if_then_else_ b (sizes.setTmpSize sec (v .number) (getElem? (z .temporaries) (v .number)) n z) z)
       go true = tmp-kept (v .number) (getElem? (z .temporaries) (v .number)) refl
       go false = record { names = λ j. refl; begun = refl }
   settled-kept (some m) = go (eqb m n || isKind Kind.Subtable v)
@@ -92,7 +92,7 @@ module _ (sec : Section) (n : ℕ) (v : Value) (z : Sizing) where
 
 module _ (s t : List ℕ) (e : Env) (front tail marks rest : List ℕ) (holds : SizesHold s t (e .section)) where
   pub set-size : (spare : ℕ) (st : State) → Spare spare tail → Stood (e .section) tail marks rest spare st → (v : Value) (n : ℕ) → n < 65535 → Sound (e .section) (count st) v
-      → Refines (e .section) front tail marks rest (suc spare) st encV (Sound (e .section)) (seenStated (acts (e .section) front tail marks rest st) (setSize s t (temps (e .section) front tail marks rest st) (encV v) n (word (e .section) front tail marks rest st))) (d.sizing (λ sec. sizes.setSize sec n v) e st)
+      → Refines (e .section) front tail marks rest (suc spare) st encV (Sound (e .section)) (seenStated (acts (e .section) front tail marks rest st) (setSize s t (temps (e .section) front tail marks rest st) (encV v) n (word (e .section) front tail marks rest st))) (d.bySizes (λ sec. sizes.setSize sec n v) e st)
   unfolding setSize thenL seenStated sizes.setSize
   set-size spare st room f v n small g =
       let known = sizes.sizeOf (e .section) (tmps st) v in

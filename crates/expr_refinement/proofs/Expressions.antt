@@ -11,7 +11,7 @@ use lib.Dec.{eqb, ltb}
 use borrow.Author.Tests.{eqb-true, ne-eqb, lt-ltb, le-ltb, ltb-false}
 use Rattle.access.specs.Le.{le16, le64}
 use Rattle.prelude.specs.Base as definition
-use Rattle.prelude.specs.Base.{orElse, if_then_else_}
+use Rattle.prelude.specs.Base.{orElse, if_then_else_, contains}
 use Rattle.definition.specs.Refusals.{Refusal, refusalNumber, addressOfNonLocal, constantPool, argumentCount, macroInExpression}
 use Rattle.definition.specs.Operations.{Operation, operationNumber}
 use Rattle.definition.specs.Value.{Value}
@@ -269,7 +269,7 @@ module _ (s t : List ℕ) (e : Env) (p front tail marks rest : List ℕ) (we : W
   address-named next st f size n q l name c known x h = rw (← q) (address-meant next st f size l name c known x h)
 
   address-at : (next : ℕ) (st : State) → Stands st → (space size : Option ℕ) (a b : ℕ) → orNone space ≡ a → orNone size ≡ b → (x : ExprValue) → ((y : ℕ) → space ≡ some y → y < 1024) → orElse 0 size < 65535 → SoundX (e .section) (count st) x
-      → Answers next st (resolveAddress s t (A st) (M st) we a b (encX x) next (W st)) ((definition.if_then_else_ (d.isName (e .section .header .const) space) (d.inConstSpace size x) (d.addressIn space size x)) e st)
+      → Answers next st (resolveAddress s t (A st) (M st) we a b (encX x) next (W st)) ((definition.if_then_else_ (contains (e .section .header .const) space) (d.inConstSpace size x) (d.addressIn space size x)) e st)
   address-at next st f space size a b p q x k l h = rw (← p, ← q) (address s t e front tail marks rest we below holds spare room next st f space size x k l h)
 
   -- an operand made of what was read
@@ -439,7 +439,7 @@ module _ (s t : List ℕ) (e : Env) (p front tail marks rest : List ℕ) (we : W
         let l = names-few in
         rw (i .is, ahead 5 (omega arith))
         (bind-expr (e .section) front tail marks rest spare spare e st (SoundX (e .section)) seenExpr (λ (x : ExprValue). (encX x, next)) (SoundX (e .section))
-        (λ y. λ e1 st1. (definition.if_then_else_ (d.isName (e1 .section .header .const) (absentAt s (pos + 1))) (d.inConstSpace (absentAt s (pos + 3)) y) (d.addressIn (absentAt s (pos + 1)) (absentAt s (pos + 3)) y)) e1 st1) (λ (x : ExprValue). (encX x, i .pointer-end)) _ _ _ _
+        (λ y. λ e1 st1. (definition.if_then_else_ (contains (e1 .section .header .const) (absentAt s (pos + 1))) (d.inConstSpace (absentAt s (pos + 3)) y) (d.addressIn (absentAt s (pos + 1)) (absentAt s (pos + 3)) y)) e1 st1) (λ (x : ExprValue). (encX x, i .pointer-end)) _ _ _ _
         (walks (pos + 5) (i .pointer) (i .pointer-end) (i .pointer-reads) (i .pointer-inside) st f c) (λ n a m. unfold seenExpr in refl)
         λ y st1 r h. rw (← k)
         (address-at next st1 (r .stood) (absentAt s (pos + 1)) (absentAt s (pos + 3)) (le16 s (pos + 1)) (le16 s (pos + 3)) (absent-word s (pos + 1)) (absent-word s (pos + 3)) y (λ z g. omega (arith, i .space-below z g)) (small-or (absentAt s (pos + 3)) (i .size-below)) h))

@@ -8,7 +8,7 @@ use native.Mathlib.Omega.{arith}
 use lib.ListN.{length, getElem?}
 use lib.Dec.{eqb, ltb}
 use borrow.Author.Tests.{not-true, eqb-true}
-use Rattle.prelude.specs.Base.{isSome, all, sameBytes, if_then_else_}
+use Rattle.prelude.specs.Base.{isSome, all, sameNumbers, if_then_else_}
 use Rattle.definition.specs.Operations.{Operation, operationNumber, isOp}
 use Rattle.definition.specs.Value.{Value}
 use Rattle.definition.specs.Ast.{PcodeOp}
@@ -95,5 +95,5 @@ pub inbuilt-takes : (name : List ℕ) (f : Inbuilt) → translateInbuiltFunc nam
 unfolding translateInbuiltFunc
 inbuilt-takes name f h =
     let q = first-from _ inbuilts f h in
-    let d : q .1 ≡ f = chosen (sameBytes name (q .1 .spelling)) (q .1) f (q .3) in
+    let d : q .1 ≡ f = chosen (sameNumbers name (q .1 .spelling)) (q .1) f (q .3) in
     subst Taking d (taking-is (q .1) (all-at taking inbuilts (q .0) (q .1) all-taking (q .2)))

@@ -10,13 +10,13 @@ use lib.Dec.{leb}
 use lib.ListN.{length, length-append}
 use borrow.Author.Tests.{leb-true}
 use Rattle.prelude.specs.Base as definition
-use Rattle.prelude.specs.Base.{orElse, andThen, isSome, all}
+use Rattle.prelude.specs.Base.{orElse, andThen, isSome, all, contains}
 use Rattle.definition.specs.Refusals.{listFull, tooManyTemporaries}
 use Rattle.definition.specs.Operations.{Operation, operationNumber, isOp}
 use Rattle.definition.specs.Value.{Kind, Value, local, ActionKind, SemanticAction, operationOf, Temporary}
 use Rattle.definition.specs.Ast.{Section}
 use Rattle.definition.specs.Sizes as sizes
-use Rattle.definition.specs.Sizes.{Operand, Step, equal, sized, unsized, Sizing, pointerSize}
+use Rattle.definition.specs.Sizes.{Operand, Step, equal, exactly, byDefault, Sizing, pointerSize}
 use Rattle.definition.specs.Walk as d
 use Rattle.definition.specs.Walk.{State, Env, Outcome, done, stopped, on, require, withSizing, withAction}
 use Rattle.definition.specs.ActionList.{orNone, actionKindNumber, operationWord, placesLabel, labelsPlaced}
@@ -68,7 +68,7 @@ module _ (sec : Section) where
   unfolding sizes.shareSize
   share-keeps none none ps x z = names-refl z
   share-keeps none (some n) ps x z = sets-keep n ps x z
-  share-keeps (some n) b ps x z = go (all (λ p. sizes.isSize n (sizes.knownAt sec x z p)) ps)
+  share-keeps (some n) b ps x z = go (all (λ p. contains n (sizes.knownAt sec x z p)) ps)
     where
       go : (c : Bool) → Keeps z (definition.if_then_else_ c (x, z) (sizes.setOperands sec n (sizes.butFirst (λ p. isSome (sizes.knownAt sec x z p)) ps) x z))
       go true = unfold base-opens in names-refl z
@@ -82,8 +82,8 @@ module _ (sec : Section) where
   step-keeps : (late : Bool) (y : Step) (x : SemanticAction) (z : Sizing) → Keeps z (sizes.applyStep sec late y x z)
   unfolding sizes.applyStep sizes.setSizeOfAll
   step-keeps late (equal ps) x z = share-keeps _ _ ps x z
-  step-keeps late (sized p n) x z = set-keeps (sizes.fixedSize sec n) p x z
-  step-keeps late (unsized p n) x z = unsized-keeps (sizes.knownAt sec x z p) (sizes.fixedSize sec n) p x z
+  step-keeps late (exactly p n) x z = set-keeps (sizes.fixedSize (sizes.pointerSize sec) n) p x z
+  step-keeps late (byDefault p n) x z = unsized-keeps (sizes.knownAt sec x z p) (sizes.fixedSize (sizes.pointerSize sec) n) p x z
 
   steps-keep : (late : Bool) (ys : List Step) (x : SemanticAction) (z : Sizing) → Keeps z (sizes.applySteps sec late ys x z)
   unfolding sizes.applySteps

@@ -52,7 +52,7 @@ module _ (s t : List ℕ) (e : Env) (front tail marks rest : List ℕ) (holds : 
   unfolding setStated d.setStated
   set-stated st f size v l h = go (eqb size 0)
     where
-      go : (b : Bool) → Sets st (if b then listed (stated (encV v) (W st)) (M st) else setSize s t (M st) (encV v) size (W st)) ((definition.if_then_else_ b (w.pure v) (w.sizing λ sec. sizes.setSize sec size v)) e st)
+      go : (b : Bool) → Sets st (if b then listed (stated (encV v) (W st)) (M st) else setSize s t (M st) (encV v) size (W st)) ((definition.if_then_else_ b (w.pure v) (w.bySizes λ sec. sizes.setSize sec size v)) e st)
       go true = unfold if_then_else_ base-opens in same-stated st f v h
       go false = unfold if_then_else_ base-opens in set-size s t e front tail marks rest holds spare st room f v size l h
 

@@ -10,7 +10,7 @@ use lib.ListN.{length, getD, set, take, drop, getElem?, length-set, length-drop}
 use lib.Seq.{drop-cons, getD-set-same, getD-set-other, length-take-le}
 use lib.Dec.{eqb, leb, ltb}
 use borrow.Author.Tests.{eqb-true, eqb-false, eq-eqb, ne-eqb, ltb-true, ltb-false, leb-true, leb-false, lt-leb, le-leb}
-use Rattle.prelude.specs.Base.{if_then_else_, any, sameBytes}
+use Rattle.prelude.specs.Base.{if_then_else_, any, sameNumbers}
 use Rattle.definition.specs.Refusals.{Refusal, refusalNumber, malformed, outsideLimit, namesNothing, spelledTwice}
 use Rattle.definition.specs.SectionFile.{Parsed, parsed, refused, on, Read, pure, require, littleEndian, upTo, naming, orAbsent, listOf}
 use Rattle.definition.specs.Ast.{Header}
@@ -157,22 +157,22 @@ bytes-cut (suc n) s p b h = go (λ i. bytes-cut n s (suc p) i (omega arith)) (le
     go rest false e = let i : length s < suc p = leb-false _ _ e in rw (u8-cut s p (omega arith))
 
 -- the bytes of two names, compared one by one
-same-agree : (n i : ℕ) (s : List ℕ) (a b : ℕ) → a + i + n ≤ length s → b + i + n ≤ length s → sameBytes (take n (drop (a + i) s)) (take n (drop (b + i) s)) ≡ agree n i s a b
-unfolding sameBytes agree
+same-agree : (n i : ℕ) (s : List ℕ) (a b : ℕ) → a + i + n ≤ length s → b + i + n ≤ length s → sameNumbers (take n (drop (a + i) s)) (take n (drop (b + i) s)) ≡ agree n i s a b
+unfolding sameNumbers agree
 same-agree zero i s a b h k = refl
 same-agree (suc n) i s a b h k =
     let p : suc (a + i) ≡ a + suc i = omega arith in
     let q : suc (b + i) ≡ b + suc i = omega arith in
     rw (drop-cons s (a + i) 0 (omega arith), drop-cons s (b + i) 0 (omega arith), p, q, same-agree n (suc i) s a b (omega arith) (omega arith))
 
-longer : (xs ys : List ℕ) → (length xs ≡ length ys → ⊥) → sameBytes xs ys ≡ false
-unfolding sameBytes if_then_else_
+longer : (xs ys : List ℕ) → (length xs ≡ length ys → ⊥) → sameNumbers xs ys ≡ false
+unfolding sameNumbers if_then_else_
 longer [] [] h = absurd (h refl)
 longer [] (y ∷ ys) h = refl
 longer (x ∷ xs) [] h = refl
 longer (x ∷ xs) (y ∷ ys) h = go (eqb x y) (longer xs ys (λ e. h (ap suc e)))
   where
-    go : (t : Bool) → sameBytes xs ys ≡ false → (if t then sameBytes xs ys else false) ≡ false
+    go : (t : Bool) → sameNumbers xs ys ≡ false → (if t then sameNumbers xs ys else false) ≡ false
     go true e = e
     go false e = refl
 
@@ -188,28 +188,28 @@ unfolding agree
 agree-open s p q k = refl
 
 -- n letters of each of two names, n being the length of both
-alike-length : (s : List ℕ) (p q n : ℕ) → 1 ≤ n → n ≡ getD s p 0 → n ≡ getD s q 0 → suc p + n ≤ length s → suc q + n ≤ length s → sameBytes (take n (drop (suc p) s)) (take n (drop (suc q) s)) ≡ alike s p q
+alike-length : (s : List ℕ) (p q n : ℕ) → 1 ≤ n → n ≡ getD s p 0 → n ≡ getD s q 0 → suc p + n ≤ length s → suc q + n ≤ length s → sameNumbers (take n (drop (suc p) s)) (take n (drop (suc q) s)) ≡ alike s p q
 unfolding alike restAlike le16
 alike-length s p q n h a b i j =
     let op : p + 1 ≡ suc p = omega arith in
     let oq : q + 1 ≡ suc q = omega arith in
-    let e : sameBytes (take n (drop (p + 1) s)) (take n (drop (q + 1) s)) ≡ agree n 1 s p q = same-agree n 1 s p q (omega arith) (omega arith) in
+    let e : sameNumbers (take n (drop (p + 1) s)) (take n (drop (q + 1) s)) ≡ agree n 1 s p q = same-agree n 1 s p q (omega arith) (omega arith) in
     rw (← a, ← b, high) (rw (op, oq) at e ∙ first n (n - 1) (omega arith))
   where
     first : (n k : ℕ) → n ≡ suc k → agree n 1 s p q ≡ (if eqb (getD s (p + 1) 0) (getD s (q + 1) 0) then agree k 2 s p q else false)
     first n k z = rw z (agree-open s p q k)
 
-alike-lengths : (s : List ℕ) (p q n m : ℕ) → n ≡ m → 1 ≤ n → n ≡ getD s p 0 → m ≡ getD s q 0 → suc p + n ≤ length s → suc q + m ≤ length s → sameBytes (take n (drop (suc p) s)) (take m (drop (suc q) s)) ≡ alike s p q
+alike-lengths : (s : List ℕ) (p q n m : ℕ) → n ≡ m → 1 ≤ n → n ≡ getD s p 0 → m ≡ getD s q 0 → suc p + n ≤ length s → suc q + m ≤ length s → sameNumbers (take n (drop (suc p) s)) (take m (drop (suc q) s)) ≡ alike s p q
 alike-lengths s p q n m z h a b i j = rw (← z) (alike-length s p q n h a (z ∙ b) i (rw z j))
 
 letters-there : (s : List ℕ) (p : ℕ) → suc p + getD s p 0 ≤ length s → getD s p 0 ≤ length (drop (suc p) s)
 letters-there s p h = rw length-drop (omega arith)
 
-pub alike-same : (s : List ℕ) (p q : ℕ) → Named s p → Named s q → sameBytes (spelledAt s p) (spelledAt s q) ≡ alike s p q
+pub alike-same : (s : List ℕ) (p q : ℕ) → Named s p → Named s q → sameNumbers (spelledAt s p) (spelledAt s q) ≡ alike s p q
 unfolding alike le16 if_then_else_
 alike-same s p q a b = go (eqb (getD s p 0) (getD s q 0)) refl
   where
-    go : (t : Bool) → eqb (getD s p 0) (getD s q 0) ≡ t → sameBytes (spelledAt s p) (spelledAt s q) ≡ alike s p q
+    go : (t : Bool) → eqb (getD s p 0) (getD s q 0) ≡ t → sameNumbers (spelledAt s p) (spelledAt s q) ≡ alike s p q
     go true e =
         let z : getD s p 0 ≡ getD s q 0 = eqb-true _ _ e in
         alike-lengths s p q (getD s p 0) (getD s q 0) z (a .some) refl refl (a .inside) (b .inside)
@@ -226,7 +226,7 @@ unfoldable pub takenOf : List ℕ → List ℕ → ℕ → List (List ℕ)
 takenOf s t zero = []
 takenOf s t (suc i) = spelledAt s (getD t i 0) ∷ takenOf s t i
 
-known-any : (s t : List ℕ) (p i : ℕ) → Named s p → ((j : ℕ) → j < i → Named s (getD t j 0)) → any (sameBytes (spelledAt s p)) (takenOf s t i) ≡ known s t p i
+known-any : (s t : List ℕ) (p i : ℕ) → Named s p → ((j : ℕ) → j < i → Named s (getD t j 0)) → any (sameNumbers (spelledAt s p)) (takenOf s t i) ≡ known s t p i
 unfolding takenOf any known
 known-any s t p zero a n = refl
 known-any s t p (suc i) a n = rw (alike-same s p (getD t i 0) a (n i (omega arith)), known-any s t p i a (λ j h. n j (omega arith)))

@@ -42,10 +42,10 @@ never {A} {r} {a} {t} h = let z : _≡_ {A = ℕ} 0 1 = cc in omega (arith, z)
 
 -- Streams.
 
-pub stream-refusal : (s : List ℕ) → length s < 65536 → readStream s noTable .refusal ≡ refusalOf (d.section s)
+pub stream-refusal : (s : List ℕ) → length s < 65536 → readStream s noTable .refusal ≡ refusalOf (d.readSection s)
 stream-refusal s h = read-stream-refusal s noTable h no-table-long no-table-clear
 
-pub stream-holds : (s : List ℕ) → length s < 65536 → (sec : Section) (rest : List ℕ) → d.section s ≡ parsed sec rest → Holds s (readStream s noTable .table) sec
+pub stream-holds : (s : List ℕ) → length s < 65536 → (sec : Section) (rest : List ℕ) → d.readSection s ≡ parsed sec rest → Holds s (readStream s noTable .table) sec
 stream-holds s h sec rest e = holds s noTable (readStream s noTable .table) sec h no-table-clear (read-stream-steps s noTable h no-table-long no-table-clear sec rest e)
 
 -- Blocks.
@@ -108,7 +108,7 @@ pub file-refusal : (file : List ℕ) → fileRefusal file ≡ refusalOf (d.read 
 unfolding fileRefusal d.read refusalOf if_then_else_ on
 file-refusal file = go (streamOf file) refl
   where
-    go : (p : Parsed (List ℕ)) → streamOf file ≡ p → (if eqb (refusalOf p) 0 then readStream (joined (length file / 512) file) noTable .refusal else refusalOf p) ≡ refusalOf (on p (λ stream _. d.section stream))
+    go : (p : Parsed (List ℕ)) → streamOf file ≡ p → (if eqb (refusalOf p) 0 then readStream (joined (length file / 512) file) noTable .refusal else refusalOf p) ≡ refusalOf (on p (λ stream _. d.readSection stream))
     go (parsed x rest) e =
         let f = file-stream file x rest e in
         let l : length x < 65536 = (let m = f .1 in omega arith) in
@@ -119,7 +119,7 @@ pub file-holds : (file : List ℕ) (sec : Section) (rest : List ℕ) → d.read 
 unfolding d.read on
 file-holds file sec rest g = go (streamOf file) refl g
   where
-    go : (p : Parsed (List ℕ)) → streamOf file ≡ p → on p (λ stream _. d.section stream) ≡ parsed sec rest → Holds (joined (length file / 512) file) (readStream (joined (length file / 512) file) noTable .table) sec
+    go : (p : Parsed (List ℕ)) → streamOf file ≡ p → on p (λ stream _. d.readSection stream) ≡ parsed sec rest → Holds (joined (length file / 512) file) (readStream (joined (length file / 512) file) noTable .table) sec
     go (parsed x r) e g =
         let f = file-stream file x r e in
         let l : length x < 65536 = (let m = f .1 in omega arith) in

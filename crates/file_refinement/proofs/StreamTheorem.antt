@@ -41,26 +41,26 @@ module _ (s t0 : List ℕ) (short : length s < 65536) (long : length t0 ≡ 3344
   filled v lim b (goes sec q u t c h e f) = accepted sec (drop q s) (rw f h) e (ap (λ (w : Reading). w .cursor .bad) f)
   filled v lim b (stops r q e f) = turned r e (ap (λ (c : Rattle.file_syntax.specs.declared.cursor.Cursor.Cursor). c .bad) f)
 
-  answered : Answered s t0 (d.section s) (readStream s t0)
-  unfolding d.section readStream if_then_else_ on
+  answered : Answered s t0 (d.readSection s) (readStream s t0)
+  unfolding d.readSection readStream if_then_else_ on
   answered = read (header-agrees s)
     where
-      read : Agrees s (λ h q v. (h ≡ headerAt s) × (q ≡ 34) × Limits s) (d.header (drop 0 s)) (header s) → Answered s t0 (d.section s) (readStream s t0)
+      read : Agrees s (λ h q v. (h ≡ headerAt s) × (q ≡ 34) × Limits s) (d.header (drop 0 s)) (header s) → Answered s t0 (d.readSection s) (readStream s t0)
       read (stopped r q e f) = turned r (rw e) (rw (f, refusal-bad r))
       read (went h q v b n e f) = rw (e, f, n .0, n .1) (filled v (n .2) (rw (n .1) at b) (stream-fills s short t0 long clear (n .2) v (rw (n .1) at b)))
 
-  pub read-stream-refusal : readStream s t0 .refusal ≡ refusalOf (d.section s)
+  pub read-stream-refusal : readStream s t0 .refusal ≡ refusalOf (d.readSection s)
   unfolding refusalOf
   read-stream-refusal = read answered
     where
-      read : Answered s t0 (d.section s) (readStream s t0) → readStream s t0 .refusal ≡ refusalOf (d.section s)
+      read : Answered s t0 (d.readSection s) (readStream s t0) → readStream s t0 .refusal ≡ refusalOf (d.readSection s)
       read (accepted sec rest h e f) = rw e f
       read (turned r e f) = rw e f
 
-  pub read-stream-steps : (sec : Section) (rest : List ℕ) → d.section s ≡ parsed sec rest → Steps s t0 sec (readStream s t0 .table)
+  pub read-stream-steps : (sec : Section) (rest : List ℕ) → d.readSection s ≡ parsed sec rest → Steps s t0 sec (readStream s t0 .table)
   read-stream-steps sec rest g = read answered
     where
-      read : Answered s t0 (d.section s) (readStream s t0) → Steps s t0 sec (readStream s t0 .table)
+      read : Answered s t0 (d.readSection s) (readStream s t0) → Steps s t0 sec (readStream s t0 .table)
       read (accepted other more h e f) = let z : other ≡ sec = cc in rw (← z) h
       read (turned r e f) = absurd (let z : _≡_ {A = ℕ} 0 1 = cc in omega arith)
 

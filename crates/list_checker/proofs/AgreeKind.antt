@@ -11,7 +11,7 @@ use borrow.Author.Tests.{lt-leb, eq-eqb, ne-eqb, ltb-true, ltb-false, eqb-true, 
 use Rattle.prelude.specs.Base.{if_then_else_, _or_, orElse, andThen, isSome, any, first}
 use Rattle.definition.specs.Operations.{Operation, operationNumber}
 use Rattle.definition.specs.Value.{ActionKind, operationOf}
-use Rattle.definition.specs.Sizes.{in0, in1, out, one, pointer, Step, equal, sized, unsized, rules, ruleOf}
+use Rattle.definition.specs.Sizes.{in0, in1, out, one, pointer, Step, equal, exactly, byDefault, rules, ruleOf}
 use Rattle.definition.specs.ActionList.{actionKindNumber, operationWord}
 use Rattle.definition.specs.Checker.{Shape, shapes, withOutput, noOutput, operationNumbered, opNumbered, actionKindNumbered, sameCount, shapeOf}
 use Rattle.definition.proofs.EveryOperation.{alike}
@@ -45,17 +45,17 @@ shapeOfRow unknown = none
 
 unfoldable pub stepsOf : Row → List Step
 stepsOf triple = equal (in0 ∷ in1 ∷ out ∷ []) ∷ []
-stepsOf shift = equal (in0 ∷ out ∷ []) ∷ unsized in1 pointer ∷ []
-stepsOf comparison = equal (in0 ∷ in1 ∷ []) ∷ sized out one ∷ []
-stepsOf boolean = sized in0 one ∷ sized in1 one ∷ sized out one ∷ []
-stepsOf negation = sized in0 one ∷ sized in1 one ∷ sized out one ∷ []
+stepsOf shift = equal (in0 ∷ out ∷ []) ∷ byDefault in1 pointer ∷ []
+stepsOf comparison = equal (in0 ∷ in1 ∷ []) ∷ exactly out one ∷ []
+stepsOf boolean = exactly in0 one ∷ exactly in1 one ∷ exactly out one ∷ []
+stepsOf negation = exactly in0 one ∷ exactly in1 one ∷ exactly out one ∷ []
 stepsOf same = equal (in0 ∷ out ∷ []) ∷ []
-stepsOf tested = sized out one ∷ []
+stepsOf tested = exactly out one ∷ []
 stepsOf free = []
-stepsOf load = sized in0 pointer ∷ []
-stepsOf store = sized in0 pointer ∷ []
-stepsOf branch = sized in0 one ∷ unsized in1 pointer ∷ []
-stepsOf condition = sized in0 one ∷ []
+stepsOf load = exactly in0 pointer ∷ []
+stepsOf store = exactly in0 pointer ∷ []
+stepsOf branch = exactly in0 one ∷ byDefault in1 pointer ∷ []
+stepsOf condition = exactly in0 one ∷ []
 stepsOf label = []
 stepsOf user = []
 stepsOf argument = []

@@ -9,7 +9,7 @@ use lib.ListN.{length, getD, take, drop, set, replicate, take-append-drop, lengt
 use lib.Seq.{length-take-le, drop-drop, getD-set-same, getD-set-other}
 use lib.Dec.{eqb, ltb}
 use borrow.Author.Tests.{le-leb, lt-leb, ltb-true, eqb-true, eqb-false}
-use Rattle.prelude.specs.Base.{if_then_else_, orElse, andThen, any, all, sameBytes}
+use Rattle.prelude.specs.Base.{if_then_else_, orElse, andThen, any, all, sameNumbers}
 use Rattle.definition.specs.Operations.{operationNumber}
 use Rattle.definition.specs.Value.{Value, ActionKind, SemanticAction, operationOf}
 use Rattle.definition.specs.ActionList.{actionKindNumber, operationWord, filled, actionWords, listWords, placesLabel}
@@ -109,14 +109,14 @@ unread t s p (suc n) ws h e =
 
 -- The same words.
 
-same-append : (u v x y : List ℕ) → length u ≡ length x → sameBytes (u ++ v) (x ++ y) ≡ (sameBytes u x && sameBytes v y)
-unfolding sameBytes if_then_else_
+same-append : (u v x y : List ℕ) → length u ≡ length x → sameNumbers (u ++ v) (x ++ y) ≡ (sameNumbers u x && sameNumbers v y)
+unfolding sameNumbers if_then_else_
 same-append [] v [] y h = refl
 same-append [] v (b ∷ x) y h = absurd (omega arith)
 same-append (a ∷ u) v [] y h = absurd (omega arith)
 same-append (a ∷ u) v (b ∷ x) y h = rw (same-append u v x y (omega arith)) (go (eqb a b))
   where
-    go : (t : Bool) → (if t then sameBytes u x && sameBytes v y else false) ≡ ((if t then sameBytes u x else false) && sameBytes v y)
+    go : (t : Bool) → (if t then sameNumbers u x && sameNumbers v y else false) ≡ ((if t then sameNumbers u x else false) && sameNumbers v y)
     go true = refl
     go false = refl
 
@@ -137,14 +137,14 @@ unfolding actionWords
 action-length a = filled-length 24 _
 
 same-rows : (ws rest : List ℕ) (a : SemanticAction) → 24 ≤ length ws →
-    sameBytes ws (filled (length ws) (actionWords a ++ rest)) ≡ (sameBytes (take 24 ws) (actionWords a) && sameBytes (drop 24 ws) (filled (length (drop 24 ws)) rest))
+    sameNumbers ws (filled (length ws) (actionWords a ++ rest)) ≡ (sameNumbers (take 24 ws) (actionWords a) && sameNumbers (drop 24 ws) (filled (length (drop 24 ws)) rest))
 same-rows ws rest a h =
     let l : length (drop 24 ws) ≡ length ws - 24 = length-drop 24 ws in
     let k : length (actionWords a) ≡ 24 = action-length a in
     let i : length (take 24 ws) ≡ 24 = length-take-le 24 ws h in
     let e : filled (length ws) (actionWords a ++ rest) ≡ actionWords a ++ filled (length (drop 24 ws)) rest = filled-append (actionWords a) rest (length ws) (length (drop 24 ws)) (omega arith) in
-    ap (λ x. sameBytes ws x) e
-    ∙ ap (λ x. sameBytes x (actionWords a ++ filled (length (drop 24 ws)) rest)) (sym (take-append-drop 24 ws))
+    ap (λ x. sameNumbers ws x) e
+    ∙ ap (λ x. sameNumbers x (actionWords a ++ filled (length (drop 24 ws)) rest)) (sym (take-append-drop 24 ws))
     ∙ same-append (take 24 ws) (drop 24 ws) (actionWords a) (filled (length (drop 24 ws)) rest) (omega arith)
 
 spread : (sa sr la lr za zr : Bool) → (sa && sr && (la && lr && (za && zr))) ≡ (sa && (la && za) && (sr && (lr && zr)))
@@ -158,7 +158,7 @@ spread true true true false false zr = refl
 spread true true true true za zr = refl
 
 rows-agree : (t s p n : ℕ) (ws : List ℕ) (found : List SemanticAction) → Reads n ws found → 24 * n ≤ length ws →
-    (sameBytes ws (filled (length ws) (listWords found)) && (all (layoutFits t s) found && all (sizesHold p) found)) ≡ (rowsFit t s p n ws && zeros (drop (24 * n) ws))
+    (sameNumbers ws (filled (length ws) (listWords found)) && (all (layoutFits t s) found && all (sizesHold p) found)) ≡ (rowsFit t s p n ws && zeros (drop (24 * n) ws))
 unfolding listWords all rowsFit right orElse andThen
 rows-agree t s p zero ws [] end h = rw (same-zeros ws) (and-true (zeros ws))
 rows-agree t s p (suc n) ws (a ∷ rest) (more e r) h =
@@ -167,7 +167,7 @@ rows-agree t s p (suc n) ws (a ∷ rest) (more e r) h =
     let m : 24 + 24 * n ≡ 24 * suc n = omega arith in
     let d : drop (24 * n) (drop 24 ws) ≡ drop (24 * suc n) ws = drop-drop (24 * n) 24 ws ∙ ap (λ x. drop x ws) m in
     rw (same-rows ws (listWords rest) a (omega arith), if-and (layoutFits t s a) (all (layoutFits t s) rest), if-and (sizesHold p a) (all (sizesHold p) rest))
-    (spread (sameBytes (take 24 ws) (actionWords a)) (sameBytes (drop 24 ws) (filled (length (drop 24 ws)) (listWords rest))) (layoutFits t s a) (all (layoutFits t s) rest) (sizesHold p a) (all (sizesHold p) rest)
+    (spread (sameNumbers (take 24 ws) (actionWords a)) (sameNumbers (drop 24 ws) (filled (length (drop 24 ws)) (listWords rest))) (layoutFits t s a) (all (layoutFits t s) rest) (sizesHold p a) (all (sizesHold p) rest)
     ∙ rw (rows-agree t s p n (drop 24 ws) rest r (omega arith), d, f) (sym (assoc (actionFit t s p (take 24 ws)) (rowsFit t s p n (drop 24 ws)) (zeros (drop (24 * suc n) ws)))))
 
 -- Labels.
@@ -291,7 +291,7 @@ arrange sb l z lab b r zs labw bw e f g = rw (g, ← e2, e) (go r zs f)
 listed : (t s p n : ℕ) (ws : List ℕ) (found : List SemanticAction) → Reads n ws found → 24 * n ≤ length ws → listHolds ws t s p found ≡ (zeros (drop (24 * n) ws) && listFit t s p n ws)
 unfolding listHolds listFit
 listed t s p n ws found r h =
-    arrange (sameBytes ws (filled (length ws) (listWords found))) (all (layoutFits t s) found) (all (sizesHold p) found) (labelsOnce found) (allBuilt found s)
+    arrange (sameNumbers ws (filled (length ws) (listWords found))) (all (layoutFits t s) found) (all (sizesHold p) found) (labelsOnce found) (allBuilt found s)
     (rowsFit t s p n ws) (zeros (drop (24 * n) ws)) (labelsNew n ws (replicate 256 0)) (allBuiltBy n ws s)
     (rows-agree t s p n ws found r h)
     (λ e. sym (labels-agree n ws found r (labels-small t s p n ws found r e) (replicate 256 0) (length-replicate {A = ℕ} 256 0) ∙ rw (fresh-zeros 256 found) (and-true (labelsOnce found))))

@@ -9,7 +9,7 @@ use native.Mathlib.Omega.{arith}
 use lib.ListN.{length}
 use lib.Dec.{eqb, leb, ltb}
 use borrow.Author.Tests.{eq-eqb, ne-eqb, leb-true, leb-false, eqb-true, eqb-false}
-use Rattle.prelude.specs.Base.{if_then_else_, orElse, andThen, isSome, any, all, sameBytes}
+use Rattle.prelude.specs.Base.{if_then_else_, orElse, andThen, isSome, any, all, sameNumbers}
 use Rattle.definition.specs.Sizes as sz
 use Rattle.definition.specs.Operations.{Operation, operationNumber}
 use Rattle.definition.specs.Value.{Value, ActionKind, SemanticAction, operationOf}
@@ -69,9 +69,9 @@ output-from ActionKind.Build n x = refl
 -- the output is read, written as the same words, and fits; what follows is any
 module _ (t s n x m : ℕ) (rest after : List ℕ) where
   with-output :
-      (known x && (sameBytes (n ∷ x ∷ rest) (filled (suc (suc m)) (valueWords (valueOf n x) ++ after)) && valueFits t s (valueOf n x)))
-      ≡ (valueFit t s false n x && sameBytes rest (filled m after))
-  unfolding sameBytes filled if_then_else_
+      (known x && (sameNumbers (n ∷ x ∷ rest) (filled (suc (suc m)) (valueWords (valueOf n x) ++ after)) && valueFits t s (valueOf n x)))
+      ≡ (valueFit t s false n x && sameNumbers rest (filled m after))
+  unfolding sameNumbers filled if_then_else_
   with-output = rw (← value-fit t s n x) (go (known x) refl (valueFits t s (valueOf n x)))
     where
       turn : (b f : Bool) → (b && f) ≡ (f && b)
@@ -81,18 +81,18 @@ module _ (t s n x m : ℕ) (rest after : List ℕ) where
       turn false false = refl
 
       go : (k : Bool) → known x ≡ k → (f : Bool) →
-          (k && (sameBytes (n ∷ x ∷ rest) (filled (suc (suc m)) (valueWords (valueOf n x) ++ after)) && f)) ≡ (k && f && sameBytes rest (filled m after))
+          (k && (sameNumbers (n ∷ x ∷ rest) (filled (suc (suc m)) (valueWords (valueOf n x) ++ after)) && f)) ≡ (k && f && sameNumbers rest (filled m after))
       go false e f = refl
-      go true e f = rw (value-back n x e, eq-eqb n n refl, eq-eqb x x refl) (turn (sameBytes rest (filled m after)) f)
+      go true e f = rw (value-back n x e, eq-eqb n n refl, eq-eqb x x refl) (turn (sameNumbers rest (filled m after)) f)
 
   abbrev OutputFits : ActionKind → Bool → Type 0
   OutputFits kind b =
-      (outputKnown b x && (sameBytes (n ∷ x ∷ rest) (filled (suc (suc m)) (outputWords (operationOf kind) (outputOf b n x) ++ after)) && optionFits (valueFits t s) (outputOf b n x)))
-      ≡ (outputFit t s (actionKindNumber kind) b n x && sameBytes rest (filled m after))
+      (outputKnown b x && (sameNumbers (n ∷ x ∷ rest) (filled (suc (suc m)) (outputWords (operationOf kind) (outputOf b n x) ++ after)) && optionFits (valueFits t s) (outputOf b n x)))
+      ≡ (outputFit t s (actionKindNumber kind) b n x && sameNumbers rest (filled m after))
 
-  no-output : (b : Bool) → (sameBytes (n ∷ x ∷ rest) (0 ∷ 0 ∷ filled m after) && true) ≡ (eqb n 0 && eqb x 0 && sameBytes rest (filled m after))
-  unfolding sameBytes if_then_else_
-  no-output b = go (eqb n 0) (eqb x 0) (sameBytes rest (filled m after))
+  no-output : (b : Bool) → (sameNumbers (n ∷ x ∷ rest) (0 ∷ 0 ∷ filled m after) && true) ≡ (eqb n 0 && eqb x 0 && sameNumbers rest (filled m after))
+  unfolding sameNumbers if_then_else_
+  no-output b = go (eqb n 0) (eqb x 0) (sameNumbers rest (filled m after))
     where
       go : (a b c : Bool) → ((if a then (if b then c else false) else false) && true) ≡ (a && b && c)
       go true true true = refl
@@ -101,11 +101,11 @@ module _ (t s n x m : ℕ) (rest after : List ℕ) where
       go false b c = refl
 
   output-fit : (kind : ActionKind) → OutputFits kind (outputRead kind n x)
-  unfolding outputRead actionKindNumber outputKnown outputOf outputWords outputFit operationOf optionFits if_then_else_ filled sameBytes
+  unfolding outputRead actionKindNumber outputKnown outputOf outputWords outputFit operationOf optionFits if_then_else_ filled sameNumbers
   output-fit (ActionKind.Op o) = go (eqb n 0) (eqb x 255) refl refl
     where
       go : (a c : Bool) → eqb n 0 ≡ a → eqb x 255 ≡ c → OutputFits (ActionKind.Op o) (not a || not c)
-      go true true e f = rw (e, f) (and-true (sameBytes rest (filled m after)))
+      go true true e f = rw (e, f) (and-true (sameNumbers rest (filled m after)))
       go true false e f = with-output
       go false c e f = with-output
   output-fit ActionKind.AddressOf = with-output
@@ -218,7 +218,7 @@ chain false b c d x e f = absurd (let z : _≡_ {A = ℕ} 0 1 = cc in omega arit
 
 -- written as just these words, and right
 unfoldable pub right : ℕ → ℕ → ℕ → List ℕ → SemanticAction → Bool
-right temporaries subtables pointer ws a = sameBytes ws (actionWords a) && (layoutFits temporaries subtables a && sizesHold pointer a)
+right temporaries subtables pointer ws a = sameNumbers ws (actionWords a) && (layoutFits temporaries subtables a && sizesHold pointer a)
 
 taken : (ok ik : Bool) (kind : ActionKind) (number : ℕ) (inputs : List Value) (output : Option Value) (f : SemanticAction → Bool) →
     orElse false (andThen {B = Bool} (andThen {B = SemanticAction} (if ok then some output else none) λ o. andThen {B = SemanticAction} (if ik then some inputs else none) λ vs. some (record { kind = kind; number = number; inputs = vs; output = o })) λ a. some (f a))
@@ -247,12 +247,12 @@ module _ (t s p op num cnt o0 o1 x0 y0 x1 y1 : ℕ) (r : List ℕ) where
   there false = refl
 
   same : (kind : ActionKind) (b : Bool) →
-      sameBytes (row (actionKindNumber kind)) (actionWords (read kind b))
-      ≡ (eqb op (operationWord (operationOf kind)) && (leb cnt 8 && sameBytes (o0 ∷ o1 ∷ words) (filled 20 (outputWords (operationOf kind) (outputOf b o0 o1) ++ inputWords (inputsOf (min cnt 8) words)))))
-  unfolding actionWords filled sameBytes
+      sameNumbers (row (actionKindNumber kind)) (actionWords (read kind b))
+      ≡ (eqb op (operationWord (operationOf kind)) && (leb cnt 8 && sameNumbers (o0 ∷ o1 ∷ words) (filled 20 (outputWords (operationOf kind) (outputOf b o0 o1) ++ inputWords (inputsOf (min cnt 8) words)))))
+  unfolding actionWords filled sameNumbers
   same kind b =
       chain (eqb (actionKindNumber kind) (actionKindNumber kind)) (eqb op (operationWord (operationOf kind))) (eqb num num) (eqb cnt (length (inputsOf (min cnt 8) words)))
-      (sameBytes (o0 ∷ o1 ∷ words) (filled 20 (outputWords (operationOf kind) (outputOf b o0 o1) ++ inputWords (inputsOf (min cnt 8) words))))
+      (sameNumbers (o0 ∷ o1 ∷ words) (filled 20 (outputWords (operationOf kind) (outputOf b o0 o1) ++ inputWords (inputsOf (min cnt 8) words))))
       (eq-eqb (actionKindNumber kind) (actionKindNumber kind) refl) (eq-eqb num num refl)
       ∙ rw (inputs-length (min cnt 8) words, to-eight cnt)
 
@@ -332,11 +332,11 @@ module _ (t s p op num cnt o0 o1 x0 y0 x1 y1 : ℕ) (r : List ℕ) where
 
   module _ (len : length r ≡ 14) where
     inputs :
-        (inputsKnown (min cnt 8) words && (sameBytes words (filled 18 (inputWords (inputsOf (min cnt 8) words))) && all (valueFits t s) (inputsOf (min cnt 8) words)))
+        (inputsKnown (min cnt 8) words && (sameNumbers words (filled 18 (inputWords (inputsOf (min cnt 8) words))) && all (valueFits t s) (inputsOf (min cnt 8) words)))
         ≡ valuesFit t s false (min cnt 8) words
     inputs =
         let e : 18 ≡ length words = omega arith in
-        ap (λ m. inputsKnown (min cnt 8) words && (sameBytes words (filled m (inputWords (inputsOf (min cnt 8) words))) && all (valueFits t s) (inputsOf (min cnt 8) words))) e
+        ap (λ m. inputsKnown (min cnt 8) words && (sameNumbers words (filled m (inputWords (inputsOf (min cnt 8) words))) && all (valueFits t s) (inputsOf (min cnt 8) words))) e
         ∙ inputs-fit t s (min cnt 8) words (omega arith)
 
     -- the definition's conditions, in the words' order
@@ -349,10 +349,10 @@ module _ (t s p op num cnt o0 o1 x0 y0 x1 y1 : ℕ) (r : List ℕ) where
         let b : Bool = outputRead kind o0 o1 in
         let n : ℕ = min cnt 8 in
         let vs : List Value = inputsOf n words in
-        let so : Bool = sameBytes (o0 ∷ o1 ∷ words) (filled 20 (outputWords (operationOf kind) (outputOf b o0 o1) ++ inputWords vs)) in
+        let so : Bool = sameNumbers (o0 ∷ o1 ∷ words) (filled 20 (outputWords (operationOf kind) (outputOf b o0 o1) ++ inputWords vs)) in
         rw (same kind b, inputs-length n words, there b)
         (gather (outputKnown b o1) (inputsKnown n words) (eqb op (operationWord (operationOf kind))) (leb cnt 8) so (shaped n b num (shapeOf t s kind)) (all (valueFits t s) vs) (optionFits (valueFits t s) (outputOf b o0 o1)) (baseFits kind vs) (sizesHold p (read kind b))
-        ∙ rw (output-fit t s o0 o1 18 words (inputWords vs) kind) (rw (regroup (outputFit t s (actionKindNumber kind) b o0 o1) (sameBytes words (filled 18 (inputWords vs))) (inputsKnown n words) (all (valueFits t s) vs) (baseFits kind vs && sizesHold p (read kind b))) (rw inputs)))
+        ∙ rw (output-fit t s o0 o1 18 words (inputWords vs) kind) (rw (regroup (outputFit t s (actionKindNumber kind) b o0 o1) (sameNumbers words (filled 18 (inputWords vs))) (inputsKnown n words) (all (valueFits t s) vs) (baseFits kind vs && sizesHold p (read kind b))) (rw inputs)))
 
     known-row : (kind : ActionKind) → eqb op (operationWord (operationOf kind)) ≡ operationRight (actionKindNumber kind) op →
         (outputKnown (outputRead kind o0 o1) o1 && (inputsKnown (min cnt 8) words && right t s p (row (actionKindNumber kind)) (read kind (outputRead kind o0 o1))))

@@ -8,10 +8,10 @@ use native.Mathlib.Omega.{arith}
 use lib.ListN.{getD, drop}
 use lib.Dec.{eqb, leb, ltb}
 use borrow.Author.Tests.{eq-eqb, ne-eqb, le-ltb, eqb-true, eqb-false, not-true}
-use Rattle.prelude.specs.Base.{if_then_else_, _or_, orElse, andThen, isSome, any, all, first}
+use Rattle.prelude.specs.Base.{if_then_else_, _or_, orElse, andThen, isSome, any, all, first, contains}
 use Rattle.definition.specs.Value.{Value, ActionKind, SemanticAction}
-use Rattle.definition.specs.Sizes.{isSize, at}
-use Rattle.definition.specs.Checker.{sizeFrom, sameCount, optionFits, isSized, sizeAt, hasSize, allHaveSize, sizeNamed, stepHolds}
+use Rattle.definition.specs.Sizes.{at, fixedSize}
+use Rattle.definition.specs.Checker.{sizeFrom, sameCount, optionFits, isSized, sizeAt, hasSize, allHaveSize, stepHolds}
 use Rattle.list_checker.specs.Action as w
 use Rattle.list_checker.specs.Action.{Row, valueFit, valuesFit, rowFit}
 use Rattle.list_checker.proofs.AgreeValue.{valueOf, inputsOf, and-true, value-sized}
@@ -105,45 +105,45 @@ acted kind number inputs output = record { kind = kind; number = number; inputs 
 
 module _ (pointer : ℕ) (kind : ActionKind) (number : ℕ) (v0 v1 vo : Value) (s0 s1 so : ℕ) (p0 : v0 .size ≡ some s0) (po : vo .size ≡ some so) where
   pair : all (stepHolds pointer (acted kind number (v0 ∷ []) (some vo))) (stepsOf w.same) ≡ eqb s0 so
-  unfolding all stepHolds stepsOf allHaveSize first _or_ sizeAt andThen at hasSize isSize
+  unfolding all stepHolds stepsOf allHaveSize first _or_ sizeAt andThen at hasSize contains
   pair = rw (p0, po, eq-eqb s0 s0 refl) (simp (if-and, and-true))
 
   not-rule : all (stepHolds pointer (acted kind number (v0 ∷ []) (some vo))) (stepsOf w.negation) ≡ (eqb s0 1 && eqb so 1)
-  unfolding all stepHolds stepsOf sizeNamed at hasSize isSize
+  unfolding all stepHolds stepsOf fixedSize at hasSize contains
   not-rule = rw (p0, po, eqb-comm 1 s0, eqb-comm 1 so) (simp (if-and, and-true))
 
   nan : all (stepHolds pointer (acted kind number (v0 ∷ []) (some vo))) (stepsOf w.tested) ≡ eqb so 1
-  unfolding all stepHolds stepsOf sizeNamed at hasSize isSize
+  unfolding all stepHolds stepsOf fixedSize at hasSize contains
   nan = rw (po, eqb-comm 1 so) (simp (if-and, and-true))
 
   shift : all (stepHolds pointer (acted kind number (v0 ∷ v1 ∷ []) (some vo))) (stepsOf w.shift) ≡ eqb s0 so
-  unfolding all stepHolds stepsOf allHaveSize first _or_ sizeAt andThen at hasSize isSize
+  unfolding all stepHolds stepsOf allHaveSize first _or_ sizeAt andThen at hasSize contains
   shift = rw (p0, po, eq-eqb s0 s0 refl) (simp (if-and, and-true))
 
   module _ (p1 : v1 .size ≡ some s1) where
     triple : all (stepHolds pointer (acted kind number (v0 ∷ v1 ∷ []) (some vo))) (stepsOf w.triple) ≡ (eqb s0 s1 && eqb s0 so)
-    unfolding all stepHolds stepsOf allHaveSize first _or_ sizeAt andThen at hasSize isSize
+    unfolding all stepHolds stepsOf allHaveSize first _or_ sizeAt andThen at hasSize contains
     triple = rw (p0, p1, po, eq-eqb s0 s0 refl) (simp (if-and, and-true))
 
     comparison : all (stepHolds pointer (acted kind number (v0 ∷ v1 ∷ []) (some vo))) (stepsOf w.comparison) ≡ (eqb s0 s1 && eqb so 1)
-    unfolding all stepHolds stepsOf allHaveSize first _or_ sizeAt andThen at hasSize isSize sizeNamed
+    unfolding all stepHolds stepsOf allHaveSize first _or_ sizeAt andThen at hasSize contains fixedSize
     comparison = rw (p0, p1, po, eq-eqb s0 s0 refl, eqb-comm 1 so) (simp (if-and, and-true))
 
     boolean : all (stepHolds pointer (acted kind number (v0 ∷ v1 ∷ []) (some vo))) (stepsOf w.boolean) ≡ (eqb s0 1 && (eqb s1 1 && eqb so 1))
-    unfolding all stepHolds stepsOf at hasSize isSize sizeNamed
+    unfolding all stepHolds stepsOf at hasSize contains fixedSize
     boolean = rw (p0, p1, po, eqb-comm 1 s0, eqb-comm 1 s1, eqb-comm 1 so) (simp (if-and, and-true))
 
 module _ (pointer : ℕ) (kind : ActionKind) (number : ℕ) (v0 : Value) (vs : List Value) (o : Option Value) (s0 : ℕ) (p0 : v0 .size ≡ some s0) where
   load : all (stepHolds pointer (acted kind number (v0 ∷ vs) o)) (stepsOf w.load) ≡ eqb s0 pointer
-  unfolding all stepHolds stepsOf sizeNamed at hasSize isSize
+  unfolding all stepHolds stepsOf fixedSize at hasSize contains
   load = rw (p0, eqb-comm pointer s0) (simp (if-and, and-true))
 
   condition : all (stepHolds pointer (acted kind number (v0 ∷ vs) o)) (stepsOf w.condition) ≡ eqb s0 1
-  unfolding all stepHolds stepsOf sizeNamed at hasSize isSize
+  unfolding all stepHolds stepsOf fixedSize at hasSize contains
   condition = rw (p0, eqb-comm 1 s0) (simp (if-and, and-true))
 
   branch : all (stepHolds pointer (acted kind number (v0 ∷ vs) o)) (stepsOf w.branch) ≡ eqb s0 1
-  unfolding all stepHolds stepsOf sizeNamed at hasSize isSize
+  unfolding all stepHolds stepsOf fixedSize at hasSize contains
   branch = rw (p0, eqb-comm 1 s0) (simp (if-and, and-true))
 
 module _ (pointer : ℕ) (kind : ActionKind) (number x0 y0 x1 y1 : ℕ) (r : List ℕ) (o0 o1 : ℕ) where

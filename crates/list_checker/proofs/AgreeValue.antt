@@ -8,7 +8,7 @@ use native.Mathlib.Omega.{arith}
 use lib.ListN.{length, getD, drop, getElem?}
 use lib.Dec.{eqb, ltb}
 use borrow.Author.Tests.{lt-ltb, le-ltb, le-leb, eq-eqb, ne-eqb, ltb-true, ltb-false, eqb-true, eqb-false}
-use Rattle.prelude.specs.Base.{if_then_else_, orElse, andThen, all, sameBytes}
+use Rattle.prelude.specs.Base.{if_then_else_, orElse, andThen, all, sameNumbers}
 use Rattle.definition.specs.Value.{Kind, kindNumber, Value}
 use Rattle.definition.specs.ActionList.{orNone, valueWords, inputWords, filled}
 use Rattle.definition.specs.Checker.{kinds, sizeFrom, valueFrom, inputsFrom, numberFits, valueFits}
@@ -149,8 +149,8 @@ unfolding inputsOf
 inputs-length zero r = refl
 inputs-length (suc n) r = ap suc (inputs-length n (drop 2 r))
 
-pub same-zeros : (r : List ℕ) → sameBytes r (filled (length r) []) ≡ zeros r
-unfolding sameBytes filled zeros if_then_else_
+pub same-zeros : (r : List ℕ) → sameNumbers r (filled (length r) []) ≡ zeros r
+unfolding sameNumbers filled zeros if_then_else_
 same-zeros [] = refl
 same-zeros (x ∷ r) = rw (same-zeros r) (go (eqb x 0))
   where
@@ -164,8 +164,8 @@ and-true false = refl
 
 -- the inputs are read, written as the same words, and fit
 pub inputs-fit : (t s n : ℕ) (r : List ℕ) → 2 * n ≤ length r →
-    (inputsKnown n r && (sameBytes r (filled (length r) (inputWords (inputsOf n r))) && all (valueFits t s) (inputsOf n r))) ≡ valuesFit t s false n r
-unfolding inputsKnown inputsOf valuesFit inputWords all sameBytes filled if_then_else_
+    (inputsKnown n r && (sameNumbers r (filled (length r) (inputWords (inputsOf n r))) && all (valueFits t s) (inputsOf n r))) ≡ valuesFit t s false n r
+unfolding inputsKnown inputsOf valuesFit inputWords all sameNumbers filled if_then_else_
 inputs-fit t s zero r h = rw (same-zeros r) (and-true (zeros r))
 inputs-fit t s (suc n) [] h = absurd (omega arith)
 inputs-fit t s (suc n) (x ∷ []) h = absurd (omega arith)
@@ -180,7 +180,7 @@ inputs-fit t s (suc n) (x ∷ y ∷ r) h = rw (← value-fit t s x y, ← inputs
     turn true true false g = refl
 
     go : (k : Bool) → known y ≡ k →
-        (k && inputsKnown n r && (sameBytes (x ∷ y ∷ r) (filled (suc (suc (length r))) (valueWords (valueOf x y) ++ inputWords (inputsOf n r))) && (if valueFits t s (valueOf x y) then all (valueFits t s) (inputsOf n r) else false)))
-        ≡ (k && valueFits t s (valueOf x y) && (inputsKnown n r && (sameBytes r (filled (length r) (inputWords (inputsOf n r))) && all (valueFits t s) (inputsOf n r))))
+        (k && inputsKnown n r && (sameNumbers (x ∷ y ∷ r) (filled (suc (suc (length r))) (valueWords (valueOf x y) ++ inputWords (inputsOf n r))) && (if valueFits t s (valueOf x y) then all (valueFits t s) (inputsOf n r) else false)))
+        ≡ (k && valueFits t s (valueOf x y) && (inputsKnown n r && (sameNumbers r (filled (length r) (inputWords (inputsOf n r))) && all (valueFits t s) (inputsOf n r))))
     go false e = refl
-    go true e = rw (value-back x y e, eq-eqb x x refl, eq-eqb y y refl) (turn (inputsKnown n r) (sameBytes r (filled (length r) (inputWords (inputsOf n r)))) (valueFits t s (valueOf x y)) (all (valueFits t s) (inputsOf n r)))
+    go true e = rw (value-back x y e, eq-eqb x x refl, eq-eqb y y refl) (turn (inputsKnown n r) (sameNumbers r (filled (length r) (inputWords (inputsOf n r)))) (valueFits t s (valueOf x y)) (all (valueFits t s) (inputsOf n r)))

@@ -7,11 +7,11 @@ use mathlib.Core.Option.{Option, none, some}
 use native.Mathlib.Omega.{arith}
 use lib.ListN.{length, length-set}
 use Rattle.prelude.specs.Base as definition
-use Rattle.prelude.specs.Base.{_or_, orElse, andThen, isSome, all, first}
+use Rattle.prelude.specs.Base.{_or_, orElse, andThen, isSome, all, first, contains}
 use Rattle.definition.specs.Value.{Value, truncate, SemanticAction}
 use Rattle.definition.specs.Ast.{Section}
 use Rattle.definition.specs.Sizes as d
-use Rattle.definition.specs.Sizes.{Operand, in0, in1, out, FixedSize, one, pointer, Step, equal, sized, unsized, at, put, Sizing, isSize, butFirst, knownAt, setSize, setGiven, setOperand, setOperands, shareSize, setSizeOfAll, fallbackSize, pointerSize, fixedSize, setUnsized, applyStep, applySteps}
+use Rattle.definition.specs.Sizes.{Operand, in0, in1, out, FixedSize, one, pointer, Step, equal, exactly, byDefault, at, put, Sizing, butFirst, knownAt, setSize, setGiven, setOperand, setOperands, shareSize, setSizeOfAll, fallbackSize, pointerSize, fixedSize, setUnsized, applyStep, applySteps}
 use Rattle.definition.proofs.Openers.{base-opens}
 use Rattle.list_refinement.specs.Encoding.{SoundTmp, Each, SoundAction, SizesHold}
 use Rattle.list_refinement.proofs.Settled.{known-small, settled-sets, Ready, operand-sound, has, put-sound, put-has}
@@ -77,8 +77,8 @@ Gives sec cost x z r = After sec cost x z (r .0) (r .1)
 -- how many errors a rule may add at most
 unfoldable pub stepCost : Step → ℕ
 stepCost (equal ps) = length ps
-stepCost (sized p n) = 1
-stepCost (unsized p n) = 1
+stepCost (exactly p n) = 1
+stepCost (byDefault p n) = 1
 
 unfoldable pub stepsCost : List Step → ℕ
 stepsCost [] = 0
@@ -175,7 +175,7 @@ module _ (s t : List ℕ) (sec : Section) (holds : SizesHold s t sec) where
   late-fits true x ps = first-small (λ p. andThen (at p x) (fallbackSize sec)) (fallback-fits x) ps
   late-fits false x ps = omega arith
 
-  fixed-fits : (z : FixedSize) → fixedSize sec z < 65535
+  fixed-fits : (z : FixedSize) → fixedSize (pointerSize sec) z < 65535
   unfolding fixedSize
   fixed-fits one = omega arith
   fixed-fits pointer = holds .pointerSmall
@@ -197,7 +197,7 @@ module _ (s t : List ℕ) (sec : Section) (holds : SizesHold s t sec) where
   unfolding shareSize orElse
   share-after none none ps x z h k f = after-refl (length ps) x z f
   share-after none (some n) ps x z h k f = sets-after n k ps x z (length ps) (omega arith) f
-  share-after (some n) b ps x z h k f = go (all (λ p. isSize n (knownAt sec x z p)) ps)
+  share-after (some n) b ps x z h k f = go (all (λ p. contains n (knownAt sec x z p)) ps)
     where
       qs : List Operand
       qs = butFirst (λ p. isSome (knownAt sec x z p)) ps
@@ -221,8 +221,8 @@ module _ (s t : List ℕ) (sec : Section) (holds : SizesHold s t sec) where
       → Gives sec (stepCost y) x z (applyStep sec late y x z)
   unfolding applyStep stepCost
   step-after late (equal ps) x z f = all-after late ps x z f
-  step-after late (sized p n) x z f = set-after (fixedSize sec n) (fixed-fits n) p x z f
-  step-after late (unsized p n) x z f = unsized-after (knownAt sec x z p) (fixedSize sec n) (fixed-fits n) p x z f
+  step-after late (exactly p n) x z f = set-after (fixedSize (pointerSize sec) n) (fixed-fits n) p x z f
+  step-after late (byDefault p n) x z f = unsized-after (knownAt sec x z p) (fixedSize (pointerSize sec) n) (fixed-fits n) p x z f
 
   pub steps-after : (late : Bool) (ys : List Step) (x : SemanticAction) (z : Sizing) → Fit sec x z
       → Gives sec (stepsCost ys) x z (applySteps sec late ys x z)

@@ -51,8 +51,8 @@ module _ (s t : List ℕ) (sec : Section) (holds : SizesHold s t sec) (marks res
       by-size : (a : Option ℕ) (b : Bool) → orElse 0 a < 65535 → length (z .errors) + 1 < 2 ^ 64
           → (if eqb (orNone a) 65535 then (if b then fixed (withSize (pointerSize sec) (encV v)) (encZ z) else fixed (encV v)
           (error (encZ z))) else fixed (withSize (orNone a) (encV v)) (encZ z))
-          ≡ fixedAs (d.fixed sec v (a or definition.if_then_else_ b (some (pointerSize sec)) none) z)
-      unfolding if_then_else_ orNone orElse d.fixed base-opens
+          ≡ fixedAs (d.fixTo sec v (a or definition.if_then_else_ b (some (pointerSize sec)) none) z)
+      unfolding if_then_else_ orNone orElse d.fixTo base-opens
       by-size none true h r = refl
       by-size none false h r = rw (error-is z r)
       by-size (some n) b h r = rw (ne-eqb n 65535 (λ e. omega arith))
@@ -66,8 +66,8 @@ module _ (s t : List ℕ) (sec : Section) (holds : SizesHold s t sec) (marks res
       fix-is r = rw (final-is, size-is s t sec holds marks rest ts fit v sound)
           (by-size (d.sizeOf sec ts v) (fallsBack (encV v)) (known-small s t sec holds marks rest ts fit v sound) r)
 
-      fixed-after : (a : Option ℕ) → AfterFix 1 z ((d.fixed sec v a z) .1)
-      unfolding d.fixed
+      fixed-after : (a : Option ℕ) → AfterFix 1 z ((d.fixTo sec v a z) .1)
+      unfolding d.fixTo
       fixed-after none = record { temporaries = refl; begun = refl; errors = rw (length-append (z .errors) (z .begun ∷ [])) (omega arith) }
       fixed-after (some n) = record { temporaries = refl; begun = refl; errors = omega arith }
 
@@ -75,8 +75,8 @@ module _ (s t : List ℕ) (sec : Section) (holds : SizesHold s t sec) (marks res
       unfolding d.fixSize
       fix-after = fixed-after _
 
-      fixed-sound : (a : Option ℕ) → orElse 0 a < 65535 → Sound sec (length ts) ((d.fixed sec v a z) .0)
-      unfolding d.fixed orElse
+      fixed-sound : (a : Option ℕ) → orElse 0 a < 65535 → Sound sec (length ts) ((d.fixTo sec v a z) .0)
+      unfolding d.fixTo orElse
       fixed-sound none h = sound
       fixed-sound (some n) h = record { number = sound .number; offset = sound .offset; size = h }
 

@@ -8,7 +8,7 @@ use lib.ListN.{length}
 use lib.Dec.{ltb}
 use borrow.Author.Tests.{ltb-true}
 use Rattle.definition.specs.Ast.{BitRange, Subtable, Header, Section}
-use Rattle.definition.specs.SectionFile.{Parsed, parsed, refused, Read, on, naming, index, entries, register, bitRange, table, subtable, header, lists, section, streamOf, read}
+use Rattle.definition.specs.SectionFile.{Parsed, parsed, refused, Read, on, naming, index, entries, register, bitRange, table, subtable, header, lists, readSection, streamOf, read}
 use Rattle.list_refinement.specs.Encoding.{Each}
 use Rattle.list_refinement.proofs.Settled.{each-at}
 use Rattle.list_refinement.proofs.FromSection.{TablesNamed}
@@ -59,8 +59,8 @@ reads-lists h =
     passed _ _ λ statements.
     passes _ _ (returns _ (record { bitRanges = rw (p .1) (q .0); subtables = rw (r .1) (u .0) }))
 
-reads-section : Reads SectionNamed section
-unfolding section
+reads-section : Reads SectionNamed readSection
+unfolding readSection
 reads-section = passed header lists (λ h. reads-lists h)
 
 pub section-named : (bytes rest : List ℕ) (sec : Section) → read bytes ≡ parsed sec rest → SectionNamed sec
@@ -71,8 +71,8 @@ section-named bytes rest sec h = go (streamOf bytes) h
     held (parsed a s) w e = let d : a ≡ sec = cc in subst SectionNamed d w
     held (refused r) w e = let z : _≡_ {A = ℕ} 0 1 = cc in absurd (omega arith)
 
-    go : (x : Parsed (List ℕ)) → on x (λ stream _. section stream) ≡ parsed sec rest → SectionNamed sec
-    go (parsed stream s) e = held (section stream) (reads-section .reads stream) e
+    go : (x : Parsed (List ℕ)) → on x (λ stream _. readSection stream) ≡ parsed sec rest → SectionNamed sec
+    go (parsed stream s) e = held (readSection stream) (reads-section .reads stream) e
     go (refused r) e = let z : _≡_ {A = ℕ} 0 1 = cc in absurd (omega arith)
 
 pub tables-named : (sec : Section) → SectionNamed sec → TablesNamed sec

@@ -6,7 +6,7 @@ use mathlib.Core.List.{List, [], _∷_}
 use Rattle.definition.specs.Operations.{Operation, operationNumber}
 use Rattle.definition.specs.Value.{SemanticAction}
 use Rattle.definition.specs.Sizes as d
-use Rattle.definition.specs.Sizes.{in0, in1, out, one, pointer, Step, equal, sized, unsized, rules}
+use Rattle.definition.specs.Sizes.{in0, in1, out, one, pointer, Step, equal, exactly, byDefault, rules}
 use lib.ListN.{getD}
 use Rattle.prelude.specs.Base.{if_then_else_}
 use Rattle.definition.proofs.EveryOperation.{alike}
@@ -33,15 +33,15 @@ ruleNumber RuleKind.condition = 10
 unfoldable pub ruleSteps : RuleKind → List Step
 ruleSteps RuleKind.unruled = []
 ruleSteps RuleKind.pair = equal (in0 ∷ out ∷ []) ∷ []
-ruleSteps RuleKind.shift = equal (in0 ∷ out ∷ []) ∷ unsized in1 pointer ∷ []
+ruleSteps RuleKind.shift = equal (in0 ∷ out ∷ []) ∷ byDefault in1 pointer ∷ []
 ruleSteps RuleKind.triple = equal (in0 ∷ in1 ∷ out ∷ []) ∷ []
-ruleSteps RuleKind.comparison = equal (in0 ∷ in1 ∷ []) ∷ sized out one ∷ []
-ruleSteps RuleKind.boolean = sized in0 one ∷ sized in1 one ∷ sized out one ∷ []
-ruleSteps RuleKind.negation = sized in0 one ∷ sized in1 one ∷ sized out one ∷ []
-ruleSteps RuleKind.nan = sized out one ∷ []
-ruleSteps RuleKind.address = sized in0 pointer ∷ []
-ruleSteps RuleKind.branch = sized in0 one ∷ unsized in1 pointer ∷ []
-ruleSteps RuleKind.condition = sized in0 one ∷ []
+ruleSteps RuleKind.comparison = equal (in0 ∷ in1 ∷ []) ∷ exactly out one ∷ []
+ruleSteps RuleKind.boolean = exactly in0 one ∷ exactly in1 one ∷ exactly out one ∷ []
+ruleSteps RuleKind.negation = exactly in0 one ∷ exactly in1 one ∷ exactly out one ∷ []
+ruleSteps RuleKind.nan = exactly out one ∷ []
+ruleSteps RuleKind.address = exactly in0 pointer ∷ []
+ruleSteps RuleKind.branch = exactly in0 one ∷ byDefault in1 pointer ∷ []
+ruleSteps RuleKind.condition = exactly in0 one ∷ []
 
 -- the kinds in the order of their numbers
 unfoldable ruleKinds : List RuleKind

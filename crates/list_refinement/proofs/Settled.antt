@@ -13,7 +13,7 @@ use Rattle.prelude.specs.Base.{_or_, orElse, andThen, isSome, if_then_else_}
 use Rattle.definition.specs.Value.{Kind, kindNumber, Value, isKind, SemanticAction, Temporary}
 use Rattle.definition.specs.Ast.{Register, Field, Section}
 use Rattle.definition.specs.Sizes as d
-use Rattle.definition.specs.Sizes.{Operand, in0, in1, out, at, put, Sizing, sizedTmp, setSize}
+use Rattle.definition.specs.Sizes.{Operand, in0, in1, out, at, put, Sizing, setTmpSize, setSize}
 use Rattle.definition.specs.ActionList.{orNone}
 use Rattle.definition.proofs.Openers.{base-opens}
 use Rattle.list_values.specs.declared.sizes.Sizing.{Sizing as WordSizing}
@@ -158,8 +158,8 @@ module _ (s t : List ℕ) (sec : Section) (holds : SizesHold s t sec) (marks tai
 
     tmp-is : (i n : ℕ) → i < length (z .temporaries) → n < 65535
         → listed (encZ z) (set (temporariesIn marks tail (z .temporaries)) i
-        (resized n (getD (temporariesIn marks tail (z .temporaries)) i 0))) ≡ done (sizedTmp sec i (getElem? (z .temporaries) i) n z)
-    unfolding sizedTmp
+        (resized n (getD (temporariesIn marks tail (z .temporaries)) i 0))) ≡ done (setTmpSize sec i (getElem? (z .temporaries) i) n z)
+    unfolding setTmpSize
     tmp-is i n h j =
         let q = get-inside (z .temporaries) i h in
         rw (q .1, length-set (z .temporaries) i (record { name = q .0 .name; size = some n }))
@@ -226,8 +226,8 @@ module _ (sec : Section) (n : ℕ) (small : n < 65535) (v : Value) (z : Sizing) 
   same-sets : Sets z z
   same-sets = record { count = refl; fit = fit; errors = omega arith; begun = refl }
 
-  tmp-sets : (i : ℕ) (t : Option Temporary) → getElem? (z .temporaries) i ≡ t → Sets (sizedTmp sec i t n z) z
-  unfolding sizedTmp orElse
+  tmp-sets : (i : ℕ) (t : Option Temporary) → getElem? (z .temporaries) i ≡ t → Sets (setTmpSize sec i t n z) z
+  unfolding setTmpSize orElse
   tmp-sets i none e = same-sets
   tmp-sets i (some t) e =
       let f = each-at SoundTmp (z .temporaries) i t fit e in
@@ -242,7 +242,7 @@ module _ (sec : Section) (n : ℕ) (small : n < 65535) (v : Value) (z : Sizing) 
   unfolding d.settled d.sizeTemporary base-opens
   settled-sets none = go (isKind Kind.PcodeTmp v)
     where
-      go : (b : Bool) → Sets (definition.if_then_else_ b (sizedTmp sec (v .number) (getElem? (z .temporaries) (v .number)) n z) z) z
+      go : (b : Bool) → Sets (definition.if_then_else_ b (setTmpSize sec (v .number) (getElem? (z .temporaries) (v .number)) n z) z) z
       go true = tmp-sets (v .number) (getElem? (z .temporaries) (v .number)) refl
       go false = same-sets
   settled-sets (some m) = go (eqb m n || isKind Kind.Subtable v)

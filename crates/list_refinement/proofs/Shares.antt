@@ -9,11 +9,11 @@ use lib.ListN.{length}
 use lib.Dec.{eqb}
 use borrow.Author.Tests.{ne-eqb, eq-eqb, eqb-true}
 use Rattle.prelude.specs.Base as definition
-use Rattle.prelude.specs.Base.{_or_, orElse, andThen, first, if_then_else_}
+use Rattle.prelude.specs.Base.{_or_, orElse, andThen, first, if_then_else_, contains}
 use Rattle.definition.specs.Value.{Kind, Value, SemanticAction}
 use Rattle.definition.specs.Ast.{Section}
 use Rattle.definition.specs.Sizes as d
-use Rattle.definition.specs.Sizes.{Operand, in0, in1, out, at, Sizing, isSize, butFirst, knownAt, setOperands, setSizeOfAll, fallbackSize, pointerSize}
+use Rattle.definition.specs.Sizes.{Operand, in0, in1, out, at, Sizing, butFirst, knownAt, setOperands, setSizeOfAll, fallbackSize, pointerSize}
 use Rattle.definition.specs.ActionList.{orNone}
 use Rattle.definition.proofs.Openers.{base-opens, value-opens}
 use Rattle.list_values.specs.Values.{valueAt}
@@ -52,8 +52,8 @@ same-test : (n : ℕ) → eqb n n ≡ true
 same-test n = eq-eqb n n refl
 
 equal-test : (n : ℕ) (b c : Option ℕ) → n < 65535 → orElse 0 b < 65535 → orElse 0 c < 65535
-    → (if eqb n (orNone b) then eqb (orNone b) (orNone c) else false) ≡ (if isSize n b then isSize n c else false)
-unfolding if_then_else_ orNone orElse isSize
+    → (if eqb n (orNone b) then eqb (orNone b) (orNone c) else false) ≡ (if contains n b then contains n c else false)
+unfolding if_then_else_ orNone orElse contains
 equal-test n none c l lb lc = rw (small-test n l)
 equal-test n (some m) none l lb lc = rw (small-test m lb)
 equal-test n (some m) (some k) l lb lc = go (eqb n m) refl
@@ -143,22 +143,22 @@ module _ (s t : List ℕ) (sec : Section) (holds : SizesHold s t sec) (marks tai
               → setOperand s t (wordsOf pre post x) (temporariesOf marks tail z) place (operandAt p) n (encZ z)
               ≡ held pre post marks tail (d.shareSize sec (some n)
               (definition.if_then_else_ late (first (λ y. andThen (at y x) (fallbackSize sec)) (p ∷ q ∷ [])) none) (p ∷ q ∷ []) x z)
-          part e f = unfold base-opens d.shareSize isSize butFirst in rw (e, f) (one-is n l p q x z (suc (suc room)) r h)
+          part e f = unfold base-opens d.shareSize contains butFirst in rw (e, f) (one-is n l p q x z (suc (suc room)) r h)
       pair-shares late (some m) none e f k l = rw (small-test m k) (part e f)
         where
           part : knownAt sec x z p ≡ some m → knownAt sec x z q ≡ none
               → setOperand s t (wordsOf pre post x) (temporariesOf marks tail z) place (operandAt q) m (encZ z)
               ≡ held pre post marks tail (d.shareSize sec (some m)
               (definition.if_then_else_ late (first (λ y. andThen (at y x) (fallbackSize sec)) (p ∷ q ∷ [])) none) (p ∷ q ∷ []) x z)
-          part e f = unfold base-opens d.shareSize isSize butFirst in rw (e, f, same-test m) (one-is m k q p x z (suc (suc room)) r j)
+          part e f = unfold base-opens d.shareSize contains butFirst in rw (e, f, same-test m) (one-is m k q p x z (suc (suc room)) r j)
       pair-shares late (some m) (some n) e f k l = rw (small-test m k) (part (eqb m n) refl)
         where
           part : (c : Bool) → eqb m n ≡ c → (if c then held pre post marks tail (x, z) else setOperand s t (wordsOf pre post x)
               (temporariesOf marks tail z) place (operandAt q) m (encZ z))
               ≡ held pre post marks tail (d.shareSize sec (some m)
               (definition.if_then_else_ late (first (λ y. andThen (at y x) (fallbackSize sec)) (p ∷ q ∷ [])) none) (p ∷ q ∷ []) x z)
-          part true g = unfold base-opens d.shareSize isSize butFirst in rw (e, f, same-test m, g)
-          part false g = unfold base-opens d.shareSize isSize butFirst in rw (e, f, same-test m, g)
+          part true g = unfold base-opens d.shareSize contains butFirst in rw (e, f, same-test m, g)
+          part false g = unfold base-opens d.shareSize contains butFirst in rw (e, f, same-test m, g)
               (one-is m k q p x z (suc (suc room)) r j)
 
       pub pair-is : (late : Bool) → setSizeOfPair s t late (wordsOf pre post x) (temporariesOf marks tail z) place (operandAt p)
@@ -211,23 +211,23 @@ module _ (s t : List ℕ) (sec : Section) (holds : SizesHold s t sec) (marks tai
         -- the first known one is the output, the second input or the first
         by-out : (n : ℕ) → n < 65535 → Known none none (some n)
             → setTwo s t (wordsOf pre post x) (temporariesOf marks tail z) place 6 8 n (encZ z) ≡ Shared (some n) late
-        unfolding base-opens d.shareSize isSize butFirst
+        unfolding base-opens d.shareSize contains butFirst
         by-out n l e = rw (e .0, e .1, e .2) (two-is n l in0 in1 x z (suc room) r h j)
 
         by-second : (n : ℕ) (c : Option ℕ) → n < 65535 → Known none (some n) c
             → setTwo s t (wordsOf pre post x) (temporariesOf marks tail z) place 6 4 n (encZ z) ≡ Shared (some n) late
-        unfolding base-opens d.shareSize isSize butFirst
+        unfolding base-opens d.shareSize contains butFirst
         by-second n c l e = rw (e .0, e .1) (two-is n l in0 out x z (suc room) r h k)
 
-        by-first : (n : ℕ) (b c : Option ℕ) (u v : Bool) → n < 65535 → Known (some n) b c → isSize n b ≡ u → isSize n c ≡ v
+        by-first : (n : ℕ) (b c : Option ℕ) (u v : Bool) → n < 65535 → Known (some n) b c → contains n b ≡ u → contains n c ≡ v
             → (if (if u then v else false) then held pre post marks tail (x, z) else setTwo s t (wordsOf pre post x)
             (temporariesOf marks tail z) place 8 4 n (encZ z)) ≡ Shared (some n) late
         unfolding if_then_else_ base-opens d.shareSize butFirst
-        by-first n b c true true l e f g = let i : isSize n (some n) ≡ true = unfold isSize in same-test n in rw (e .0, i, e .1, f, e .2, g)
-        by-first n b c true false l e f g = let i : isSize n (some n)
-            ≡ true = unfold isSize in same-test n in rw (e .0, i, e .1, f, e .2, g) (two-is n l in1 out x z (suc room) r j k)
-        by-first n b c false v l e f g = let i : isSize n (some n)
-            ≡ true = unfold isSize in same-test n in rw (e .0, i, e .1, f) (two-is n l in1 out x z (suc room) r j k)
+        by-first n b c true true l e f g = let i : contains n (some n) ≡ true = unfold contains in same-test n in rw (e .0, i, e .1, f, e .2, g)
+        by-first n b c true false l e f g = let i : contains n (some n)
+            ≡ true = unfold contains in same-test n in rw (e .0, i, e .1, f, e .2, g) (two-is n l in1 out x z (suc room) r j k)
+        by-first n b c false v l e f g = let i : contains n (some n)
+            ≡ true = unfold contains in same-test n in rw (e .0, i, e .1, f) (two-is n l in1 out x z (suc room) r j k)
 
         triple-shares : (a b c : Option ℕ) → orElse 0 a < 65535 → orElse 0 b < 65535 → orElse 0 c < 65535 → Known a b c
             → shareTriple s t late (wordsOf pre post x) (temporariesOf marks tail z) place (orNone a) (orNone b) (orNone c)
@@ -237,7 +237,7 @@ module _ (s t : List ℕ) (sec : Section) (holds : SizesHold s t sec) (marks tai
         triple-shares none none (some n) la lb lc e = rw (test-small n lc) (by-out n lc e)
         triple-shares none (some n) c la lb lc e = rw (test-small n lb, small-test n lb) (by-second n c lb e)
         triple-shares (some n) b c la lb lc e = rw (small-test n la, equal-test n b c la lb lc)
-            (by-first n b c (isSize n b) (isSize n c) la e refl refl)
+            (by-first n b c (contains n b) (contains n c) la e refl refl)
 
       pub triple-is : (late : Bool) → setSizeOfTriple s t late (wordsOf pre post x) (temporariesOf marks tail z) place (pointerSize sec)
           (encZ z) ≡ held pre post marks tail (setSizeOfAll sec late (in0 ∷ in1 ∷ out ∷ []) x z)

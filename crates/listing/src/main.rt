@@ -33,7 +33,7 @@ fn say(text: &[u8]) {
 // How the export is reached: it is a value, or stands behind a pointer.
 fn export_space(answer: Answer) {
     text(b"  export ");
-    if answer.kind == export_kind::COMPUTED {
+    if answer.kind == export_kind::VALUE {
         return;
     }
     if answer.kind == export_kind::RAM_REF {

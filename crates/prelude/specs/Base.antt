@@ -28,6 +28,11 @@ unfoldable pub isSome : {A : Type 0} → Option A → Bool
 isSome (some a) = true
 isSome none = false
 
+-- whether an option holds this number
+unfoldable pub contains : ℕ → Option ℕ → Bool
+contains n (some m) = eqb n m
+contains n none = false
+
 unfoldable pub any : {A : Type 0} → (A → Bool) → List A → Bool
 any p [] = false
 any p (x ∷ xs) = if p x then true else any p xs
@@ -35,6 +40,14 @@ any p (x ∷ xs) = if p x then true else any p xs
 unfoldable pub all : {A : Type 0} → (A → Bool) → List A → Bool
 all p [] = true
 all p (x ∷ xs) = if p x then all p xs else false
+
+unfoldable pub filter : {A : Type 0} → (A → Bool) → List A → List A
+filter p [] = []
+filter p (x ∷ xs) = if p x then x ∷ filter p xs else filter p xs
+
+unfoldable pub isEmpty : {A : Type 0} → List A → Bool
+isEmpty [] = true
+isEmpty (x ∷ xs) = false
 
 -- the first that f finds
 unfoldable pub first : {A B : Type 0} → (A → Option B) → List A → Option B
@@ -50,12 +63,12 @@ unfoldable pub sum : List ℕ → ℕ
 sum [] = 0
 sum (x ∷ xs) = x + sum xs
 
-unfoldable pub sameBytes : List ℕ → List ℕ → Bool
-sameBytes [] [] = true
-sameBytes [] (y ∷ ys) = false
-sameBytes (x ∷ xs) [] = false
-sameBytes (x ∷ xs) (y ∷ ys) = if eqb x y then sameBytes xs ys else false
+unfoldable pub sameNumbers : List ℕ → List ℕ → Bool
+sameNumbers [] [] = true
+sameNumbers [] (y ∷ ys) = false
+sameNumbers (x ∷ xs) [] = false
+sameNumbers (x ∷ xs) (y ∷ ys) = if eqb x y then sameNumbers xs ys else false
 
 unfoldable pub base-opens : Unit {0}
-unfolding if_then_else_ _or_ orElse andThen isSome any all first position sum sameBytes
+unfolding if_then_else_ _or_ orElse andThen isSome any all first position sum sameNumbers
 base-opens = tt

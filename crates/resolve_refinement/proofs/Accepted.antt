@@ -39,13 +39,13 @@ none-words k w h = rw (eq-eqb k 0 h)
 
 kind-words : (k : ExportKind) (w : Words) → (if eqb (exportNumber k) 0 then words 0 0 else w) ≡ w
 unfolding if_then_else_ exportNumber
-kind-words ExportKind.Computed w = refl
+kind-words ExportKind.PlainValue w = refl
 kind-words ExportKind.RamRef w = refl
 kind-words ExportKind.RegisterRef w = refl
 
 same-number : (k : ExportKind) → exportNumber k ≡ d.exportKindNumber k
 unfolding exportNumber d.exportKindNumber
-same-number ExportKind.Computed = refl
+same-number ExportKind.PlainValue = refl
 same-number ExportKind.RamRef = refl
 same-number ExportKind.RegisterRef = refl
 

@@ -5,7 +5,7 @@ use mathlib.Core.List.{List, [], _∷_}
 use native.Mathlib.Omega.{arith}
 use lib.ListN.{length}
 use Rattle.definition.specs.Ast.{BitRange, Header, Section}
-use Rattle.definition.specs.SectionFile.{Parsed, parsed, refused, Read, on, entries, bitRange, header, lists, section, streamOf, read}
+use Rattle.definition.specs.SectionFile.{Parsed, parsed, refused, Read, on, entries, bitRange, header, lists, readSection, streamOf, read}
 use Rattle.list_refinement.specs.Encoding.{Each}
 use Rattle.list_refinement.proofs.Settled.{each-at}
 use Rattle.list_refinement.proofs.Named.{section-named}
@@ -37,8 +37,8 @@ reads-lists h =
     passed _ _ λ tables. passed _ _ λ userOps. passed _ _ λ macros. passed _ _ λ others. passed _ _ λ fields. passed _ _ λ subtables. passed _ _ λ statements.
     passes _ _ (returns _ (record { fit = q }))
 
-reads-section : Reads RangesFit section
-unfolding section
+reads-section : Reads RangesFit readSection
+unfolding readSection
 reads-section = passed header lists (λ h. reads-lists h)
 
 ranges-fit : (bytes rest : List ℕ) (sec : Section) → read bytes ≡ parsed sec rest → RangesFit sec
@@ -49,8 +49,8 @@ ranges-fit bytes rest sec h = go (streamOf bytes) h
     held (parsed a s) w e = let d : a ≡ sec = cc in subst RangesFit d w
     held (refused r) w e = let z : _≡_ {A = ℕ} 0 1 = cc in absurd (omega arith)
 
-    go : (x : Parsed (List ℕ)) → on x (λ stream _. section stream) ≡ parsed sec rest → RangesFit sec
-    go (parsed stream s) e = held (section stream) (reads-section .reads stream) e
+    go : (x : Parsed (List ℕ)) → on x (λ stream _. readSection stream) ≡ parsed sec rest → RangesFit sec
+    go (parsed stream s) e = held (readSection stream) (reads-section .reads stream) e
     go (refused r) e = let z : _≡_ {A = ℕ} 0 1 = cc in absurd (omega arith)
 
 pub bit-ranges-fit : (bytes rest : List ℕ) (sec : Section) → read bytes ≡ parsed sec rest → BitRangesFit sec

@@ -179,8 +179,8 @@ module _ (s t : List ℕ) (e : Env) (front tail marks rest : List ℕ) (holds : 
         else judged (actionsIn front tail ys) M sub (length (st .actions)) w (exportFixed y (fixSize s t M (y .v) (pointerSize (e .section)) (encZ (q .sizing)))) (fixSize s t M (y .v) (pointerSize (e .section)) (encZ (q .sizing)) .z))
         ≡ answered la (length rest) (on e (d.finishExport x e q) λ x. λ e r. on e (d.noErrors (r .sizing .errors) e r) λ _. λ e u. done (made ys r x) u)
 
-    fixed-same : (v : Value) (a : Option ℕ) → ((sizes.fixed (e .section) v a (q .sizing)) .1) .errors ≡ [] → withSizing ((sizes.fixed (e .section) v a (q .sizing)) .1) q ≡ q
-    unfolding sizes.fixed
+    fixed-same : (v : Value) (a : Option ℕ) → ((sizes.fixTo (e .section) v a (q .sizing)) .1) .errors ≡ [] → withSizing ((sizes.fixTo (e .section) v a (q .sizing)) .1) q ≡ q
+    unfolding sizes.fixTo
     fixed-same v (some n) h = refl
     fixed-same v none h = absurd (snoc (q .sizing .errors) (q .sizing .begun) h)
       where
@@ -194,7 +194,7 @@ module _ (s t : List ℕ) (e : Env) (front tail marks rest : List ℕ) (holds : 
 
     some-kind : (k : ExportKind) → eqb (exportNumber k) 0 ≡ false
     unfolding exportNumber
-    some-kind ExportKind.Computed = refl
+    some-kind ExportKind.PlainValue = refl
     some-kind ExportKind.RamRef = refl
     some-kind ExportKind.RegisterRef = refl
 

@@ -141,8 +141,8 @@ module _ (e : Env) (begun : Option ℕ) where
   then-begun (done a st) f h k = k a st h
   then-begun (stopped r ordinal errors) f h k = h
 
-  fixed-begun : (v : Value) (a : Option ℕ) (z : sizes.Sizing) → ((sizes.fixed (e .section) v a z) .1) .begun ≡ z .begun
-  unfolding sizes.fixed
+  fixed-begun : (v : Value) (a : Option ℕ) (z : sizes.Sizing) → ((sizes.fixTo (e .section) v a z) .1) .begun ≡ z .begun
+  unfolding sizes.fixTo
   fixed-begun v none z = refl
   fixed-begun v (some n) z = refl
 

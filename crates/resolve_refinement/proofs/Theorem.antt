@@ -11,7 +11,7 @@ use borrow.Author.Tests.{eq-eqb}
 use Rattle.prelude.specs.Base.{orElse, if_then_else_}
 use Rattle.definition.specs.Refusals.{Refusal, refusalNumber}
 use Rattle.definition.specs.Ast.{Section}
-use Rattle.definition.specs.SectionFile.{Parsed, parsed, refused, on, streamOf, section, read}
+use Rattle.definition.specs.SectionFile.{Parsed, parsed, refused, on, streamOf, readSection, read}
 use Rattle.definition.specs.ActionList as d
 use Rattle.definition.specs.ActionList.{orNone}
 use Rattle.definition_guarantee.proofs.Limits.{read-within}
@@ -38,7 +38,7 @@ module _ (file a m : List ℕ) (short : length a < 2 ^ 60) (shorter : length m <
   unfolding orNone orElse if_then_else_
   refuses x r n h = rw (h, refusal-bad r) (refused-is a m (length a) (length m) r none 0 refl refl)
 
-  stream-is : (x rest : List ℕ) → streamOf file ≡ parsed x rest → length x ≤ 65280 → (y : Parsed Section) → section x ≡ y → Lengths (length a) (length m) (resolveStream x a m)
+  stream-is : (x rest : List ℕ) → streamOf file ≡ parsed x rest → length x ≤ 65280 → (y : Parsed Section) → readSection x ≡ y → Lengths (length a) (length m) (resolveStream x a m)
       → asAnswer (resolveStream x a m) ≡ d.resolveRead (length a) (length m) y
   unfolding resolveStream w.resolveRead d.resolveRead d.whenRead refusalOf noTable
   stream-is x rest p few (refused r) q l = refuses _ r (readStream x (replicate 3344 0) .refusal) (stream-refusal x (omega arith) ∙ rw q)
@@ -60,11 +60,11 @@ module _ (file a m : List ℕ) (short : length a < 2 ^ 60) (shorter : length m <
       go false h f l = let z : _≡_ {A = ℕ} 0 1 = cc in absurd (omega arith)
 
   joined-is : (x rest : List ℕ) → streamOf file ≡ parsed x rest → Lengths (length a) (length m) (if eqb (refusalOf (parsed x rest)) 0 then resolveStream (joined (length file / 512) file) a m else answers.refused a m (refusalOf (parsed x rest)) 65535 0)
-      → asAnswer (if eqb (refusalOf (parsed x rest)) 0 then resolveStream (joined (length file / 512) file) a m else answers.refused a m (refusalOf (parsed x rest)) 65535 0) ≡ d.resolveRead (length a) (length m) (section x)
+      → asAnswer (if eqb (refusalOf (parsed x rest)) 0 then resolveStream (joined (length file / 512) file) a m else answers.refused a m (refusalOf (parsed x rest)) 65535 0) ≡ d.resolveRead (length a) (length m) (readSection x)
   unfolding refusalOf if_then_else_
   joined-is x rest e l =
       let f = file-stream file x rest e in
-      subst (λ (z : List ℕ). Lengths (length a) (length m) (resolveStream z a m) → asAnswer (resolveStream z a m) ≡ d.resolveRead (length a) (length m) (section x)) (f .0) (stream-is x rest e (f .1) (section x) refl) l
+      subst (λ (z : List ℕ). Lengths (length a) (length m) (resolveStream z a m) → asAnswer (resolveStream z a m) ≡ d.resolveRead (length a) (length m) (readSection x)) (f .0) (stream-is x rest e (f .1) (readSection x) refl) l
 
   -- For every file and all lent lists: the twelve numbers and every word of both lists are the definition's.
   pub resolved-is : Lengths (length a) (length m) (resolveFile file a m) → asAnswer (resolveFile file a m) ≡ d.resolve file (length a) (length m)
@@ -72,7 +72,7 @@ module _ (file a m : List ℕ) (short : length a < 2 ^ 60) (shorter : length m <
   resolved-is l = go (streamOf file) refl l
     where
       go : (p : Parsed (List ℕ)) → streamOf file ≡ p → Lengths (length a) (length m) (if eqb (refusalOf p) 0 then resolveStream (joined (length file / 512) file) a m else answers.refused a m (refusalOf p) 65535 0)
-          → asAnswer (if eqb (refusalOf p) 0 then resolveStream (joined (length file / 512) file) a m else answers.refused a m (refusalOf p) 65535 0) ≡ d.resolveRead (length a) (length m) (on p (λ stream _. section stream))
+          → asAnswer (if eqb (refusalOf p) 0 then resolveStream (joined (length file / 512) file) a m else answers.refused a m (refusalOf p) 65535 0) ≡ d.resolveRead (length a) (length m) (on p (λ stream _. readSection stream))
       go (parsed x rest) e l = joined-is x rest e l
       go (refused r) e l = unfold refusalOf d.resolveRead d.whenRead in refuses _ r (refusalNumber r) refl
 

@@ -37,7 +37,7 @@ module _ (e : Env) (base ordinal : ℕ) (b : Beside) (st : State) (same : b .sta
   exported (some y) h = unfold isSome in rw h (go (y .kind))
     where
       go : (k : ExportKind) → eqb (exportNumber k) 0 ≡ false
-      go ExportKind.Computed = unfold exportNumber in refl
+      go ExportKind.PlainValue = unfold exportNumber in refl
       go ExportKind.RamRef = unfold exportNumber in refl
       go ExportKind.RegisterRef = unfold exportNumber in refl
 

@@ -47,7 +47,7 @@ pub record SoundExport (sec : Section) (n : ℕ) (x : Export) : Type 0 where
   pub size : x .accessSize < 65535
 
 abbrev computed : Value → Export
-computed v = record { kind = ExportKind.Computed; value = v; accessSize = 0 }
+computed v = record { kind = ExportKind.PlainValue; value = v; accessSize = 0 }
 
 abbrev computedIn : Walk → WordValue → Beside
 computedIn w v = record { labels = w .labels; placed = w .placed; statements = w .statements; scopes = w .scopes; export = record { kind = 1; v = v; size = 0 } }

@@ -7,7 +7,7 @@ use native.Mathlib.Omega.{arith}
 use lib.ListN.{length, drop}
 use Rattle.access.specs.Le.{le16}
 use Rattle.prelude.specs.Base as definition
-use Rattle.prelude.specs.Base.{isSome, if_then_else_}
+use Rattle.prelude.specs.Base.{isSome, if_then_else_, contains}
 use Rattle.definition.specs.Refusals.{refusalNumber, storeToNoAddress}
 use Rattle.definition.specs.Operations.{Operation, operationNumber}
 use Rattle.definition.specs.Value.{Value, ActionKind, SemanticAction, operationOf}
@@ -130,7 +130,7 @@ module _ (s t : List ℕ) (e : Env) (front tail marks rest : List ℕ) (we : Wor
     -- the reference that a pointer is, as words that may be absent
     address-at : (st : State) → Stands st → (space size : Option ℕ) (a b : ℕ) → orNone space ≡ a → orNone size ≡ b → (x : ExprValue) → ((y : ℕ) → space ≡ some y → y < 1024) → Small size → SoundX (e .section) (count st) x
         → Refines (e .section) front tail marks rest spare st (λ (x : ExprValue). (encX x, next)) (SoundX (e .section)) (seenExpr (resolveAddress s t (A st) (M st) we a b (encX x) next (W st)))
-        ((definition.if_then_else_ (expressions.isName (e .section .header .const) space) (expressions.inConstSpace size x) (expressions.addressIn space size x)) e st)
+        ((definition.if_then_else_ (contains (e .section .header .const) space) (expressions.inConstSpace size x) (expressions.addressIn space size x)) e st)
     address-at st f space size a b p q x k l h = rw (← p, ← q) (address s t e front tail marks rest we (below s t e front tail marks rest we given) (given .holds) spare room next st f space size x k l h)
 
   module _ (b : Beside) (p : List ℕ) (from : State) (pos : ℕ) (l : pos ≤ length s) (x : Statement) (u : List ℕ) (i : StoreAt s (le16 s 2) pos x u) where
@@ -141,7 +141,7 @@ module _ (s t : List ℕ) (e : Env) (front tail marks rest : List ℕ) (we : Wor
     space-known y g = omega (arith, i .space-below y g, given .holds .limits .names)
 
     abbrev placing : ExprValue → walks.Walk ExprValue
-    placing y e1 st1 = (definition.if_then_else_ (expressions.isName (e1 .section .header .const) (absentAt s (pos + 1))) (expressions.inConstSpace (absentAt s (pos + 3)) y) (expressions.addressIn (absentAt s (pos + 1)) (absentAt s (pos + 3)) y)) e1 st1
+    placing y e1 st1 = (definition.if_then_else_ (contains (e1 .section .header .const) (absentAt s (pos + 1))) (expressions.inConstSpace (absentAt s (pos + 3)) y) (expressions.addressIn (absentAt s (pos + 1)) (absentAt s (pos + 3)) y)) e1 st1
 
     store-in : (st : State) → Stands st → (y : ExprValue) (v : Value) → SoundX (e .section) (count st) y → Sound (e .section) (count st) v
         → Ends w (i .value-end) st (storeIn s t (A st) (M st) we pos (encX y) (encV v) (i .value-end) (W st) w) (on e (placing y e st) (d.storeAt v))

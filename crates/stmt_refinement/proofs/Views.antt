@@ -82,7 +82,7 @@ on-assoc e (stopped r ordinal errors) f g = refl
 -- The export: 0 none, else its kind from 1 on, its value and its access size.
 
 unfoldable pub exportNumber : ExportKind → ℕ
-exportNumber ExportKind.Computed = 1
+exportNumber ExportKind.PlainValue = 1
 exportNumber ExportKind.RamRef = 2
 exportNumber ExportKind.RegisterRef = 3
 

@@ -91,7 +91,7 @@ fn export_value(answer: Read, next: usize, walk: Walk) -> Step
 {
     match answer {
         Read::No(n) => stop(walk, n),
-        Read::Value { v, st } => exported(walk, export_kind::COMPUTED, v, 0, st, next),
+        Read::Value { v, st } => exported(walk, export_kind::VALUE, v, 0, st, next),
     }
 }
 
