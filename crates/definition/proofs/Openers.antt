@@ -20,7 +20,7 @@ use Rattle.definition.specs.Passing as passing
 use Rattle.definition.specs.Starred as starred
 
 unfoldable pub base-opens : Unit {0}
-unfolding base.if_then_else_ base._or_ base.orElse base.andThen base.isSome base.contains base.any base.all base.filter base.isEmpty base.first base.position base.sum base.sameNumbers base.base-opens
+unfolding base.if_then_else_ base._or_ base.orElse base.andThen base.isSome base.contains base.any base.all base.filter base.isEmpty base.first base.position base.sum base.sameNumbers
 base-opens = tt
 
 unfoldable pub refusals-opens : Unit {0}
@@ -84,7 +84,7 @@ unfolding base-opens operations-opens value-opens sizes-opens action-list-opens 
 right-opens = tt
 
 unfoldable pub premise-opens : Unit {0}
-unfolding base-opens value-opens ast-opens section-file-opens sizes-opens walk-opens end-opens action-list-opens premise.temporariesAmong premise.underRule premise.ruled premise.isSizedIn premise.joined premise.sizedLate premise.sizedLateWalk premise.walked premise.lateIn premise.premiseFailures premise.premise
+unfolding base-opens value-opens ast-opens section-file-opens sizes-opens walk-opens end-opens action-list-opens premise.temporariesAmong premise.underRule premise.ruled premise.isSizedIn premise.union premise.sizedLate premise.sizedLateWalk premise.walked premise.lateIn premise.premiseFailures premise.premise
 premise-opens = tt
 
 unfoldable pub passing-opens : Unit {0}

@@ -22,8 +22,8 @@ pointerSizeIn = whenRead (λ r. 0) pointerSize
 abbrev pub passes : List ℕ → ℕ → ℕ → Bool
 passes file lentActions lentTemporaries =
     let a : Answer = resolve file lentActions lentTemporaries in
-    let section : Parsed Section = read file in
-    check (a .actions) (a .result .actions) (a .result .temporaries) (subtableCount section) (pointerSizeIn section)
+    let x : Parsed Section = read file in
+    check (a .actions) (a .result .actions) (a .result .temporaries) (subtableCount x) (pointerSizeIn x)
 
 -- the section is accepted, and its list passes
 unfoldable pub checked : List ℕ → ℕ → ℕ → Bool

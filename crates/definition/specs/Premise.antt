@@ -31,10 +31,10 @@ unfoldable pub isSizedIn : Sizing → ℕ → Bool
 isSizedIn s i = isSome (andThen (getElem? (s .temporaries) i) λ (t : Temporary). t .size)
 
 -- those of the first list that the second lacks, each once, in front of the second
-unfoldable pub joined : List ℕ → List ℕ → List ℕ
-joined [] ns = ns
-joined (m ∷ ms) ns =
-    let rest = joined ms ns in
+unfoldable pub union : List ℕ → List ℕ → List ℕ
+union [] ns = ns
+union (m ∷ ms) ns =
+    let rest = union ms ns in
     if any (eqb m) rest then rest else m ∷ rest
 
 -- The forward pass: the temporaries that it sizes too late, each once. Before stand those of the operations nearer the
@@ -43,7 +43,7 @@ unfoldable pub sizedLate : Section → List ℕ → List SemanticAction → Sizi
 sizedLate sec before [] s = []
 sizedLate sec before (a ∷ rest) s =
     let t : Sizing = (updateOperandSizes sec true a s) .1 in
-    joined (filter (λ i. not (isSizedIn s i) && isSizedIn t i) before) (sizedLate sec (ruled a ++ before) rest t)
+    union (filter (λ i. not (isSizedIn s i) && isSizedIn t i) before) (sizedLate sec (ruled a ++ before) rest t)
 
 unfoldable pub sizedLateWalk : Walk (List ℕ)
 sizedLateWalk = do

@@ -13,16 +13,16 @@ use Rattle.definition.specs.Operations.{Operation}
 use Rattle.definition.specs.Value.{Kind, kindNumber, Value, isKind, ActionKind, SemanticAction, operationOf, Temporary, operands}
 use Rattle.definition.specs.Ast.{Section}
 use Rattle.definition.specs.Sizes.{Operand, in0, in1, out, Step, stepsOf, at, Sizing, applySteps, updateOperandSizes, backwardPass, forwardPass}
-use Rattle.definition.specs.Premise.{temporariesAmong, underRule, ruled, isSizedIn, joined, sizedLate}
+use Rattle.definition.specs.Premise.{temporariesAmong, underRule, ruled, isSizedIn, union, sizedLate}
 use Rattle.definition_guarantee.specs.Tests.{Each}
 use Rattle.definition_guarantee.proofs.Tests.{clash, never, In, in-left, in-right, none-some}
 use Rattle.definition_guarantee.proofs.Growth.{tmpSize, Grown, grown-refl, grown-trans}
 use Rattle.definition_guarantee.proofs.Rules.{Core, coreOf, isTmp, AllObeyed, RuleHolds, nothing-holds, rule-holds, steps-grown, steps-alike}
 
-joined-empty : (ms ns : List ℕ) → joined ms ns ≡ [] → (ms ≡ []) × (ns ≡ [])
-unfolding joined any if_then_else_
-joined-empty [] ns e = (refl, e)
-joined-empty (m ∷ ms) ns e = absurd (go (joined ms ns) (any (eqb m) (joined ms ns)) refl e)
+union-empty : (ms ns : List ℕ) → union ms ns ≡ [] → (ms ≡ []) × (ns ≡ [])
+unfolding union any if_then_else_
+union-empty [] ns e = (refl, e)
+union-empty (m ∷ ms) ns e = absurd (go (union ms ns) (any (eqb m) (union ms ns)) refl e)
   where
     go : (rest : List ℕ) (b : Bool) → any (eqb m) rest ≡ b → (if b then rest else m ∷ rest) ≡ [] → ⊥
     go [] true d e = never d
@@ -67,7 +67,7 @@ module _ (sec : Section) where
   late-quiet before [] s n e i h = h
   late-quiet before (a ∷ xs) s n e i h =
       let t : Sizing = (updateOperandSizes sec true a s) .1 in
-      let k = joined-empty (filter (λ i. not (isSizedIn s i) && isSizedIn t i) before) _ e in
+      let k = union-empty (filter (λ i. not (isSizedIn s i) && isSizedIn t i) before) _ e in
       late-quiet (ruled a ++ before) xs t n (k .1) (in-right n (ruled a) before i)
       (not-sized (tmpSize (s .temporaries) n) (tmpSize (t .temporaries) n) h
       (filter-none (λ i. not (isSizedIn s i) && isSizedIn t i) before n (k .0) i))
@@ -152,7 +152,7 @@ module _ (sec : Section) where
       let b : SemanticAction = (updateOperandSizes sec true a s) .0 in
       let w : List Temporary = (forwardPass sec xs t) .1 .temporaries in
       let late : sizedLate sec (ruled a ++ before) xs t ≡ [] =
-      joined-empty (filter (λ i. not (isSizedIn s i) && isSizedIn t i) before) _ e .1 in
+      union-empty (filter (λ i. not (isSizedIn s i) && isSizedIn t i) before) _ e .1 in
       let steps : List Step = stepsOf (operationOf (a .kind)) in
       let k : b .kind ≡ a .kind = steps-alike sec true steps a s .kind in (
         subst (λ (x : ActionKind). AllObeyed sec w b (stepsOf (operationOf x))) (sym k)

@@ -17,7 +17,7 @@ use Rattle.definition.specs.Sizes.{Sizing, stepsOf, updateOperandSizes, backwar
 use Rattle.definition.specs.Walk.{State, Env, Outcome, done, stopped, on, withSizing}
 use Rattle.definition.specs.End.{resolveStatements, atStart}
 use Rattle.definition.specs.ActionList.{roomFor, whenRead, resolve}
-use Rattle.definition.specs.Premise.{ruled, isSizedIn, joined, sizedLate, sizedLateWalk, walked, lateIn, premiseFailures, premise}
+use Rattle.definition.specs.Premise.{ruled, isSizedIn, union, sizedLate, sizedLateWalk, walked, lateIn, premiseFailures, premise}
 use Rattle.definition.specs.Starred.{WorkedSection, starredSections}
 use Rattle.definition_guarantee.proofs.Tests.{In, in-left, in-right, eq-of, differs, lt-of, not-lt, clash}
 use Rattle.definition_guarantee.proofs.Growth.{tmpSize, Grown}
@@ -110,7 +110,7 @@ module _ (sec : Section) where
 
   late-nowhere : (before : List ℕ) (xs : List SemanticAction) (s : Sizing) → ((i : ℕ) → In i before → Settled (s .temporaries) i)
       → ((i : ℕ) → In i (ruledIn xs) → Settled (s .temporaries) i) → sizedLate sec before xs s ≡ []
-  unfolding sizedLate isSizedIn ruledIn joined
+  unfolding sizedLate isSizedIn ruledIn union
   late-nowhere before [] s h k = refl
   late-nowhere before (a ∷ xs) s h k =
       let t : Sizing = (updateOperandSizes sec true a s) .1 in
@@ -209,20 +209,20 @@ not-among m (n ∷ ns) h i = go (eqb m n) refl h i (not-among m ns)
     go false d h (inl e) r = differs m n d e
     go false d h (inr i) r = r h i
 
-joined-distinct : (ms ns : List ℕ) → Distinct ns → Distinct (joined ms ns)
-unfolding joined if_then_else_
-joined-distinct [] ns h = h
-joined-distinct (m ∷ ms) ns h = go (any (eqb m) (joined ms ns)) refl (joined-distinct ms ns h)
+union-distinct : (ms ns : List ℕ) → Distinct ns → Distinct (union ms ns)
+unfolding union if_then_else_
+union-distinct [] ns h = h
+union-distinct (m ∷ ms) ns h = go (any (eqb m) (union ms ns)) refl (union-distinct ms ns h)
   where
-    go : (b : Bool) → any (eqb m) (joined ms ns) ≡ b → Distinct (joined ms ns)
-        → Distinct (if b then joined ms ns else m ∷ joined ms ns)
+    go : (b : Bool) → any (eqb m) (union ms ns) ≡ b → Distinct (union ms ns)
+        → Distinct (if b then union ms ns else m ∷ union ms ns)
     go true d r = r
-    go false d r = (not-among m (joined ms ns) d, r)
+    go false d r = (not-among m (union ms ns) d, r)
 
 late-distinct : (sec : Section) (before : List ℕ) (xs : List SemanticAction) (s : Sizing) → Distinct (sizedLate sec before xs s)
 unfolding sizedLate
 late-distinct sec before [] s = tt
-late-distinct sec before (a ∷ xs) s = joined-distinct _ _ (late-distinct sec (ruled a ++ before) xs _)
+late-distinct sec before (a ∷ xs) s = union-distinct _ _ (late-distinct sec (ruled a ++ before) xs _)
 
 pub failures-distinct : (file : List ℕ) (la lt : ℕ) → Distinct (premiseFailures file la lt)
 unfolding premiseFailures lateIn whenRead sizedLateWalk on walked

@@ -68,7 +68,3 @@ sameNumbers [] [] = true
 sameNumbers [] (y ∷ ys) = false
 sameNumbers (x ∷ xs) [] = false
 sameNumbers (x ∷ xs) (y ∷ ys) = if eqb x y then sameNumbers xs ys else false
-
-unfoldable pub base-opens : Unit {0}
-unfolding if_then_else_ _or_ orElse andThen isSome any all first position sum sameNumbers
-base-opens = tt

@@ -13,7 +13,7 @@ use Rattle.definition.specs.Ast.{Section}
 use Rattle.definition.specs.Walk.{State}
 use Rattle.definition.specs.End.{builds, implicitBuilds, Semantics}
 use Rattle.definition.specs.ActionList as d
-use Rattle.definition.specs.ActionList.{labelsPlaced, points, filled, listWords, Answer}
+use Rattle.definition.specs.ActionList.{labelsPlaced, points, filled, listWords, Answer, exportKindNumber}
 use Rattle.list_values.specs.Base.{thenL}
 use Rattle.list_values.specs.Values.{word}
 use Rattle.stmt_walk.specs.declared.walk.Walk.{Walk}
@@ -24,7 +24,7 @@ use Rattle.list_refinement.specs.Encoding.{encV, packed, actionsIn, temporaries
 use Rattle.list_refinement.proofs.Operands.{word-is}
 use Rattle.list_refinement.proofs.Assembling.{implicit-few, assembled-is}
 use Rattle.expr_refinement.proofs.Encodings.{tmps, count}
-use Rattle.stmt_refinement.proofs.Views.{exportNumber, ExportIs}
+use Rattle.stmt_refinement.proofs.Views.{ExportIs}
 use Rattle.stmt_refinement.proofs.Simple.{SoundExport}
 use Rattle.resolve_refinement.specs.Answers.{asAnswer}
 use Rattle.resolve_refinement.proofs.Temporaries.{exit-temporaries}
@@ -37,17 +37,11 @@ none-words : (k : ℕ) (w : Words) → k ≡ 0 → (if eqb k 0 then words 0 0 el
 unfolding if_then_else_
 none-words k w h = rw (eq-eqb k 0 h)
 
-kind-words : (k : ExportKind) (w : Words) → (if eqb (exportNumber k) 0 then words 0 0 else w) ≡ w
-unfolding if_then_else_ exportNumber
+kind-words : (k : ExportKind) (w : Words) → (if eqb (exportKindNumber k) 0 then words 0 0 else w) ≡ w
+unfolding if_then_else_ exportKindNumber
 kind-words ExportKind.PlainValue w = refl
 kind-words ExportKind.RamRef w = refl
 kind-words ExportKind.RegisterRef w = refl
-
-same-number : (k : ExportKind) → exportNumber k ≡ d.exportKindNumber k
-unfolding exportNumber d.exportKindNumber
-same-number ExportKind.PlainValue = refl
-same-number ExportKind.RamRef = refl
-same-number ExportKind.RegisterRef = refl
 
 -- the export's kind, the words of its value, its access size
 export-is : (sec : Section) (n : ℕ) (x : Option Export) (y : WordExport) → ExportHeld sec n x y
@@ -57,7 +51,7 @@ export-is : (sec : Section) (n : ℕ) (x : Option Export) (y : WordExport) → E
 unfolding exportWords d.ofExport
 export-is sec n none y h = (h .0 .0, none-words (y .kind) (words (y .v .number) (word (y .v))) (h .0 .0), h .0 .1)
 export-is sec n (some x) y h = (
-  ap (λ (z : WordExport). z .kind) (h .0) ∙ same-number (x .kind),
+  ap (λ (z : WordExport). z .kind) (h .0),
   ap exportWords (h .0) ∙ kind-words (x .kind) (words (x .value .number) (word (encV (x .value))))
       ∙ ap (words (x .value .number)) (word-is (x .value) (h .1 .value .offset) (h .1 .value .size)) ∙ (unfold packed in refl),
   ap (λ (z : WordExport). z .size) (h .0),

@@ -18,7 +18,7 @@ use Rattle.definition.specs.Sizes.{Sizing, pointerSize, applySizeInference}
 use Rattle.definition.specs.Walk.{State, Env, Outcome, done, stopped, on, withSizing}
 use Rattle.definition.specs.End as d
 use Rattle.definition.specs.End.{Semantics}
-use Rattle.definition.specs.ActionList.{orNone, labelsPlaced, refusal, answered}
+use Rattle.definition.specs.ActionList.{orNone, labelsPlaced, refusal, answered, exportKindNumber}
 use Rattle.definition_guarantee.specs.Tests as tests
 use Rattle.definition_guarantee.proofs.Finish as ends
 use Rattle.definition_guarantee.proofs.Layouts.{backward-rough, forward-rough, SmallSection, Rough}
@@ -44,7 +44,7 @@ use Rattle.list_refinement.proofs.Finishing.{finish-is, finish-done, refusedEnd
 use Rattle.list_refinement.proofs.FromWalk.{rough-ruled, sound-finishable}
 use Rattle.expr_refinement.proofs.Encodings.{tmps, count, Stood}
 use Rattle.expr_refinement.proofs.Below.{Spare}
-use Rattle.stmt_refinement.proofs.Views.{Beside, exportNumber, encE}
+use Rattle.stmt_refinement.proofs.Views.{Beside, encE}
 use Rattle.stmt_refinement.proofs.Given.{walkOf}
 use Rattle.resolve_refinement.specs.Answers.{asAnswer}
 use Rattle.resolve_refinement.proofs.Answers.{refused-is}
@@ -192,8 +192,8 @@ module _ (s t : List ℕ) (e : Env) (front tail marks rest : List ℕ) (holds : 
     unfolding sizes.fixSize
     size-same v h = fixed-same v _ h
 
-    some-kind : (k : ExportKind) → eqb (exportNumber k) 0 ≡ false
-    unfolding exportNumber
+    some-kind : (k : ExportKind) → eqb (exportKindNumber k) 0 ≡ false
+    unfolding exportKindNumber
     some-kind ExportKind.PlainValue = refl
     some-kind ExportKind.RamRef = refl
     some-kind ExportKind.RegisterRef = refl

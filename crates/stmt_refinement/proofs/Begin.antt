@@ -11,11 +11,11 @@ use Rattle.definition.specs.Refusals.{Refusal, refusalNumber, afterExport, tooM
 use Rattle.definition.specs.Value.{ExportKind, Export}
 use Rattle.definition.specs.Walk.{State, Env, Outcome, done, stopped, on, require}
 use Rattle.definition.specs.Statements as d
-use Rattle.definition.specs.ActionList.{orNone}
+use Rattle.definition.specs.ActionList.{orNone, exportKindNumber}
 use Rattle.list_refinement.specs.Encoding.{encS}
 use Rattle.stmt_walk.specs.declared.walk.Step.{Step}
 use Rattle.stmt_bodies.specs.Statements.{begun, begin}
-use Rattle.stmt_refinement.proofs.Views.{Beside, exportNumber, ExportIs}
+use Rattle.stmt_refinement.proofs.Views.{Beside, ExportIs}
 use Rattle.stmt_refinement.proofs.Given.{walkOf}
 
 -- what is beside a walk after one statement more
@@ -36,10 +36,10 @@ module _ (e : Env) (base ordinal : ℕ) (b : Beside) (st : State) (same : b .sta
   exported none h = unfold isSome in eq-eqb (b .export .kind) 0 (h .0)
   exported (some y) h = unfold isSome in rw h (go (y .kind))
     where
-      go : (k : ExportKind) → eqb (exportNumber k) 0 ≡ false
-      go ExportKind.PlainValue = unfold exportNumber in refl
-      go ExportKind.RamRef = unfold exportNumber in refl
-      go ExportKind.RegisterRef = unfold exportNumber in refl
+      go : (k : ExportKind) → eqb (exportKindNumber k) 0 ≡ false
+      go ExportKind.PlainValue = unfold exportKindNumber in refl
+      go ExportKind.RamRef = unfold exportKindNumber in refl
+      go ExportKind.RegisterRef = unfold exportKindNumber in refl
 
   pub begin-is : Begins base ordinal b st (begin ordinal (walkOf b (encS base st))) (d.begin ordinal e st)
   unfolding begin d.begin d.beginAt d.counted on if_then_else_

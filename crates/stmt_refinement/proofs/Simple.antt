@@ -14,7 +14,7 @@ use Rattle.definition.specs.Walk.{ExprValue, State, Env, Outcome, done, on}
 use Rattle.definition.specs.Walk as walks
 use Rattle.definition.specs.Expressions as expressions
 use Rattle.definition.specs.Statements as d
-use Rattle.definition.specs.ActionList.{orNone}
+use Rattle.definition.specs.ActionList.{orNone, exportKindNumber}
 use Rattle.list_values.specs.declared.value.Value.{Value as WordValue}
 use Rattle.list_pushes.specs.declared.push.State.{State as WordState}
 use Rattle.list_pushes.specs.declared.push.Env.{Env as WordEnv}
@@ -37,7 +37,7 @@ use Rattle.expr_refinement.proofs.Below.{Spare}
 use Rattle.expr_refinement.proofs.Scopes.{Scoped}
 use Rattle.expr_refinement.proofs.Reading.{read-operand}
 use Rattle.expr_refinement.proofs.Expressions.{after-is}
-use Rattle.stmt_refinement.proofs.Views.{Beside, seenStep, begunIn, stop-seen, mapSeen, exportNumber, withExported, refines-as, Goes, step-pushed}
+use Rattle.stmt_refinement.proofs.Views.{Beside, seenStep, begunIn, stop-seen, mapSeen, withExported, refines-as, Goes, step-pushed}
 use Rattle.stmt_refinement.proofs.Operations.{no-output}
 use Rattle.stmt_refinement.proofs.Given.{Given, walkOf, below, expression}
 
@@ -87,7 +87,7 @@ module _ (s t : List ℕ) (e : Env) (front tail marks rest : List ℕ) (we : Wor
 
     read-export : (st : State) → Stands st → (x : ExprValue) → SoundX (e .section) (count st) x
         → Exports st next (begunIn w) (exportRead s t (A st) (M st) we (encX x) next (W st) w) (on e (expressions.readValue x none e st) λ v. λ e1 st1. done (computed v) st1)
-    unfolding exportRead exportNumber
+    unfolding exportRead exportKindNumber
     read-export st f x h =
         refines-map (e .section) front tail marks rest spare e st (λ (v : Value). (next, computedIn w (encV v))) (Sound (e .section)) (λ (x : Export). (next, withExported x b)) (SoundExport (e .section)) computed _ (expressions.readValue x none e st)
         (refines-as (e .section) front tail marks rest spare st encV (Sound (e .section)) (λ v. (next, computedIn w v)) (seenRead (readOperand s t (A st) (M st) we (encX x) (W st))) _ (expressions.readValue x none e st)
@@ -96,7 +96,7 @@ module _ (s t : List ℕ) (e : Env) (front tail marks rest : List ℕ) (we : Wor
 
     export-of : (st : State) → Stands st → (x : ExprValue) → SoundX (e .section) (count st) x
         → Exports st next (begunIn w) (exportOf s t (A st) (M st) we (encX x) next (W st) w) (d.exportOf x (d.asReference x) e st)
-    unfolding exportOf d.exportOf d.exported d.asReference exportNumber encX seenStep
+    unfolding exportOf d.exportOf d.exported d.asReference exportKindNumber encX seenStep
     export-of st f (ExprValue.RamRef v z) h = refines-done (e .section) front tail marks rest spare st (λ (x : Export). (next, withExported x b)) (SoundExport (e .section)) (record { kind = ExportKind.RamRef; value = v; accessSize = z }) (next, withExported (record { kind = ExportKind.RamRef; value = v; accessSize = z }) b) f (record { value = h .0; size = h .1 }) refl
     export-of st f (ExprValue.RegisterRef v z) h = refines-done (e .section) front tail marks rest spare st (λ (x : Export). (next, withExported x b)) (SoundExport (e .section)) (record { kind = ExportKind.RegisterRef; value = v; accessSize = z }) (next, withExported (record { kind = ExportKind.RegisterRef; value = v; accessSize = z }) b) f (record { value = h .0; size = h .1 }) refl
     export-of st f (ExprValue.Local v) h = read-export st f (ExprValue.Local v) h

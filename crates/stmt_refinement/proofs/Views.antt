@@ -11,6 +11,7 @@ use Rattle.definition.specs.Value.{ExportKind, Export}
 use Rattle.definition.specs.Ast.{Section}
 use Rattle.definition.specs.Walk as walks
 use Rattle.definition.specs.Walk.{State, Env, Outcome, done, stopped, on}
+use Rattle.definition.specs.ActionList.{exportKindNumber}
 use Rattle.list_pushes.specs.declared.push.Read.{Read}
 use Rattle.list_pushes.specs.declared.push.Pushed.{Pushed}
 use Rattle.list_values.specs.Base.{Listed, listed, thenL}
@@ -81,13 +82,8 @@ on-assoc e (stopped r ordinal errors) f g = refl
 
 -- The export: 0 none, else its kind from 1 on, its value and its access size.
 
-unfoldable pub exportNumber : ExportKind → ℕ
-exportNumber ExportKind.PlainValue = 1
-exportNumber ExportKind.RamRef = 2
-exportNumber ExportKind.RegisterRef = 3
-
 abbrev pub encE : Export → WordExport
-encE x = record { kind = exportNumber (x .kind); v = encV (x .value); size = x .accessSize }
+encE x = record { kind = exportKindNumber (x .kind); v = encV (x .value); size = x .accessSize }
 
 abbrev pub ExportIs : Option Export → WordExport → Type 0
 ExportIs none x = (x .kind ≡ 0) × (x .size ≡ 0)
