@@ -2,12 +2,12 @@
 use mathlib.Core.Path.{_≡_}
 use mathlib.Core.Bool.{Bool, true, false}
 use mathlib.Core.List.{List}
-use Prim.Native.Nat.{ℕ, _+_, _-_, _/_, _%_, _≤_, _<_}
-use native.Mathlib.Omega.{arith}
+use Prim.Native.Nat.{ℕ, _/_, _%_}
 use lib.Dec.{eqb}
-use borrow.Author.Tests.{eq-eqb, ne-eqb, le-leb, lt-leb}
+use borrow.Author.Tests.{eq-eqb, ne-eqb}
 use Rattle.access.specs.Mask.{maskOf}
 use Rattle.list_values.specs.declared.value.Value.{Value}
+use Rattle.list_values.specs.declared.value.Slice.{Slice}
 use Rattle.list_values.specs.declared.sizes.Sizing.{Sizing}
 use Rattle.list_pushes.specs.declared.push.State.{State}
 use Rattle.list_pushes.specs.declared.push.Env.{Env}
@@ -15,12 +15,12 @@ use Rattle.list_pushes.specs.declared.push.Read.{Read}
 use Rattle.list_pushes.specs.declared.push.Pushed.{Pushed}
 use Rattle.list_values.specs.Base.{listed, thenL}
 use Rattle.prelude.specs.Base.{if_then_else_}
-use Rattle.list_values.specs.Values.{local, withSize, absent}
+use Rattle.list_values.specs.Values.{local, withSize, absent, sliceBytes}
 use Rattle.list_values.specs.Sizes.{sizeOf, settled, recorded, Settles}
 use Rattle.list_pushes.specs.Pushes.{read, onRead, onTmp, withSizing, addTmp, outputOr, push, opTo, op}
 use Rattle.expr_scope.specs.declared.scope.ExprValue.{ExprValue}
 use Rattle.expr_reading.specs.declared.read.Stated.{Stated}
-use Rattle.expr_reading.specs.Reading.{neededBytes, constant, stated, setSize, setStated, takeStated, copyTo, byteAligned, sliced, shiftTo, shiftAndMask, partOf, readSlice, pushedTo, pushedOut, readAddress, loadTo, load, loadRegisterTo, loadRegister, readValue, readOperand}
+use Rattle.expr_reading.specs.Reading.{neededBytes, constant, stated, setSize, setStated, takeStated, copyTo, byteAligned, sliceRead, sliced, shiftTo, shiftAndMask, partOf, readSlice, pushedTo, pushedOut, readAddress, loadTo, load, loadRegisterTo, loadRegister, readValue, readOperand}
 
 -- ---- stated sizes
 module _ (s t m : List ℕ) (v : Value) (size : ℕ) (st : State) where
@@ -67,21 +67,14 @@ pub aligned-not : (from bits : ℕ) → (from % 8 ≡ 0 → ⊥) → false ≡ b
 unfolding byteAligned if_then_else_
 aligned-not from bits h = rw (ne-eqb (from % 8) 0 h)
 
-module _ (v : Value) (more size : ℕ) (st : State) where
-  abbrev pub slice : Value
-  slice = record { kind = v .kind; number = v .number; offset = v .offset + more; size = size }
+module _ (v : Value) (more size : ℕ) (st : State) (x : Slice) (f : x ≡ sliceBytes v more size) where
+  pub sliced-yes : (part : Value) → x ≡ Slice.Is part → Read.Value part st ≡ sliced v more size st
+  unfolding sliced sliceRead
+  sliced-yes part e = rw (← f, e)
 
-  pub sliced-yes : v .offset ≤ 65535 → more ≤ 65535 - v .offset → Read.Value slice st ≡ sliced v more size st
-  unfolding sliced if_then_else_
-  sliced-yes h k = rw (le-leb (v .offset + more) 65535 (omega arith))
-
-  pub sliced-more : v .offset ≤ 65535 → 65535 - v .offset < more → Read.No 42 ≡ sliced v more size st
-  unfolding sliced if_then_else_
-  sliced-more h k = rw (lt-leb (v .offset + more) 65535 (omega arith))
-
-  pub sliced-far : 65535 < v .offset → Read.No 42 ≡ sliced v more size st
-  unfolding sliced if_then_else_
-  sliced-far h = rw (lt-leb (v .offset + more) 65535 (omega arith))
+  pub sliced-no : (n : ℕ) → x ≡ Slice.No n → Read.No n ≡ sliced v more size st
+  unfolding sliced sliceRead
+  sliced-no n e = rw (← f, e)
 
 module _ (s t a m : List ℕ) (e : Env) (v tmp : Value) (from bits : ℕ) (st : State) (u : Value) (r : Read) (a1 m1 : List ℕ)
     (k : u ≡ constant from) (f : read r a1 m1 ≡ opTo s t a m e 8 0 2 tmp v u st) where
@@ -95,7 +88,7 @@ module _ (s t a m : List ℕ) (e : Env) (v tmp : Value) (from bits : ℕ) (st : 
   shift-yes w st1 n x r2 a2 m2 q z y g = rw (← k, ← f, q, ← z, ← y) g
 
 module _ (s t a m : List ℕ) (e : Env) (v : Value) (from bits : ℕ) (st : State) (size : ℕ) (r : Read) (m1 : List ℕ)
-    (k : size ≡ sizeOf s t m v) (f : listed r m1 ≡ addTmp m 65535 size 0 st) where
+    (k : size ≡ sizeOf s t m v) (f : listed r m1 ≡ addTmp m 65535 size st) where
   pub masked-none : (n : ℕ) → r ≡ Read.No n → read (Read.No n) a m1 ≡ shiftAndMask s t a m e v from bits st
   unfolding shiftAndMask onTmp
   masked-none n q = rw (← k, ← f, q)
@@ -166,6 +159,7 @@ module _ (s t a m : List ℕ) (e : Env) (pointer : Value) (size : ℕ) (given : 
   unfolding load onTmp loadTo
   load-made v st1 out m2 y r2 a3 m3 f q g ey l = rw (← f, q, ← g) (rw ey at l)
 
+module _ (s t a m : List ℕ) (pointer : Value) (size : ℕ) (given : Bool) (to : Value) (st : State) (r : Read) (m1 : List ℕ) where
   pub register-full : (n : ℕ) → listed r m1 ≡ outputOr m given to size st → r ≡ Read.No n → read (Read.No n) a m1 ≡ loadRegister s t a m pointer size given to st
   unfolding loadRegister onTmp
   register-full n f q = rw (← f, q)
@@ -221,4 +215,4 @@ pub operand-law : (s t a m : List ℕ) (e : Env) (x : ExprValue) (st : State) (v
 unfolding readOperand
 operand-law s t a m e x st v r a1 m1 q f = rw q at f
 
-pub ruleset read-laws = (set-size-law, stated-none, stated-set, taken-none, taken-known, taken-set, copy-given, copy-none, aligned-first, aligned-not, sliced-yes, sliced-more, sliced-far, shift-no, shift-yes, masked-none, masked-no, masked-yes, part-bytes, part-bits, slice-no, slice-yes, pushed-no, pushed-yes, address-offset, address-full, address-made, load-full, load-made, register-full, register-made, value-local, value-unbound, value-const, value-apply, value-ram, value-register, value-address, value-range, operand-law)
+pub ruleset read-laws = (set-size-law, stated-none, stated-set, taken-none, taken-known, taken-set, copy-given, copy-none, aligned-first, aligned-not, sliced-yes, sliced-no, shift-no, shift-yes, masked-none, masked-no, masked-yes, part-bytes, part-bits, slice-no, slice-yes, pushed-no, pushed-yes, address-offset, address-full, address-made, load-full, load-made, register-full, register-made, value-local, value-unbound, value-const, value-apply, value-ram, value-register, value-address, value-range, operand-law)

@@ -2,16 +2,17 @@
 use Prim.Native.Nat.{ℕ, _+_, _/_, _%_}
 use mathlib.Core.Bool.{Bool, false}
 use mathlib.Core.List.{List}
-use lib.Dec.{eqb, leb}
+use lib.Dec.{eqb}
 use Rattle.access.specs.Mask.{maskOf}
 use Rattle.list_values.specs.declared.value.Value.{Value}
+use Rattle.list_values.specs.declared.value.Slice.{Slice}
 use Rattle.list_pushes.specs.declared.push.State.{State}
 use Rattle.list_pushes.specs.declared.push.Env.{Env}
 use Rattle.list_pushes.specs.declared.push.Read.{Read}
 use Rattle.list_pushes.specs.declared.push.Pushed.{Pushed}
 use Rattle.list_values.specs.Base.{Listed, listed, thenL}
 use Rattle.prelude.specs.Base.{if_then_else_}
-use Rattle.list_values.specs.Values.{local, withSize, absent}
+use Rattle.list_values.specs.Values.{local, withSize, absent, sliceBytes}
 use Rattle.list_values.specs.Sizes.{sizeOf, settled}
 use Rattle.list_pushes.specs.Pushes.{ReadOut, read, onRead, onTmp, withSizing, addTmp, outputOr, push, opTo, op}
 use Rattle.expr_scope.specs.declared.scope.ExprValue.{ExprValue}
@@ -48,12 +49,13 @@ copyTo s t a m e given to v st =
 unfoldable pub byteAligned : ℕ → ℕ → Bool
 byteAligned from bits = if eqb (from % 8) 0 then eqb (bits % 8) 0 else false
 
+unfoldable pub sliceRead : Slice → State → Read
+sliceRead (Slice.Is v) st = Read.Value v st
+sliceRead (Slice.No n) st = Read.No n
+
 -- the slice, unless its offset passes 65,535
 unfoldable pub sliced : Value → ℕ → ℕ → State → Read
-sliced v more size st =
-    if leb (v .offset + more) 65535
-    then Read.Value (record { kind = v .kind; number = v .number; offset = v .offset + more; size = size }) st
-    else Read.No 42
+sliced v more size st = sliceRead (sliceBytes v more size) st
 
 -- a value shifted into a temporary, which is then masked
 unfoldable pub shiftTo : List ℕ → List ℕ → List ℕ → List ℕ → Env → Value → Value → ℕ → ℕ → State → ReadOut
@@ -64,7 +66,7 @@ shiftTo s t a m e v tmp from bits st =
 
 unfoldable pub shiftAndMask : List ℕ → List ℕ → List ℕ → List ℕ → Env → Value → ℕ → ℕ → State → ReadOut
 shiftAndMask s t a m e v from bits st =
-    onTmp (addTmp m 65535 (sizeOf s t m v) 0 st)
+    onTmp (addTmp m 65535 (sizeOf s t m v) st)
     (λ tmp st1 w. onRead (shiftTo s t a w e v tmp from bits st1)
     (λ _ st2 b u. read (Read.Value (withSize (neededBytes bits) tmp) st2) b u)
     (λ n b u. read (Read.No n) b u))

@@ -19,17 +19,17 @@ use list_values::sizes::Sizing;
 use list_values::sizes::record_errors;
 use list_values::sizes::settle;
 use list_values::sizes::size_of;
+use list_values::value::Slice;
 use list_values::value::Value;
 use list_values::value::absent;
 use list_values::value::local;
+use list_values::value::slice_bytes;
 use list_values::value::with_size;
 ghost use mathlib.Core.Path.{_≡_};
 ghost use Rattle.list_values.specs.Base.{listed};
 ghost use Rattle.list_values.specs.Values.{local};
 ghost use Rattle.list_pushes.specs.Pushes.{read, withSizing};
 ghost use Rattle.expr_reading.specs.Reading.{neededBytes, constant, setSize, setStated, takeStated, copyTo, byteAligned, sliced, shiftTo, shiftAndMask, partOf, readSlice, pushedTo, readAddress, load, loadRegister, readValue, readOperand};
-
-const LAST_OFFSET: u64 = 65535;
 
 pub fn needed_bytes(bits: u64) -> u64
     ensures { λ r. ⌜ r ≡ neededBytes bits ⌝ }
@@ -168,20 +168,10 @@ pub fn byte_aligned(from: u64, bits: u64) -> bool
 pub fn sliced(value: Value, more: u64, size: u64, state: State) -> Read
     ensures { λ r. ⌜ r ≡ sliced value more size state ⌝ }
 {
-    if value.offset <= LAST_OFFSET {
-        if more <= LAST_OFFSET - value.offset {
-            return Read::Value {
-                v: Value {
-                    kind: value.kind,
-                    number: value.number,
-                    offset: value.offset + more,
-                    size,
-                },
-                st: state,
-            };
-        }
+    match slice_bytes(value, more, size) {
+        Slice::No(n) => Read::No(n),
+        Slice::Is(v) => Read::Value { v, st: state },
     }
-    Read::No(refusal::OFFSET_TOO_FAR)
 }
 
 fn shift_to(
@@ -244,7 +234,7 @@ fn shift_and_mask(
     ensures { λ r. ⌜ read r (now (actions .exit)) (now (temporaries .exit)) ≡ shiftAndMask (now (stream .entry)) (now (table .entry)) (now (actions .entry)) (now (temporaries .entry)) env value from bits state ⌝ }
 {
     let size = size_of(stream, table, temporaries, value);
-    match add_tmp(temporaries, NONE, size, 0, state) {
+    match add_tmp(temporaries, NONE, size, state) {
         Read::No(n) => Read::No(n),
         Read::Value { v: tmp, st: next } => match shift_to(
             stream,

@@ -25,7 +25,7 @@ use Rattle.list_pushes.specs.declared.push.Env.{Env as WordEnv}
 use Rattle.list_pushes.specs.declared.push.Read.{Read}
 use Rattle.list_values.specs.Sizes.{entry}
 use Rattle.list_pushes.specs.Pushes.{ReadOut, read}
-use Rattle.file_refinement.specs.Holds.{Holds, spaceAt, spaceKind, symbolWord, absentAt}
+use Rattle.file_refinement.specs.Holds.{Holds, spaceAt, spaceKind, absentAt}
 use Rattle.definition_guarantee.proofs.Tests.{some-same}
 use Rattle.definition_guarantee.proofs.Globals.{place-below, FoundPlaced, found-placed}
 use Rattle.list_refinement.specs.Encoding.{encV, Sound}
@@ -38,7 +38,7 @@ use Rattle.expr_terms.specs.Addresses.{orSize, inConstSpace, kindOfSpace, space
 use Rattle.expr_refinement.proofs.Encodings.{encX, Small, SoundX, count, Stood}
 use Rattle.expr_refinement.proofs.Answers.{bind, acts, temps, word, seenExpr, refines-stopped}
 use Rattle.expr_refinement.proofs.Below.{Spare, Below}
-use Rattle.expr_refinement.proofs.Scopes.{eqb-swap, global-is, word-nonzero, word-kind, word-place}
+use Rattle.expr_refinement.proofs.Scopes.{eqb-swap, encSymbol, lookup-is}
 use Rattle.expr_refinement.proofs.Reading.{read-operand}
 use Rattle.expr_refinement.proofs.Slices.{Means, means-done}
 
@@ -90,16 +90,16 @@ module _ (s t : List ℕ) (e : Env) (holds : Holds s t (e .section)) (st : State
       let z : getD t 3328 0 + (2 + 3) * i ≡ getD t 3328 0 + 5 * i = omega arith in
       rw (space-place i h, ← some-same (sym (holds .spaces .element i h) ∙ q), z) (found _ _ (kind-of _))
 
-  named-finds : (y : Option Symbol) → FoundPlaced (e .section) y → Finds st (spaceOf s t (symbolWord y)) (asSpace y e st)
-  unfolding spaceOf symbolWord if_then_else_ asSpace
+  named-finds : (y : Option Symbol) → FoundPlaced (e .section) y → Finds st (spaceOf s t (encSymbol y)) (asSpace y e st)
+  unfolding spaceOf encSymbol asSpace
   named-finds none h = lost undefined 22 (unfold refusalNumber in refl)
-  named-finds (some (Symbol.Space i x)) h = rw (word-nonzero 0 i, word-kind 0 i (omega arith), word-place 0 i (omega arith)) (space-finds i x h)
-  named-finds (some (Symbol.Register i x)) h = rw (word-nonzero 1 i, word-kind 1 i (omega arith)) (lost wrongKind 23 (unfold refusalNumber in refl))
-  named-finds (some (Symbol.BitRange i x)) h = rw (word-nonzero 2 i, word-kind 2 i (omega arith)) (lost wrongKind 23 (unfold refusalNumber in refl))
-  named-finds (some (Symbol.Table i x)) h = rw (word-nonzero 3 i, word-kind 3 i (omega arith)) (lost wrongKind 23 (unfold refusalNumber in refl))
-  named-finds (some (Symbol.UserOp i)) h = rw (word-nonzero 4 i, word-kind 4 i (omega arith)) (lost wrongKind 23 (unfold refusalNumber in refl))
-  named-finds (some (Symbol.Macro i x)) h = rw (word-nonzero 5 i, word-kind 5 i (omega arith)) (lost wrongKind 23 (unfold refusalNumber in refl))
-  named-finds (some (Symbol.Other i)) h = rw (word-nonzero 6 i, word-kind 6 i (omega arith)) (lost wrongKind 23 (unfold refusalNumber in refl))
+  named-finds (some (Symbol.Space i x)) h = space-finds i x h
+  named-finds (some (Symbol.Register i x)) h = lost wrongKind 23 (unfold refusalNumber in refl)
+  named-finds (some (Symbol.BitRange i x)) h = lost wrongKind 23 (unfold refusalNumber in refl)
+  named-finds (some (Symbol.Table i x)) h = lost wrongKind 23 (unfold refusalNumber in refl)
+  named-finds (some (Symbol.UserOp i)) h = lost wrongKind 23 (unfold refusalNumber in refl)
+  named-finds (some (Symbol.Macro i x)) h = lost wrongKind 23 (unfold refusalNumber in refl)
+  named-finds (some (Symbol.Other i)) h = lost wrongKind 23 (unfold refusalNumber in refl)
 
   default-finds : (b : Bool) → eqb (le16 s 24) 65535 ≡ b → absentAt s 24 ≡ (definition.if_then_else_ b none (some (le16 s 24)))
       → Finds st (if b then Space.No 39 else kindOfSpace s t (le16 s 24)) (expect noDefaultSpace (andThen (definition.if_then_else_ b none (some (le16 s 24))) (getElem? (e .section .spaces))) e st)
@@ -118,35 +118,35 @@ module _ (s t : List ℕ) (e : Env) (holds : Holds s t (e .section)) (st : State
       subst (λ (x : Option ℕ). Finds st (if eqb (le16 s 24) 65535 then Space.No 39 else kindOfSpace s t (le16 s 24)) (expect noDefaultSpace (andThen x (getElem? (e .section .spaces))) e st)) (sym (holds .defaultSpace)) (default-finds (eqb (le16 s 24) 65535) refl refl)
   space-found (some n) h =
       let k = h n refl in
-      rw (ne-eqb n 65535 (λ q. omega arith), global-is s t (e .section) holds n k) (named-finds (find n (globals (e .section))) (found-placed (e .section) n _ refl))
+      rw (ne-eqb n 65535 (λ q. omega arith), lookup-is s t (e .section) holds n k) (named-finds (find n (globals (e .section))) (found-placed (e .section) n _ refl))
 
   pub const-is : (space : Option ℕ) → ((y : ℕ) → space ≡ some y → y < 1024) → eqb (orNone space) (le16 s 30) ≡ contains (e .section .header .const) space
   unfolding orNone orElse contains
   const-is none h = let k = holds .limits .const in let l = holds .limits .names in ne-eqb 65535 (le16 s 30) (λ q. omega arith)
   const-is (some n) h = rw (← holds .const) (eqb-swap n (e .section .header .const))
 
-module _ (s t : List ℕ) (e : Env) (front tail marks rest : List ℕ) (we : WordEnv) (below : Below s t e front tail marks rest we) (holds : Holds s t (e .section)) (spare : ℕ) (room : Spare spare tail) (next : ℕ) where
+module _ (s t : List ℕ) (e : Env) (front tail rest : List ℕ) (we : WordEnv) (below : Below s t e front tail rest we) (holds : Holds s t (e .section)) (spare : ℕ) (room : Spare spare tail) (next : ℕ) where
   abbrev A : State → List ℕ
-  A st = acts (e .section) front tail marks rest st
+  A st = acts (e .section) front tail rest st
 
   abbrev M : State → List ℕ
-  M st = temps (e .section) front tail marks rest st
+  M st = temps (e .section) front tail rest st
 
   abbrev W : State → WordState
-  W st = word (e .section) front tail marks rest st
+  W st = word (e .section) front tail rest st
 
   abbrev Answers : State → ExprOut → Outcome ExprValue → Type 0
-  Answers st x o = Means s t e front tail marks rest we below spare room next st x o
+  Answers st x o = Means s t e front tail rest we below spare room next st x o
 
   refused : (st : State) (n : ℕ) (r : Refusal) → n ≡ refusalNumber r → Answers st (resolved (Expr.No n) (A st) (M st)) (stopped r (st .sizing .begun) 0)
   unfolding seenExpr
-  refused st n r h = refines-stopped (e .section) front tail marks rest spare st _ (SoundX (e .section)) n r h
+  refused st n r h = refines-stopped (e .section) front tail rest spare st _ (SoundX (e .section)) n r h
 
-  in-const : (st : State) → Stood (e .section) tail marks rest spare st → (size : Option ℕ) (x : ExprValue) → Small size → SoundX (e .section) (count st) x
+  in-const : (st : State) → Stood (e .section) tail rest spare st → (size : Option ℕ) (x : ExprValue) → Small size → SoundX (e .section) (count st) x
       → Answers st (resolved (inConstSpace (encX x) (orNone size) next (W st)) (A st) (M st)) (d.inConstSpace size x e st)
   unfolding inConstSpace encX d.inConstSpace
-  in-const st f size (ExprValue.Local v) l h = rw (or-size size (v .size) l) (unfold encX in means-done s t e front tail marks rest we below spare room next st f (ExprValue.Local (record { kind = v .kind; number = v .number; offset = v .offset; size = size or v .size })) (record { number = h .number; offset = h .offset; size = or-small size (v .size) l (h .size) }))
-  in-const st f size (ExprValue.Const n z) l h = rw (or-size size z l) (unfold encX in means-done s t e front tail marks rest we below spare room next st f (ExprValue.Const n (size or z)) (or-small size z l h))
+  in-const st f size (ExprValue.Local v) l h = rw (or-size size (v .size) l) (unfold encX in means-done s t e front tail rest we below spare room next st f (ExprValue.Local (record { kind = v .kind; number = v .number; offset = v .offset; size = size or v .size })) (record { number = h .number; offset = h .offset; size = or-small size (v .size) l (h .size) }))
+  in-const st f size (ExprValue.Const n z) l h = rw (or-size size z l) (unfold encX in means-done s t e front tail rest we below spare room next st f (ExprValue.Const n (size or z)) (or-small size z l h))
   in-const st f size (ExprValue.Unbound v) l h = refused st 38 _ (unfold refusalNumber in refl)
   in-const st f size (ExprValue.Apply op n vs) l h = refused st 38 _ (unfold refusalNumber in refl)
   in-const st f size (ExprValue.RamRef v z) l h = refused st 38 _ (unfold refusalNumber in refl)
@@ -154,20 +154,20 @@ module _ (s t : List ℕ) (e : Env) (front tail marks rest : List ℕ) (we : Wor
   in-const st f size (ExprValue.AddressOf v z) l h = refused st 38 _ (unfold refusalNumber in refl)
   in-const st f size (ExprValue.BitRange v from bits) l h = refused st 38 _ (unfold refusalNumber in refl)
 
-  refers : (st : State) → Stood (e .section) tail marks rest spare st → (k : SpaceKind) (n : ℕ) → IsKind k n → (size : Option ℕ) (v : Value) → Small size → Sound (e .section) (count st) v
+  refers : (st : State) → Stood (e .section) tail rest spare st → (k : SpaceKind) (n : ℕ) → IsKind k n → (size : Option ℕ) (v : Value) → Small size → Sound (e .section) (count st) v
       → Answers st (resolved (referenceTo n (orNone size) next (encV v) (W st)) (A st) (M st)) (d.reference k v (orElse 0 size) e st)
   unfolding referenceTo d.reference if_then_else_
-  refers st f SpaceKind.RamSpace n ram size v l h = rw (or-zero size l) (unfold encX in means-done s t e front tail marks rest we below spare room next st f (ExprValue.RamRef v (orElse 0 size)) (h, l))
-  refers st f SpaceKind.RegisterSpace n register size v l h = rw (or-zero size l) (unfold encX in means-done s t e front tail marks rest we below spare room next st f (ExprValue.RegisterRef v (orElse 0 size)) (h, l))
+  refers st f SpaceKind.RamSpace n ram size v l h = rw (or-zero size l) (unfold encX in means-done s t e front tail rest we below spare room next st f (ExprValue.RamRef v (orElse 0 size)) (h, l))
+  refers st f SpaceKind.RegisterSpace n register size v l h = rw (or-zero size l) (unfold encX in means-done s t e front tail rest we below spare room next st f (ExprValue.RegisterRef v (orElse 0 size)) (h, l))
   refers st f SpaceKind.OtherSpace n (other m) size v l h = rw (ne-eqb (2 + m) 0 (λ q. omega arith), ne-eqb (2 + m) 1 (λ q. omega arith)) (refused st 40 _ (unfold refusalNumber in refl))
 
-  referred : (st : State) → Stood (e .section) tail marks rest spare st → (k : SpaceKind) (n : ℕ) → IsKind k n → (size : Option ℕ) (x : ExprValue) → Small size → SoundX (e .section) (count st) x
+  referred : (st : State) → Stood (e .section) tail rest spare st → (k : SpaceKind) (n : ℕ) → IsKind k n → (size : Option ℕ) (x : ExprValue) → Small size → SoundX (e .section) (count st) x
       → Answers st (exprOf (readOperand s t (A st) (M st) we (encX x) (W st)) (reference n (orNone size) next)) (on e (d.readValue x none e st) (λ pointer. d.reference k pointer (orElse 0 size)))
   referred st f k n i size x l h =
-      bind (e .section) front tail marks rest spare spare e st encV (Sound (e .section)) seenExpr (λ (x : ExprValue). (encX x, next)) (SoundX (e .section)) (λ pointer. d.reference k pointer (orElse 0 size))
+      bind (e .section) front tail rest spare spare e st encV (Sound (e .section)) seenExpr (λ (x : ExprValue). (encX x, next)) (SoundX (e .section)) (λ pointer. d.reference k pointer (orElse 0 size))
       (seenRead (readOperand s t (A st) (M st) we (encX x) (W st))) (d.readValue x none e st) (exprOf (readOperand s t (A st) (M st) we (encX x) (W st)) (reference n (orNone size) next))
       (λ u st1 a m. resolved (referenceTo n (orNone size) next u st1) a m)
-      (read-operand s t e front tail marks rest we below spare room st f x h)
+      (read-operand s t e front tail rest we below spare room st f x h)
       (λ v st1 r p. refers st1 (r .stood) k n i size v l p)
       (go (readOperand s t (A st) (M st) we (encX x) (W st))) (stop (readOperand s t (A st) (M st) we (encX x) (W st)))
     where
@@ -179,7 +179,7 @@ module _ (s t : List ℕ) (e : Env) (front tail marks rest : List ℕ) (we : Wor
       stop (read (Read.Value u st2) b w) j q = unfold seenRead in (let z : _≡_ {A = ℕ} 0 1 = cc in absurd (omega arith))
       stop (read (Read.No k) b w) j q = unfold seenRead exprOf reference seenExpr in (let i : k ≡ j = cc in rw i)
 
-  address-in : (st : State) → Stood (e .section) tail marks rest spare st → (space size : Option ℕ) (x : ExprValue) → ((y : ℕ) → space ≡ some y → y < 1024) → Small size → SoundX (e .section) (count st) x
+  address-in : (st : State) → Stood (e .section) tail rest spare st → (space size : Option ℕ) (x : ExprValue) → ((y : ℕ) → space ≡ some y → y < 1024) → Small size → SoundX (e .section) (count st) x
       → Answers st (addressIn s t (A st) (M st) we (orNone space) (orNone size) (encX x) next (W st)) (d.addressIn space size x e st)
   unfolding addressIn d.addressIn
   address-in st f space size x k l h = go (resolveSpace s t (orNone space)) (d.resolveSpace space e st) (space-found s t e holds st space k)
@@ -189,7 +189,7 @@ module _ (s t : List ℕ) (e : Env) (front tail marks rest : List ℕ) (we : Wor
       go y o (lost r n q) = unfold inSpace on in refused st n r q
 
   -- the place that a pointer, already resolved, refers to
-  pub address : (st : State) → Stood (e .section) tail marks rest spare st → (space size : Option ℕ) (x : ExprValue) → ((y : ℕ) → space ≡ some y → y < 1024) → Small size → SoundX (e .section) (count st) x
+  pub address : (st : State) → Stood (e .section) tail rest spare st → (space size : Option ℕ) (x : ExprValue) → ((y : ℕ) → space ≡ some y → y < 1024) → Small size → SoundX (e .section) (count st) x
       → Answers st (resolveAddress s t (A st) (M st) we (orNone space) (orNone size) (encX x) next (W st)) ((definition.if_then_else_ (contains (e .section .header .const) space) (d.inConstSpace size x) (d.addressIn space size x)) e st)
   unfolding resolveAddress
   address st f space size x k l h = rw (const-is s t e holds st space k) (go (contains (e .section .header .const) space))

@@ -55,24 +55,24 @@ unfolding on
 halts-on e from (done a st) k h f = λ r ordinal errors q. let g = f a st refl in let i = g .1 r ordinal errors q in (i .0 ∙ g .0, i .1)
 halts-on e from (stopped r ordinal errors) k h f = λ c o n q. h c o n cc
 
-module _ (sec : Section) (front tail marks rest : List ℕ) where
+module _ (sec : Section) (front tail rest : List ℕ) where
   abbrev pub acts : State → List ℕ
   acts st = actionsIn front tail (st .actions)
 
   abbrev pub temps : State → List ℕ
-  temps st = temporariesIn marks rest (st .sizing .temporaries)
+  temps st = temporariesIn rest (st .sizing .temporaries)
 
   abbrev pub word : State → WordState
   word st = encS (length front) st
 
   -- what is reached from a state
   pub record Reached (spare : ℕ) (from st : State) : Type 0 where
-    pub stood : Stood sec tail marks rest spare st
+    pub stood : Stood sec tail rest spare st
     pub later : Later from st
 
   -- P is what holds of the value, with so many temporaries
   pub record Refines {A B : Type 0} (spare : ℕ) (from : State) (enc : A → B) (P : ℕ → A → Type 0) (x : Seen B) (o : Outcome A) : Type 0 where
-    pub same : x ≡ outcome front tail marks rest enc o
+    pub same : x ≡ outcome front tail rest enc o
     pub goes : (a : A) (st : State) → o ≡ done a st → Reached spare from st × P (count st) a
     pub stops : Halts from o
 
@@ -86,7 +86,7 @@ module _ (sec : Section) (front tail marks rest : List ℕ) where
     stops = halts-done from a st;
   }
 
-  pub refines-done : {A B : Type 0} (spare : ℕ) (st : State) (enc : A → B) (P : ℕ → A → Type 0) (a : A) (b : B) → Stood sec tail marks rest spare st → P (count st) a → b ≡ enc a
+  pub refines-done : {A B : Type 0} (spare : ℕ) (st : State) (enc : A → B) (P : ℕ → A → Type 0) (a : A) (b : B) → Stood sec tail rest spare st → P (count st) a → b ≡ enc a
       → Refines spare st enc P (yes b (word st) (acts st) (temps st)) (done a st)
   refines-done spare st enc P a b f g h = refines-at spare st st enc P a b (record { stood = f; later = later-refl st }) g h
 
@@ -120,7 +120,7 @@ module _ (sec : Section) (front tail marks rest : List ℕ) where
 
     -- what an answer does to the rest, whatever its type: where it is seen to go on, the rest goes on
     then-same : (x : Seen D) (o : Outcome A) (y : R) (f : D → WordState → List ℕ → List ℕ → R) → Refines spare from enc P x o → Continues f
-        → ((d : D) (st : WordState) (a m : List ℕ) → x ≡ yes d st a m → seen y ≡ seen (f d st a m)) → ((n : ℕ) → x ≡ no n → seen y ≡ no n) → seen y ≡ outcome front tail marks rest encC (on e o k)
+        → ((d : D) (st : WordState) (a m : List ℕ) → x ≡ yes d st a m → seen y ≡ seen (f d st a m)) → ((n : ℕ) → x ≡ no n → seen y ≡ no n) → seen y ≡ outcome front tail rest encC (on e o k)
     unfolding on outcome
     then-same x (done a st) y f r i g h = let j = r .goes a st refl in g _ _ _ _ (r .same) ∙ i a st (j .0) (j .1) .same
     then-same x (stopped r ordinal errors) y f q i g h = h _ (q .same)

@@ -6,8 +6,8 @@ use mathlib.Core.Bool.{false}
 use mathlib.Core.List.{List, [], _∷_, _++_}
 use mathlib.Core.Option.{Option, none, some}
 use native.Mathlib.Omega.{arith}
-use lib.ListN.{length, getElem?}
-use Rattle.prelude.specs.Base.{if_then_else_, orElse, andThen, sum}
+use lib.ListN.{length}
+use Rattle.prelude.specs.Base.{if_then_else_, orElse, sum}
 use Rattle.definition.specs.Operations.{Operation, operationNumber, isOp}
 use Rattle.definition.specs.Value.{Kind, Value, ActionKind, SemanticAction, Temporary}
 use Rattle.definition.specs.Ast.{Section}
@@ -88,29 +88,23 @@ tmps st = st .sizing .temporaries
 abbrev pub count : State → ℕ
 count st = length (tmps st)
 
--- the name of a temporary that has one
-unfoldable pub nameAt : List Temporary → ℕ → Option ℕ
-nameAt ts i = andThen (getElem? ts i) λ (t : Temporary). t .name
-
 -- A state that the lent words hold: the actions and temporaries have room there, their values and those of the scope are
 -- sound, and there are at most four errors for each action, and so many to spare.
-pub record Stood (sec : Section) (tail marks rest : List ℕ) (spare : ℕ) (st : State) : Type 0 where
+pub record Stood (sec : Section) (tail rest : List ℕ) (spare : ℕ) (st : State) : Type 0 where
   pub actions : 24 * length (st .actions) ≤ length tail
   pub temporaries : count st ≤ length rest
-  pub marked : length marks ≤ count st
   pub sizes : Each SoundTmp (tmps st)
   pub errors : length (st .sizing .errors) ≤ spare + 4 * length (st .actions)
   pub sound : Each (SoundAction sec (count st)) (st .actions)
   pub params : Each (λ (p : ℕ × ExprValue). SoundX sec (count st) (p .1)) (st .scope .params)
   pub mapping : Each (λ (p : ℕ × Value). Sound sec (count st) (p .1)) (st .scope .mapping)
 
-pub stood-more : {sec : Section} {tail marks rest : List ℕ} {spare : ℕ} (more : ℕ) {st : State} → spare ≤ more → Stood sec tail marks rest spare st → Stood sec tail marks rest more st
-stood-more more h f = record { actions = f .actions; temporaries = f .temporaries; marked = f .marked; sizes = f .sizes; errors = omega (arith, f .errors); sound = f .sound; params = f .params; mapping = f .mapping }
+pub stood-more : {sec : Section} {tail rest : List ℕ} {spare : ℕ} (more : ℕ) {st : State} → spare ≤ more → Stood sec tail rest spare st → Stood sec tail rest more st
+stood-more more h f = record { actions = f .actions; temporaries = f .temporaries; sizes = f .sizes; errors = omega (arith, f .errors); sound = f .sound; params = f .params; mapping = f .mapping }
 
--- From one state to a later one an expression changes only actions, temporaries and errors; no temporary gets a name.
+-- From one state to a later one an expression changes only actions, temporaries and errors.
 pub record Later (from st : State) : Type 0 where
   pub temporaries : count from ≤ count st
-  pub names : (i : ℕ) → nameAt (tmps st) i ≡ nameAt (tmps from) i
   pub statements : st .statements ≡ from .statements
   pub scope : st .scope ≡ from .scope
   pub nextLabel : st .nextLabel ≡ from .nextLabel
@@ -120,12 +114,11 @@ pub record Later (from st : State) : Type 0 where
   pub placed : labelsPlaced (st .actions) ≡ labelsPlaced (from .actions)
 
 pub later-refl : (st : State) → Later st st
-later-refl st = record { temporaries = omega arith; names = λ i. refl; statements = refl; scope = refl; nextLabel = refl; export = refl; begun = refl; actions = omega arith; placed = refl }
+later-refl st = record { temporaries = omega arith; statements = refl; scope = refl; nextLabel = refl; export = refl; begun = refl; actions = omega arith; placed = refl }
 
 pub later-trans : {a b c : State} → Later a b → Later b c → Later a c
 later-trans p q = record {
   temporaries = omega (arith, p .temporaries, q .temporaries);
-  names = λ i. q .names i ∙ p .names i;
   statements = q .statements ∙ p .statements;
   scope = q .scope ∙ p .scope;
   nextLabel = q .nextLabel ∙ p .nextLabel;

@@ -33,7 +33,7 @@ use Rattle.list_pushes.specs.declared.push.Read.{Read as WordRead}
 use Rattle.list_values.specs.Values.{absent}
 use Rattle.list_pushes.specs.Pushes.{ReadOut, read}
 use Rattle.file_syntax.specs.declared.cursor.Cursor.{Cursor}
-use Rattle.file_refinement.specs.Holds.{Holds, absentAt, symbolWord}
+use Rattle.file_refinement.specs.Holds.{Holds, absentAt}
 use Rattle.file_refinement.proofs.Inversion.{OpAt, CallAt, expr-begun, nothing-deeper, ident-at, integer-at, address-of-at, truncate-at, slice-bits-at, op-at, deref-at, constant-pool-at, call-at, arg-at, no-arg-at}
 use Rattle.list_refinement.specs.Encoding.{encV, Sound, Each}
 use Rattle.list_refinement.proofs.Lists.{firstOf, secondOf}
@@ -41,6 +41,8 @@ use Rattle.list_refinement.proofs.Seen.{yes, no, seenRead, outcome}
 use Rattle.expr_scope.specs.declared.scope.ExprValue.{ExprValue as WordExpr}
 use Rattle.expr_terms.specs.declared.answers.Expr.{Expr}
 use Rattle.expr_terms.specs.declared.answers.Operand.{Operand}
+use Rattle.expr_terms.specs.declared.calls.Callee.{Callee}
+use Rattle.expr_scope.specs.declared.symbols.Symbol.{Symbol as WordSymbol}
 use Rattle.expr_terms.specs.Answers.{ExprOut, resolved, OperandOut, operand, operandOf, appliedTo, after}
 use Rattle.expr_scope.specs.Slots.{argAt, putArg}
 use Rattle.expr_reading.specs.Reading.{readOperand}
@@ -54,13 +56,13 @@ use Rattle.expr_refinement.proofs.Inbuilts.{inbuiltWords}
 use Rattle.expr_refinement.proofs.Encodings.{encX, SoundX, Applies, sound-more, x-more, count, Stood}
 use Rattle.expr_refinement.proofs.Answers.{bind, bind-expr, bind-operand, bind-args, acts, temps, word, seenExpr, seenOperand, seenArgs, Refines, refines-done, refines-stopped, refines-map, weaken}
 use Rattle.expr_refinement.proofs.Below.{Spare, Below}
-use Rattle.expr_refinement.proofs.Scopes.{meaning-sound, ident, eqb-swap, encM, Scoped, scoped-later, BitRangesFit, SoundM, ident-is}
+use Rattle.expr_refinement.proofs.Scopes.{meaning-sound, ident, eqb-swap, encM, Scoped, scoped-later, encSymbol, BitRangesFit, SoundM, ident-is}
 use Rattle.expr_refinement.proofs.Reading.{read-operand}
 use Rattle.expr_refinement.proofs.Slices.{means-done, slice-bits}
 use Rattle.expr_refinement.proofs.Addresses.{address}
 use Rattle.expr_refinement.proofs.Operators.{Applies2, OrderIs, order-is, Taking, one, two, inbuilt-takes}
-use Rattle.expr_refinement.proofs.Slots.{arg-length, arg-again, arg-other}
-use Rattle.expr_refinement.proofs.Calls.{user-op, ArgsIn, on-assoc, symbolCallee, callee-is, callee-symbol, Only, sub-piece}
+use Rattle.expr_refinement.proofs.Slots.{arg-length, arg-again, arg-other, arg-behind}
+use Rattle.expr_refinement.proofs.Calls.{user-op, ArgsIn, on-assoc, callee-is, Only, sub-piece}
 use Rattle.expr_refinement.proofs.Positions.{starts, ident-ends, integer-ends, address-of-ends, truncate-ends, slice-ends, call-inside, drop-same, ends, end-behind, deeper, begins}
 
 pub after-is : (pos n : ℕ) → pos < 65536 → n < 65536 → after pos n ≡ pos + n
@@ -192,37 +194,43 @@ unfolding filledArgs
 filled-before [] args i j h l = refl
 filled-before (x ∷ xs) args i j h l = filled-before xs (putArg args i (encX x)) (suc i) j (omega arith) (omega arith) ∙ arg-other args j i (encX x) h (omega arith)
 
-pub filled-in : (sec : Section) (n : ℕ) (xs : List ExprValue) (args : List ℕ) (i : ℕ) → length args ≡ 64 → i + length xs ≤ 8 → Each (SoundX sec n) xs → ArgsIn (filledArgs args i xs) i xs
+pub filled-in : (sec : Section) (n : ℕ) (xs : List ExprValue) (args : List ℕ) (i : ℕ) → 64 ≤ length args → i + length xs ≤ 8 → Each (SoundX sec n) xs → ArgsIn (filledArgs args i xs) i xs
 unfolding filledArgs
 filled-in sec n [] args i h l f = tt
 filled-in sec n (x ∷ xs) args i h l f = (
   filled-before xs (putArg args i (encX x)) (suc i) i (omega arith) (omega arith) ∙ arg-again sec n args i x h (f .0),
-  filled-in sec n xs (putArg args i (encX x)) (suc i) (arg-length args i (encX x) ∙ h) (omega arith) (f .1),
+  filled-in sec n xs (putArg args i (encX x)) (suc i) (rw (arg-length args i (encX x)) h) (omega arith) (f .1),
 )
 
-module _ (s t : List ℕ) (e : Env) (p front tail marks rest : List ℕ) (we : WordEnv) (below : Below s t e front tail marks rest we) (holds : Holds s t (e .section)) (ranges : BitRangesFit (e .section))
+-- what stands behind the slots stays
+pub filled-behind : (xs : List ExprValue) (args : List ℕ) (i j : ℕ) → 64 ≤ j → getD (filledArgs args i xs) j 0 ≡ getD args j 0
+unfolding filledArgs
+filled-behind [] args i j h = refl
+filled-behind (x ∷ xs) args i j h = filled-behind xs (putArg args i (encX x)) (suc i) j h ∙ arg-behind args i (encX x) j h
+
+module _ (s t : List ℕ) (e : Env) (p front tail rest : List ℕ) (we : WordEnv) (below : Below s t e front tail rest we) (holds : Holds s t (e .section)) (ranges : BitRangesFit (e .section))
     (spare : ℕ) (room : Spare spare tail) (short : length s ≤ 65280) where
   abbrev A : State → List ℕ
-  A st = acts (e .section) front tail marks rest st
+  A st = acts (e .section) front tail rest st
 
   abbrev M : State → List ℕ
-  M st = temps (e .section) front tail marks rest st
+  M st = temps (e .section) front tail rest st
 
   abbrev W : State → WordState
-  W st = word (e .section) front tail marks rest st
+  W st = word (e .section) front tail rest st
 
   abbrev Stands : State → Type 0
-  Stands st = Stood (e .section) tail marks rest spare st
+  Stands st = Stood (e .section) tail rest spare st
 
   abbrev Scopes : State → Type 0
-  Scopes st = Scoped s t e p front tail marks rest we st
+  Scopes st = Scoped t p we st
 
   -- an answer with what an expression means, or with its value, and the position behind it
   abbrev pub Answers : ℕ → State → ExprOut → Outcome ExprValue → Type 0
-  Answers next st x o = Refines (e .section) front tail marks rest spare st (λ (x : ExprValue). (encX x, next)) (SoundX (e .section)) (seenExpr x) o
+  Answers next st x o = Refines (e .section) front tail rest spare st (λ (x : ExprValue). (encX x, next)) (SoundX (e .section)) (seenExpr x) o
 
   abbrev pub Gives : ℕ → State → OperandOut → Outcome Value → Type 0
-  Gives next st x o = Refines (e .section) front tail marks rest spare st (λ (v : Value). (encV v, next)) (Sound (e .section)) (seenOperand x) o
+  Gives next st x o = Refines (e .section) front tail rest spare st (λ (v : Value). (encV v, next)) (Sound (e .section)) (seenOperand x) o
 
   -- an expression at a position, read within a depth
   abbrev pub ReadAt : ℕ → ℕ → PcodeExpr → ℕ → Type 0
@@ -230,16 +238,16 @@ module _ (s t : List ℕ) (e : Env) (p front tail marks rest : List ℕ) (we : W
 
   -- all expressions within a depth are resolved as the definition resolves them
   abbrev pub Resolves : ℕ → Type 0
-  Resolves deep = (pos : ℕ) (x : PcodeExpr) (next : ℕ) → ReadAt deep pos x next → next ≤ length s → (st : State) → Stood (e .section) tail marks rest spare st → Scoped s t e p front tail marks rest we st
-      → Refines (e .section) front tail marks rest spare st (λ (x : ExprValue). (encX x, next)) (SoundX (e .section))
-      (seenExpr (resolveExpr deep s t p we pos (acts (e .section) front tail marks rest st) (temps (e .section) front tail marks rest st) (word (e .section) front tail marks rest st))) (d.resolveExpr x e st)
+  Resolves deep = (pos : ℕ) (x : PcodeExpr) (next : ℕ) → ReadAt deep pos x next → next ≤ length s → (st : State) → Stood (e .section) tail rest spare st → Scoped t p we st
+      → Refines (e .section) front tail rest spare st (λ (x : ExprValue). (encX x, next)) (SoundX (e .section))
+      (seenExpr (resolveExpr deep s t p we pos (acts (e .section) front tail rest st) (temps (e .section) front tail rest st) (word (e .section) front tail rest st))) (d.resolveExpr x e st)
 
   stops : (next : ℕ) (st : State) (n : ℕ) (r : Refusal) → n ≡ refusalNumber r → Answers next st (resolved (Expr.No n) (A st) (M st)) (stopped r (st .sizing .begun) 0)
   unfolding seenExpr
-  stops next st n r h = refines-stopped (e .section) front tail marks rest spare st _ (SoundX (e .section)) n r h
+  stops next st n r h = refines-stopped (e .section) front tail rest spare st _ (SoundX (e .section)) n r h
 
   answers : (next : ℕ) (st : State) → Stands st → (x : ExprValue) → SoundX (e .section) (count st) x → Answers next st (resolved (Expr.Value next (encX x) (W st)) (A st) (M st)) (done x st)
-  answers next st f x h = means-done s t e front tail marks rest we below spare room next st f x h
+  answers next st f x h = means-done s t e front tail rest we below spare room next st f x h
 
   names-few : le16 s 2 ≤ 1024
   names-few = holds .limits .names
@@ -257,26 +265,26 @@ module _ (s t : List ℕ) (e : Env) (p front tail marks rest : List ℕ) (we : W
   local-address next st f size l (ExprValue.AddressOf v z) h = stops next st 30 _ (unfold refusalNumber in refl)
   local-address next st f size l (ExprValue.BitRange v from bits) h = stops next st 30 _ (unfold refusalNumber in refl)
 
-  address-meant : (next : ℕ) (st : State) → Stands st → (size : Option ℕ) → orElse 0 size < 65535 → (name : ℕ) → (c : Scopes st) (known : name < 1024) (x : Meaning) → SoundM s t e p front tail marks rest we holds spare st c name known x
+  address-meant : (next : ℕ) (st : State) → Stands st → (size : Option ℕ) → orElse 0 size < 65535 → (name : ℕ) → (c : Scopes st) (known : name < 1024) (x : Meaning) → SoundM (e .section) (count st) x
       → Answers next st (resolved (addressMeant (encM x) (orNone size) next (W st)) (A st) (M st)) (on e (on e (done x st) meant) λ x. λ e1 st1. on e1 (expect addressOfNonLocal (d.asLocal x) e1 st1) λ base. λ e2 st2. done (ExprValue.AddressOf base size) st2)
   unfolding addressMeant encM on meant
   address-meant next st f size l name c known (means x) h = local-address next st f size l x h
   address-meant next st f size l name c known (wrong r) h = stops next st (refusalNumber r) r refl
 
   -- the same with the words of what may be absent
-  address-named : (next : ℕ) (st : State) → Stands st → (size : Option ℕ) (n : ℕ) → orNone size ≡ n → orElse 0 size < 65535 → (name : ℕ) → (c : Scopes st) (known : name < 1024) (x : Meaning) → SoundM s t e p front tail marks rest we holds spare st c name known x
+  address-named : (next : ℕ) (st : State) → Stands st → (size : Option ℕ) (n : ℕ) → orNone size ≡ n → orElse 0 size < 65535 → (name : ℕ) → (c : Scopes st) (known : name < 1024) (x : Meaning) → SoundM (e .section) (count st) x
       → Answers next st (resolved (addressMeant (encM x) n next (W st)) (A st) (M st)) (on e (on e (done x st) meant) λ x. λ e1 st1. on e1 (expect addressOfNonLocal (d.asLocal x) e1 st1) λ base. λ e2 st2. done (ExprValue.AddressOf base size) st2)
   address-named next st f size n q l name c known x h = rw (← q) (address-meant next st f size l name c known x h)
 
   address-at : (next : ℕ) (st : State) → Stands st → (space size : Option ℕ) (a b : ℕ) → orNone space ≡ a → orNone size ≡ b → (x : ExprValue) → ((y : ℕ) → space ≡ some y → y < 1024) → orElse 0 size < 65535 → SoundX (e .section) (count st) x
       → Answers next st (resolveAddress s t (A st) (M st) we a b (encX x) next (W st)) ((definition.if_then_else_ (contains (e .section .header .const) space) (d.inConstSpace size x) (d.addressIn space size x)) e st)
-  address-at next st f space size a b p q x k l h = rw (← p, ← q) (address s t e front tail marks rest we below holds spare room next st f space size x k l h)
+  address-at next st f space size a b p q x k l h = rw (← p, ← q) (address s t e front tail rest we below holds spare room next st f space size x k l h)
 
   -- an operand made of what was read
-  pub operand-of : (next : ℕ) (st : State) (y : ReadOut) (o : Outcome Value) → Refines (e .section) front tail marks rest spare st encV (Sound (e .section)) (seenRead y) o → Gives next st (operandOf y (valueThen next)) o
+  pub operand-of : (next : ℕ) (st : State) (y : ReadOut) (o : Outcome Value) → Refines (e .section) front tail rest spare st encV (Sound (e .section)) (seenRead y) o → Gives next st (operandOf y (valueThen next)) o
   operand-of next st y o r = record { same = go y o (r .same); goes = r .goes; stops = r .stops }
     where
-      go : (y : ReadOut) (o : Outcome Value) → seenRead y ≡ outcome front tail marks rest encV o → seenOperand (operandOf y (valueThen next)) ≡ outcome front tail marks rest (λ (v : Value). (encV v, next)) o
+      go : (y : ReadOut) (o : Outcome Value) → seenRead y ≡ outcome front tail rest encV o → seenOperand (operandOf y (valueThen next)) ≡ outcome front tail rest (λ (v : Value). (encV v, next)) o
       go (read (WordRead.Value v st1) a m) (done u st2) q = unfold seenRead seenOperand operandOf valueThen outcome in (let i : v ≡ encV u = cc in let j : st1 ≡ W st2 = cc in let k : a ≡ A st2 = cc in let l : m ≡ M st2 = cc in rw (i, j, k, l))
       go (read (WordRead.Value v st1) a m) (stopped r ordinal errors) q = unfold seenRead outcome in (let z : _≡_ {A = ℕ} 0 1 = cc in absurd (omega arith))
       go (read (WordRead.No n) a m) (done u st2) q = unfold seenRead outcome in (let z : _≡_ {A = ℕ} 0 1 = cc in absurd (omega arith))
@@ -287,15 +295,15 @@ module _ (s t : List ℕ) (e : Env) (p front tail marks rest : List ℕ) (we : W
       → Gives next st (exprValue (resolveExpr deep s t p we) s t we pos (A st) (M st) (W st)) (on e (d.resolveExpr x e st) λ y. d.readValue y none)
   unfolding exprValue
   value-at deep walks pos x next h i st f c =
-      bind-expr (e .section) front tail marks rest spare spare e st (SoundX (e .section)) seenOperand (λ (v : Value). (encV v, next)) (Sound (e .section)) (λ y. d.readValue y none) (λ (x : ExprValue). (encX x, next)) _ _ _ _
+      bind-expr (e .section) front tail rest spare spare e st (SoundX (e .section)) seenOperand (λ (v : Value). (encV v, next)) (Sound (e .section)) (λ y. d.readValue y none) (λ (x : ExprValue). (encX x, next)) _ _ _ _
       (walks pos x next h i st f c) (λ n a m. unfold seenOperand in refl)
-      λ y st1 r g. operand-of next st1 (readOperand s t (A st1) (M st1) we (encX y) (W st1)) (d.readValue y none e st1) (read-operand s t e front tail marks rest we below spare room st1 (r .stood) y g)
+      λ y st1 r g. operand-of next st1 (readOperand s t (A st1) (M st1) we (encX y) (W st1)) (d.readValue y none e st1) (read-operand s t e front tail rest we below spare room st1 (r .stood) y g)
 
   -- an operation on a value and an operand
   apply-second : (op : Operation) → Applies2 op → (v : Value) (end mid next : ℕ) → later end mid ≡ next → (st : State) → Sound (e .section) (count st) v → (y : OperandOut) (o : Outcome Value) → Gives mid st y o
       → Answers next st (appliedTo y (apply2 (operationNumber op) (encV v) end)) (on e o λ right. λ e1 st1. done (ExprValue.Apply op 0 (v ∷ right ∷ [])) st1)
   apply-second op ok v end mid next q st h y o r =
-      bind (e .section) front tail marks rest spare spare e st (λ (v : Value). (encV v, mid)) (Sound (e .section)) seenExpr (λ (x : ExprValue). (encX x, next)) (SoundX (e .section)) (λ right. λ e1 st1. done (ExprValue.Apply op 0 (v ∷ right ∷ [])) st1)
+      bind (e .section) front tail rest spare spare e st (λ (v : Value). (encV v, mid)) (Sound (e .section)) seenExpr (λ (x : ExprValue). (encX x, next)) (SoundX (e .section)) (λ right. λ e1 st1. done (ExprValue.Apply op 0 (v ∷ right ∷ [])) st1)
       (seenOperand y) o (appliedTo y (apply2 (operationNumber op) (encV v) end)) (λ u st1 a m. resolved (Expr.Value (later end (u .1)) (WordExpr.Apply (operationNumber op) 0 2 (encV v) (u .0)) st1) a m) r
       (λ u st1 g k. rw q (unfold encX firstOf secondOf in answers next st1 (g .stood) (ExprValue.Apply op 0 (v ∷ u ∷ [])) (omega arith, ok v u, (sound-more (e .section) (count st) (count st1) (g .later .temporaries) v h, (k, tt)))))
       (go y) (stop y)
@@ -314,10 +322,10 @@ module _ (s t : List ℕ) (e : Env) (p front tail marks rest : List ℕ) (we : W
       → Answers next st (binary (resolveExpr deep s t p we) s t we (order (operationNumber op) first second) (A st) (M st) (W st)) (d.binary op (d.valueOf (d.resolveExpr x)) (d.valueOf (d.resolveExpr y)) e st)
   unfolding binary d.binary
   both deep walks op ok first x end h i second y mid g j next q st f c =
-      bind-operand (e .section) front tail marks rest spare spare e st (Sound (e .section)) seenExpr (λ (x : ExprValue). (encX x, next)) (SoundX (e .section)) (λ left. λ e1 st1. on e1 (d.valueOf (d.resolveExpr y) e1 st1) λ right. λ e2 st2. done (ExprValue.Apply op 0 (left ∷ right ∷ [])) st2)
+      bind-operand (e .section) front tail rest spare spare e st (Sound (e .section)) seenExpr (λ (x : ExprValue). (encX x, next)) (SoundX (e .section)) (λ left. λ e1 st1. on e1 (d.valueOf (d.resolveExpr y) e1 st1) λ right. λ e2 st2. done (ExprValue.Apply op 0 (left ∷ right ∷ [])) st2)
       (λ (v : Value). (encV v, end)) _ _ _ _
       (value-at deep walks first x end h i st f c) (λ n a m. unfold seenExpr in refl)
-      λ v st1 r k. apply-second op ok v end mid next q st1 k _ _ (value-at deep walks second y mid g j st1 (r .stood) (scoped-later s t e p front tail marks rest we spare spare st st1 f (r .stood) (r .later) c))
+      λ v st1 r k. apply-second op ok v end mid next q st1 k _ _ (value-at deep walks second y mid g j st1 (r .stood) (scoped-later t p we st st1 (r .later) c))
 
   -- the arguments, resolved only, into their slots
   abbrev pub ArgsDone : ℕ → ℕ → List ExprValue → Type 0
@@ -327,23 +335,23 @@ module _ (s t : List ℕ) (e : Env) (p front tail marks rest : List ℕ) (we : W
   ArgsBehind v k n xs = (ys : List ExprValue) × (xs ≡ v ∷ ys) × ArgsDone k n ys
 
   pub resolve-args : (deep : ℕ) → Resolves deep → (k i pos : ℕ) (xs : Args) (next : ℕ) (args : List ℕ) → argsOf (exprWithin (le16 s 2) deep) k (drop pos s) ≡ parsed xs (drop next s) → pos ≤ length s → next ≤ length s → (st : State) → Stands st → Scopes st
-      → Refines (e .section) front tail marks rest spare st (λ (vs : List ExprValue). (filledArgs args i vs, next)) (ArgsDone k) (seenArgs (words.resolveArgs (resolveExpr deep s t p we) k i pos (A st) (M st) args (W st))) (d.resolveArgs xs e st)
+      → Refines (e .section) front tail rest spare st (λ (vs : List ExprValue). (filledArgs args i vs, next)) (ArgsDone k) (seenArgs (words.resolveArgs (resolveExpr deep s t p we) k i pos (A st) (M st) args (W st))) (d.resolveArgs xs e st)
   unfolding words.resolveArgs d.resolveArgs
   resolve-args deep walks zero i pos xs next args h a b st f c =
       let l = no-arg-at s (le16 s 2) deep pos xs (drop next s) h in
       let k = drop-same s next pos b a (l .rest) in
-      rw (l .is, ← k) (unfold seenArgs filledArgs in refines-done (e .section) front tail marks rest spare st (λ (vs : List ExprValue). (filledArgs args i vs, next)) (ArgsDone 0) [] (args, next) f (tt, refl) refl)
+      rw (l .is, ← k) (unfold seenArgs filledArgs in refines-done (e .section) front tail rest spare st (λ (vs : List ExprValue). (filledArgs args i vs, next)) (ArgsDone 0) [] (args, next) f (tt, refl) refl)
   resolve-args deep walks (suc k) i pos xs next args h a b st f c =
       let l = arg-at s (le16 s 2) deep k pos xs (drop next s) a h in
       let others : argsOf (exprWithin (le16 s 2) deep) k (drop (l .first-end) s) ≡ parsed (l .others) (drop next s) = l .others-reads ∙ ap (parsed (l .others)) (sym (l .rest)) in
       rw (l .is) (
-      bind-expr (e .section) front tail marks rest spare spare e st (SoundX (e .section)) seenArgs (λ (vs : List ExprValue). (filledArgs args i vs, next)) (ArgsDone (suc k)) (λ v. λ e1 st1. on e1 (d.resolveArgs (l .others) e1 st1) λ vs. λ e2 st2. done (v ∷ vs) st2)
+      bind-expr (e .section) front tail rest spare spare e st (SoundX (e .section)) seenArgs (λ (vs : List ExprValue). (filledArgs args i vs, next)) (ArgsDone (suc k)) (λ v. λ e1 st1. on e1 (d.resolveArgs (l .others) e1 st1) λ vs. λ e2 st2. done (v ∷ vs) st2)
       (λ (x : ExprValue). (encX x, l .first-end)) _ _ _ _
       (walks pos (l .first) (l .first-end) (l .first-reads) (l .first-inside) st f c) (λ n a m. unfold seenArgs in refl)
       λ v st1 r g.
-      weaken (e .section) front tail marks rest spare spare st1 (λ (vs : List ExprValue). (filledArgs args i vs, next)) (ArgsBehind v k) (ArgsDone (suc k)) _ _
-      (refines-map (e .section) front tail marks rest spare e st1 (λ (vs : List ExprValue). (filledArgs (putArg args i (encX v)) (suc i) vs, next)) (ArgsDone k) (λ (vs : List ExprValue). (filledArgs args i vs, next)) (ArgsBehind v k) (λ vs. v ∷ vs) _ _
-      (resolve-args deep walks k (suc i) (l .first-end) (l .others) next (putArg args i (encX v)) others (l .first-inside) b st1 (r .stood) (scoped-later s t e p front tail marks rest we spare spare st st1 f (r .stood) (r .later) c))
+      weaken (e .section) front tail rest spare spare st1 (λ (vs : List ExprValue). (filledArgs args i vs, next)) (ArgsBehind v k) (ArgsDone (suc k)) _ _
+      (refines-map (e .section) front tail rest spare e st1 (λ (vs : List ExprValue). (filledArgs (putArg args i (encX v)) (suc i) vs, next)) (ArgsDone k) (λ (vs : List ExprValue). (filledArgs args i vs, next)) (ArgsBehind v k) (λ vs. v ∷ vs) _ _
+      (resolve-args deep walks k (suc i) (l .first-end) (l .others) next (putArg args i (encX v)) others (l .first-inside) b st1 (r .stood) (scoped-later t p we st st1 (r .later) c))
       (λ vs. unfold filledArgs in refl) (λ n vs q. (vs, refl, q)))
       (λ vs u m o q. (o, rw (q .1) ((x-more (e .section) (count st1) (count u) (o .later .temporaries) v g, q .2 .0), ap suc (q .2 .1)))))
 
@@ -351,7 +359,7 @@ module _ (s t : List ℕ) (e : Env) (p front tail marks rest : List ℕ) (we : W
   apply-first : (op : Operation) → ((v : Value) → Applies op (v ∷ [])) → (next : ℕ) (st : State) (y : OperandOut) (o : Outcome Value) → Gives next st y o
       → Answers next st (appliedTo y (apply1 (operationNumber op))) (on e o λ v. λ e1 st1. done (ExprValue.Apply op 0 (v ∷ [])) st1)
   apply-first op ok next st y o r =
-      bind (e .section) front tail marks rest spare spare e st (λ (v : Value). (encV v, next)) (Sound (e .section)) seenExpr (λ (x : ExprValue). (encX x, next)) (SoundX (e .section)) (λ v. λ e1 st1. done (ExprValue.Apply op 0 (v ∷ [])) st1)
+      bind (e .section) front tail rest spare spare e st (λ (v : Value). (encV v, next)) (Sound (e .section)) seenExpr (λ (x : ExprValue). (encX x, next)) (SoundX (e .section)) (λ v. λ e1 st1. done (ExprValue.Apply op 0 (v ∷ [])) st1)
       (seenOperand y) o (appliedTo y (apply1 (operationNumber op))) (λ u st1 a m. resolved (Expr.Value (u .1) (WordExpr.Apply (operationNumber op) 0 1 (u .0) absent) st1) a m) r
       (λ u st1 g k. unfold encX firstOf secondOf in answers next st1 (g .stood) (ExprValue.Apply op 0 (u ∷ [])) (omega arith, ok u, (k, tt)))
       (go y) (stop y)
@@ -392,7 +400,7 @@ module _ (s t : List ℕ) (e : Env) (p front tail marks rest : List ℕ) (we : W
         let i = ident-at s (le16 s 2) deep pos x (drop next s) q reads in
         let k = ident-ends s (le16 s 2) deep pos x next reads inside q in
         let l = names-few in
-        rw (i .is, ahead 3 (omega arith), ← k) (ident s t e p front tail marks rest we holds spare st c (le16 s (pos + 1)) (omega (arith, i .name-below)) ranges f next)
+        rw (i .is, ahead 3 (omega arith), ← k) (ident s t e p front tail rest we holds spare st c (le16 s (pos + 1)) (omega (arith, i .name-below)) ranges f next)
 
     integer-case : getD s pos 0 ≡ 1 → Done 1
     unfolding byCode atom if_then_else_ d.resolveExpr
@@ -408,8 +416,8 @@ module _ (s t : List ℕ) (e : Env) (p front tail marks rest : List ℕ) (we : W
         let k = address-of-ends s (le16 s 2) deep pos x next reads inside q in
         let l = names-few in
         let known : le16 s (pos + 3) < 1024 = omega (arith, i .name-below) in
-        rw (i .is, ahead 5 (omega arith), ← k, ident-is s t e p front tail marks rest we holds spare st c (le16 s (pos + 3)) known)
-        (address-named next st f (absentAt s (pos + 1)) (le16 s (pos + 1)) (absent-word s (pos + 1)) (small-or (absentAt s (pos + 1)) (i .size-below)) (le16 s (pos + 3)) c known _ (meaning-sound s t e p front tail marks rest we holds spare st c (le16 s (pos + 3)) known ranges f))
+        rw (i .is, ahead 5 (omega arith), ← k, ident-is s t e p we holds st c (le16 s (pos + 3)) known)
+        (address-named next st f (absentAt s (pos + 1)) (le16 s (pos + 1)) (absent-word s (pos + 1)) (small-or (absentAt s (pos + 1)) (i .size-below)) (le16 s (pos + 3)) c known _ (meaning-sound (e .section) tail rest spare st (le16 s (pos + 3)) ranges f))
 
     truncate-case : getD s pos 0 ≡ 3 → Done 3
     unfolding byCode part partAt withPart if_then_else_ d.resolveExpr
@@ -417,9 +425,9 @@ module _ (s t : List ℕ) (e : Env) (p front tail marks rest : List ℕ) (we : W
         let i = truncate-at s (le16 s 2) deep pos x (drop next s) q reads in
         let k = truncate-ends s (le16 s 2) deep pos x next reads inside (i .value) (i .value-end) (i .value-reads) (i .value-inside) q in
         rw (i .is, ahead 1 (omega arith))
-        (bind-expr (e .section) front tail marks rest spare spare e st (SoundX (e .section)) seenExpr (λ (x : ExprValue). (encX x, next)) (SoundX (e .section)) (d.sliceBits 0 (8 * le16 s (i .value-end))) (λ (x : ExprValue). (encX x, i .value-end)) _ _ _ _
+        (bind-expr (e .section) front tail rest spare spare e st (SoundX (e .section)) seenExpr (λ (x : ExprValue). (encX x, next)) (SoundX (e .section)) (d.sliceBits 0 (8 * le16 s (i .value-end))) (λ (x : ExprValue). (encX x, i .value-end)) _ _ _ _
         (walks (pos + 1) (i .value) (i .value-end) (i .value-reads) (i .value-inside) st f c) (λ n a m. unfold seenExpr in refl)
-        λ y st1 r h. rw (after-is (i .value-end) 2 (omega (arith, i .value-inside)) (omega arith), ← k, add-zero (i .value-end)) (slice-bits s t e front tail marks rest we below spare room next st1 (r .stood) 0 (8 * le16 s (i .value-end)) y h (omega (arith, i .size-below))))
+        λ y st1 r h. rw (after-is (i .value-end) 2 (omega (arith, i .value-inside)) (omega arith), ← k, add-zero (i .value-end)) (slice-bits s t e front tail rest we below spare room next st1 (r .stood) 0 (8 * le16 s (i .value-end)) y h (omega (arith, i .size-below))))
 
     slice-case : getD s pos 0 ≡ 4 → Done 4
     unfolding byCode part partAt withPart if_then_else_ d.resolveExpr
@@ -427,9 +435,9 @@ module _ (s t : List ℕ) (e : Env) (p front tail marks rest : List ℕ) (we : W
         let i = slice-bits-at s (le16 s 2) deep pos x (drop next s) q reads in
         let k = slice-ends s (le16 s 2) deep pos x next reads inside (i .value) (i .value-end) (i .value-reads) (i .value-inside) q in
         rw (i .is, ahead 1 (omega arith))
-        (bind-expr (e .section) front tail marks rest spare spare e st (SoundX (e .section)) seenExpr (λ (x : ExprValue). (encX x, next)) (SoundX (e .section)) (d.sliceBits (le16 s (i .value-end)) (le16 s (i .value-end + 2))) (λ (x : ExprValue). (encX x, i .value-end)) _ _ _ _
+        (bind-expr (e .section) front tail rest spare spare e st (SoundX (e .section)) seenExpr (λ (x : ExprValue). (encX x, next)) (SoundX (e .section)) (d.sliceBits (le16 s (i .value-end)) (le16 s (i .value-end + 2))) (λ (x : ExprValue). (encX x, i .value-end)) _ _ _ _
         (walks (pos + 1) (i .value) (i .value-end) (i .value-reads) (i .value-inside) st f c) (λ n a m. unfold seenExpr in refl)
-        λ y st1 r h. rw (after-is (i .value-end) 4 (omega (arith, i .value-inside)) (omega arith), ← k, add-zero (i .value-end)) (slice-bits s t e front tail marks rest we below spare room next st1 (r .stood) (le16 s (i .value-end)) (le16 s (i .value-end + 2)) y h (omega (arith, i .first-below, i .count-below))))
+        λ y st1 r h. rw (after-is (i .value-end) 4 (omega (arith, i .value-inside)) (omega arith), ← k, add-zero (i .value-end)) (slice-bits s t e front tail rest we below spare room next st1 (r .stood) (le16 s (i .value-end)) (le16 s (i .value-end + 2)) y h (omega (arith, i .first-below, i .count-below))))
 
     deref-case : getD s pos 0 ≡ 6 → Done 6
     unfolding byCode part partAt withPart if_then_else_ d.resolveExpr d.resolveAddress on
@@ -438,7 +446,7 @@ module _ (s t : List ℕ) (e : Env) (p front tail marks rest : List ℕ) (we : W
         let k = drop-same s next (i .pointer-end) inside (i .pointer-inside) (i .rest) in
         let l = names-few in
         rw (i .is, ahead 5 (omega arith))
-        (bind-expr (e .section) front tail marks rest spare spare e st (SoundX (e .section)) seenExpr (λ (x : ExprValue). (encX x, next)) (SoundX (e .section))
+        (bind-expr (e .section) front tail rest spare spare e st (SoundX (e .section)) seenExpr (λ (x : ExprValue). (encX x, next)) (SoundX (e .section))
         (λ y. λ e1 st1. (definition.if_then_else_ (contains (e1 .section .header .const) (absentAt s (pos + 1))) (d.inConstSpace (absentAt s (pos + 3)) y) (d.addressIn (absentAt s (pos + 1)) (absentAt s (pos + 3)) y)) e1 st1) (λ (x : ExprValue). (encX x, i .pointer-end)) _ _ _ _
         (walks (pos + 5) (i .pointer) (i .pointer-end) (i .pointer-reads) (i .pointer-inside) st f c) (λ n a m. unfold seenExpr in refl)
         λ y st1 r h. rw (← k)
@@ -484,16 +492,16 @@ module _ (s t : List ℕ) (e : Env) (p front tail marks rest : List ℕ) (we : W
         user-case : (id : ℕ) → pos + 4 ≤ length s → Answers next st (words.userOp (resolveExpr deep s t p we) s t we pos id num (A st) (M st) (W st)) (on e (d.resolveArgs (i .args) e st) (d.callUserOp id))
         unfolding words.userOp
         user-case id l =
-            rw (ahead 4 (omega arith)) (bind-args (e .section) front tail marks rest spare spare e st (ArgsDone num) seenExpr (λ (x : ExprValue). (encX x, next)) (SoundX (e .section)) (d.callUserOp id) (λ (vs : List ExprValue). (filledArgs (replicate 64 0) 0 vs, next)) _ _ _ _
+            rw (ahead 4 (omega arith)) (bind-args (e .section) front tail rest spare spare e st (ArgsDone num) seenExpr (λ (x : ExprValue). (encX x, next)) (SoundX (e .section)) (d.callUserOp id) (λ (vs : List ExprValue). (filledArgs (replicate 64 0) 0 vs, next)) _ _ _ _
             (resolve-args deep walks num 0 (pos + 4) (i .args) next (replicate 64 0) args-read l inside st f c) (λ n a m. unfold seenExpr in refl)
-            λ vs st1 r g. rw (← g .1) (user-op s t e front tail marks rest we below spare room id next vs (filledArgs (replicate 64 0) 0 vs) (filled-in (e .section) (count st1) vs (replicate 64 0) 0 (length-replicate {A = ℕ} 64 0) (omega (arith, g .1, i .count-below)) (g .0)) st1 (r .stood) (g .0)))
+            λ vs st1 r g. rw (← g .1) (user-op s t e front tail rest we below spare room id next vs (filledArgs (replicate 64 0) 0 vs) (filled-in (e .section) (count st1) vs (replicate 64 0) 0 (omega (arith, length-replicate {A = ℕ} 64 0)) (omega (arith, g .1, i .count-below)) (g .0)) st1 (r .stood) (g .0)))
 
         piece-case : pos + 4 ≤ length s → Answers next st (subpiece s t p (A st) (M st) pos (le16 s (pos + 1)) num we (W st)) (d.subpiece (le16 s (pos + 1)) (i .args) e st)
-        piece-case l = let b = names-few in sub-piece s t e p front tail marks rest we below holds ranges spare room next st f c (le16 s (pos + 1)) (omega (arith, i .name-below)) (i .args) pos num (only-integer s (le16 s 2) deep pos num (i .args) next l short inside args-read)
+        piece-case l = let b = names-few in sub-piece s t e p front tail rest we below holds ranges spare room next st f c (le16 s (pos + 1)) (omega (arith, i .name-below)) (i .args) pos num (only-integer s (le16 s 2) deep pos num (i .args) next l short inside args-read)
 
         symbol-case : pos + 4 ≤ length s → (y : Option Symbol)
-            → Answers next st (words.callNamed (resolveExpr deep s t p we) s t p we pos (le16 s (pos + 1)) num (symbolCallee y) (A st) (M st) (W st)) (d.callSymbol (le16 s (pos + 1)) (i .args) (d.resolveArgs (i .args)) y e st)
-        unfolding words.callNamed symbolCallee if_then_else_ d.callSymbol
+            → Answers next st (words.callNamed (resolveExpr deep s t p we) s t p we pos (le16 s (pos + 1)) num (calls.symbolCalled (encSymbol y)) (A st) (M st) (W st)) (d.callSymbol (le16 s (pos + 1)) (i .args) (d.resolveArgs (i .args)) y e st)
+        unfolding words.callNamed calls.symbolCalled encSymbol d.callSymbol
         symbol-case l none = piece-case l
         symbol-case l (some (Symbol.UserOp id)) = user-case id l
         symbol-case l (some (Symbol.Macro id m)) = stops next st 34 macroInExpression (unfold refusalNumber in refl)
@@ -531,10 +539,10 @@ module _ (s t : List ℕ) (e : Env) (p front tail marks rest : List ℕ) (we : W
             ≡ on e (d.valueOf (d.resolveExpr (o .first)) e st) (λ v. λ e1 st1. on e1 (on e1 (d.resolveArgValues (arg (o .second) noArgs) e1 st1) λ vs. λ e2 st2. done (v ∷ vs) st2) (λ vs. λ e2 st2. done (ExprValue.Apply (g .op) 0 vs) st2)) = unfold d.resolveArgValues on in
             on-assoc e (d.valueOf (d.resolveExpr (o .first)) e st) (λ v. λ e1 st1. on e1 (d.resolveArgValues (arg (o .second) noArgs) e1 st1) λ vs. λ e2 st2. done (v ∷ vs) st2) (λ vs. λ e1 st1. done (ExprValue.Apply (g .op) 0 vs) st1) in
             rw (o .is, ahead 4 (omega arith), r)
-            (bind-operand (e .section) front tail marks rest spare spare e st (Sound (e .section)) seenExpr (λ (x : ExprValue). (encX x, next)) (SoundX (e .section))
+            (bind-operand (e .section) front tail rest spare spare e st (Sound (e .section)) seenExpr (λ (x : ExprValue). (encX x, next)) (SoundX (e .section))
             (λ v. λ e1 st1. on e1 (on e1 (d.resolveArgValues (arg (o .second) noArgs) e1 st1) λ vs. λ e2 st2. done (v ∷ vs) st2) (λ vs. λ e2 st2. done (ExprValue.Apply (g .op) 0 vs) st2)) (λ (v : Value). (encV v, o .end)) _ _ _ _
             (value-at deep walks (pos + 4) (o .first) (o .end) (o .reads) (o .inside) st f c) (λ n a m. unfold seenExpr in refl)
-            λ v st1 m k. second-of g ok (o .end) (o .second) (o .follows) v st1 (m .stood) (scoped-later s t e p front tail marks rest we spare spare st st1 f (m .stood) (m .later) c) k)
+            λ v st1 m k. second-of g ok (o .end) (o .second) (o .follows) v st1 (m .stood) (scoped-later t p we st st1 (m .later) c) k)
 
         taking-case : (g : Inbuilt) → Taking g → pos + 4 ≤ length s → num ≡ g .arguments
             → Answers next st (words.callInbuilt (resolveExpr deep s t p we) s t we pos (operationNumber (g .op)) num (A st) (M st) (W st)) (on e (d.resolveArgValues (i .args) e st) λ vs. λ e1 st1. done (ExprValue.Apply (g .op) 0 vs) st1)
@@ -545,14 +553,14 @@ module _ (s t : List ℕ) (e : Env) (p front tail marks rest : List ℕ) (we : W
         some-arguments g (one a ok) = rw a
         some-arguments g (two a ok) = rw a
 
-        inbuilt-case : (g : Inbuilt) → Taking g → pos + 4 ≤ length s → (y : ℕ)
+        inbuilt-case : (g : Inbuilt) → Taking g → pos + 4 ≤ length s → (y : WordSymbol)
             → Answers next st (words.callNamed (resolveExpr deep s t p we) s t p we pos (le16 s (pos + 1)) num (inbuiltOr (inbuiltWords (some g)) y num) (A st) (M st) (W st)) (d.callInbuilt g (i .args) (d.resolveArgValues (i .args)) e st)
-        unfolding inbuiltOr inbuiltWords d.callInbuilt calls.symbolOf if_then_else_
+        unfolding inbuiltOr inbuiltWords d.callInbuilt if_then_else_
         inbuilt-case g k l y =
             let n = args-count (exprWithin (le16 s 2) deep) num (drop (pos + 4) s) (i .args) (drop next s) args-read in
             rw (some-arguments g k, n, eqb-swap num (g .arguments)) (by (eqb (g .arguments) num) refl)
           where
-            by : (b : Bool) → eqb (g .arguments) num ≡ b → Answers next st (words.callNamed (resolveExpr deep s t p we) s t p we pos (le16 s (pos + 1)) num (if b then calls.callee 0 (operationNumber (g .op)) else calls.callee 2 33) (A st) (M st) (W st))
+            by : (b : Bool) → eqb (g .arguments) num ≡ b → Answers next st (words.callNamed (resolveExpr deep s t p we) s t p we pos (le16 s (pos + 1)) num (if b then Callee.Inbuilt (operationNumber (g .op)) else Callee.No 33) (A st) (M st) (W st))
                 (on e (w.require b argumentCount e st) λ _. λ e1 st1. on e1 (d.resolveArgValues (i .args) e1 st1) λ vs. λ e2 st2. done (ExprValue.Apply (g .op) 0 vs) st2)
             by true h = unfold words.callNamed if_then_else_ w.require on in taking-case g k l (sym (eqb-true (g .arguments) num h))
             by false h = unfold words.callNamed if_then_else_ w.require on in stops next st 33 argumentCount (unfold refusalNumber in refl)
@@ -564,9 +572,9 @@ module _ (s t : List ℕ) (e : Env) (p front tail marks rest : List ℕ) (we : W
             (by (translateInbuiltFunc (getD (e .section .names) (le16 s (pos + 1)) [])) refl)
           where
             by : (g : Option Inbuilt) → translateInbuiltFunc (getD (e .section .names) (le16 s (pos + 1)) []) ≡ g
-                → Answers next st (words.callNamed (resolveExpr deep s t p we) s t p we pos (le16 s (pos + 1)) num (inbuiltOr (inbuiltWords g) (symbolWord (find (le16 s (pos + 1)) (globals (e .section)))) num) (A st) (M st) (W st)) (d.callNamed (le16 s (pos + 1)) (i .args) (d.resolveArgValues (i .args)) (d.resolveArgs (i .args)) g e st)
-            by (some g) h = unfold d.callNamed in inbuilt-case g (inbuilt-takes (getD (e .section .names) (le16 s (pos + 1)) []) g h) l (symbolWord (find (le16 s (pos + 1)) (globals (e .section))))
-            by none h = unfold d.callNamed scope.lookup on in rw (callee-symbol (find (le16 s (pos + 1)) (globals (e .section))) num) (symbol-case l (find (le16 s (pos + 1)) (globals (e .section))))
+                → Answers next st (words.callNamed (resolveExpr deep s t p we) s t p we pos (le16 s (pos + 1)) num (inbuiltOr (inbuiltWords g) (encSymbol (find (le16 s (pos + 1)) (globals (e .section)))) num) (A st) (M st) (W st)) (d.callNamed (le16 s (pos + 1)) (i .args) (d.resolveArgValues (i .args)) (d.resolveArgs (i .args)) g e st)
+            by (some g) h = unfold d.callNamed in inbuilt-case g (inbuilt-takes (getD (e .section .names) (le16 s (pos + 1)) []) g h) l (encSymbol (find (le16 s (pos + 1)) (globals (e .section))))
+            by none h = unfold d.callNamed scope.lookup inbuiltOr inbuiltWords if_then_else_ on in (symbol-case l (find (le16 s (pos + 1)) (globals (e .section))))
 
       call-case : Done 8
       unfolding byCode if_then_else_ d.resolveExpr

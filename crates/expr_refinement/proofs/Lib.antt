@@ -5,7 +5,6 @@ pub mod Below
 pub mod Stated
 pub mod Reading
 pub mod Slots
-pub mod Tree
 pub mod Scopes
 pub mod Slices
 pub mod Addresses

@@ -30,30 +30,20 @@ use Rattle.list_refinement.specs.Encoding.{encV, Sound, SoundTmp, Each, EachOpt
 use Rattle.list_refinement.proofs.After.{After}
 use Rattle.list_refinement.proofs.RuleKinds.{kindOf, Operands}
 use Rattle.list_refinement.proofs.Pushes.{update-after, push-op-is, push-op-done, op-to-is, Lent, Stands, unnamed-is, push-is, add-done}
-use Rattle.expr_refinement.proofs.Encodings.{Small, Applies, sound-more, nameAt, tmps, count, Stood, stood-more, params-more, mapping-more, actions-more, each-last, placed-last}
+use Rattle.expr_refinement.proofs.Encodings.{Small, Applies, sound-more, tmps, count, Stood, stood-more, params-more, mapping-more, actions-more, each-last, placed-last}
 use Rattle.expr_refinement.proofs.Answers.{acts, temps, word, Halts, halts-done, halts-here, Reached, Refines, refines-map}
-use Rattle.expr_refinement.proofs.Below.{Spare, Below, settled-kept}
+use Rattle.expr_refinement.proofs.Below.{Spare, Below, settled-begun}
 
--- No rule changes a name or the statement begun last.
-
-pub record Names (z y : Sizing) : Type 0 where
-  pub names : (i : ℕ) → nameAt (y .temporaries) i ≡ nameAt (z .temporaries) i
-  pub begun : y .begun ≡ z .begun
-
-names-refl : (z : Sizing) → Names z z
-names-refl z = record { names = λ i. refl; begun = refl }
-
-names-trans : {z y x : Sizing} → Names z y → Names y x → Names z x
-names-trans p q = record { names = λ i. q .names i ∙ p .names i; begun = q .begun ∙ p .begun }
+-- No rule changes the statement begun last.
 
 module _ (sec : Section) where
   abbrev Keeps : Sizing → SemanticAction × Sizing → Type 0
-  Keeps z r = Names z (r .1)
+  Keeps z r = r .1 .begun ≡ z .begun
 
   given-keeps : (n : ℕ) (p : Operand) (y : Option Value) (x : SemanticAction) (z : Sizing) → Keeps z (sizes.setGiven sec n p y x z)
   unfolding sizes.setGiven sizes.setSize
-  given-keeps n p none x z = names-refl z
-  given-keeps n p (some v) x z = let k = settled-kept sec n v z (sizes.sizeOf sec (z .temporaries) v) in record { names = k .names; begun = k .begun }
+  given-keeps n p none x z = refl
+  given-keeps n p (some v) x z = settled-begun sec n v z (sizes.sizeOf sec (z .temporaries) v)
 
   set-keeps : (n : ℕ) (p : Operand) (x : SemanticAction) (z : Sizing) → Keeps z (sizes.setOperand sec n p x z)
   unfolding sizes.setOperand
@@ -61,23 +51,23 @@ module _ (sec : Section) where
 
   sets-keep : (n : ℕ) (ps : List Operand) (x : SemanticAction) (z : Sizing) → Keeps z (sizes.setOperands sec n ps x z)
   unfolding sizes.setOperands
-  sets-keep n [] x z = names-refl z
-  sets-keep n (p ∷ ps) x z = names-trans (set-keeps n p x z) (sets-keep n ps _ _)
+  sets-keep n [] x z = refl
+  sets-keep n (p ∷ ps) x z = sets-keep n ps _ _ ∙ set-keeps n p x z
 
   share-keeps : (a b : Option ℕ) (ps : List Operand) (x : SemanticAction) (z : Sizing) → Keeps z (sizes.shareSize sec a b ps x z)
   unfolding sizes.shareSize
-  share-keeps none none ps x z = names-refl z
+  share-keeps none none ps x z = refl
   share-keeps none (some n) ps x z = sets-keep n ps x z
   share-keeps (some n) b ps x z = go (all (λ p. contains n (sizes.knownAt sec x z p)) ps)
     where
       go : (c : Bool) → Keeps z (definition.if_then_else_ c (x, z) (sizes.setOperands sec n (sizes.butFirst (λ p. isSome (sizes.knownAt sec x z p)) ps) x z))
-      go true = unfold base-opens in names-refl z
+      go true = unfold base-opens in refl
       go false = unfold base-opens in sets-keep n _ x z
 
   unsized-keeps : (a : Option ℕ) (n : ℕ) (p : Operand) (x : SemanticAction) (z : Sizing) → Keeps z (sizes.setUnsized sec a n p x z)
   unfolding sizes.setUnsized
   unsized-keeps none n p x z = set-keeps n p x z
-  unsized-keeps (some m) n p x z = names-refl z
+  unsized-keeps (some m) n p x z = refl
 
   step-keeps : (late : Bool) (y : Step) (x : SemanticAction) (z : Sizing) → Keeps z (sizes.applyStep sec late y x z)
   unfolding sizes.applyStep sizes.setSizeOfAll
@@ -87,8 +77,8 @@ module _ (sec : Section) where
 
   steps-keep : (late : Bool) (ys : List Step) (x : SemanticAction) (z : Sizing) → Keeps z (sizes.applySteps sec late ys x z)
   unfolding sizes.applySteps
-  steps-keep late [] x z = names-refl z
-  steps-keep late (y ∷ ys) x z = names-trans (step-keeps late y x z) (steps-keep late ys _ _)
+  steps-keep late [] x z = refl
+  steps-keep late (y ∷ ys) x z = steps-keep late ys _ _ ∙ step-keeps late y x z
 
   pub update-keeps : (late : Bool) (x : SemanticAction) (z : Sizing) → Keeps z (sizes.updateOperandSizes sec late x z)
   unfolding sizes.updateOperandSizes
@@ -121,7 +111,7 @@ pub push-op-halts : (e : Env) (st : State) (op : Operation) (n : ℕ) (vs : List
 unfolding d.pushOp on
 push-op-halts e st op n vs output = λ r ordinal errors q.
     let k = last-halts e (withSizing z st) (d.push y e (withSizing z st)) (λ _. y) (push-halts-at e (withSizing z st) y) r ordinal errors q in
-    (k .0 ∙ update-keeps (e .section) false x (st .sizing) .begun, k .1)
+    (k .0 ∙ update-keeps (e .section) false x (st .sizing), k .1)
   where
     x : SemanticAction
     x = record { kind = ActionKind.Op op; number = n; inputs = vs; output = output }
@@ -140,18 +130,11 @@ pub no-operation : (x : SemanticAction) → operationOf (x .kind) ≡ none → p
 unfolding placesLabel andThen orElse
 no-operation x h = rw h
 
-module _ (s t : List ℕ) (e : Env) (front tail marks rest : List ℕ) (we : WordEnv) (lent : Lent e front tail rest) (holds : SizesHold s t (e .section)) (pointer-is : we .pointer ≡ pointerSize (e .section)) where
-  stands : (spare : ℕ) (st : State) → Stood (e .section) tail marks rest spare st → Stands tail marks rest st
-  stands spare st f = record { actions = f .actions; temporaries = f .temporaries; marked = f .marked; sizes = f .sizes }
+module _ (s t : List ℕ) (e : Env) (front tail rest : List ℕ) (we : WordEnv) (lent : Lent e front tail rest) (holds : SizesHold s t (e .section)) (pointer-is : we .pointer ≡ pointerSize (e .section)) where
+  stands : (spare : ℕ) (st : State) → Stood (e .section) tail rest spare st → Stands tail rest st
+  stands spare st f = record { actions = f .actions; temporaries = f .temporaries; sizes = f .sizes }
 
   -- a temporary
-
-  fresh-name : (ts : List Temporary) (t : Temporary) (i : ℕ) → t .name ≡ none → nameAt (ts ++ (t ∷ [])) i ≡ nameAt ts i
-  unfolding nameAt andThen
-  fresh-name [] t zero h = h
-  fresh-name [] t (suc i) h = refl
-  fresh-name (u ∷ ts) t zero h = refl
-  fresh-name (u ∷ ts) t (suc i) h = fresh-name ts t i h
 
   -- the states that follow, as the definition makes them
   abbrev added : (st : State) (size : Option ℕ) → State
@@ -165,18 +148,17 @@ module _ (s t : List ℕ) (e : Env) (front tail marks rest : List ℕ) (we : Wor
       go true q = let h : done (local Kind.PcodeTmp (length (tmps st))) (added st size) ≡ done v u = unfold require in q in cc
       go false q = let h : stopped tooManyTemporaries (st .sizing .begun) 0 ≡ done v u = unfold require in q in let z : _≡_ {A = ℕ} 0 1 = cc in absurd (omega arith)
 
-  add-refines : (spare : ℕ) (st : State) → Spare spare tail → Stood (e .section) tail marks rest spare st → (size : Option ℕ) → Small size
-      → Refines (e .section) front tail marks rest spare st encV (Sound (e .section)) (seenTmp (acts (e .section) front tail marks rest st) (addTmp (temps (e .section) front tail marks rest st) 65535 (orNone size) 0 (word (e .section) front tail marks rest st))) (d.addTmp none size e st)
+  add-refines : (spare : ℕ) (st : State) → Spare spare tail → Stood (e .section) tail rest spare st → (size : Option ℕ) → Small size
+      → Refines (e .section) front tail rest spare st encV (Sound (e .section)) (seenTmp (acts (e .section) front tail rest st) (addTmp (temps (e .section) front tail rest st) 65535 (orNone size) (word (e .section) front tail rest st))) (d.addTmp none size e st)
   add-refines spare st room f size h = record {
-    same = unnamed-is e st front tail marks rest lent (stands spare st f) size h;
+    same = unnamed-is e st front tail rest lent (stands spare st f) size h;
     goes = λ v u q.
-        let m = add-done e st front tail marks rest lent (stands spare st f) none size marks (unfold orNone orElse in omega arith) h (omega (arith, f .marked)) v u q in
+        let m = add-done e st front tail rest lent (stands spare st f) none size (unfold orNone orElse in omega arith) h v u q in
         let k = add-state st size v u q in (
           record {
             stood = record {
               actions = m .stands .actions;
               temporaries = m .stands .temporaries;
-              marked = m .stands .marked;
               sizes = m .stands .sizes;
               errors = rw (m .errors, m .actions) (f .errors);
               sound = rw (m .actions) (actions-more (e .section) (count st) (count u) (m .count) (st .actions) (f .sound));
@@ -185,7 +167,6 @@ module _ (s t : List ℕ) (e : Env) (front tail marks rest : List ℕ) (we : Wor
             };
             later = record {
               temporaries = m .count;
-              names = λ i. ap (λ (u : State). nameAt (tmps u) i) k ∙ fresh-name (tmps st) (record { name = none; size = size }) i refl;
               statements = ap (λ (u : State). u .statements) k;
               scope = ap (λ (u : State). u .scope) k;
               nextLabel = ap (λ (u : State). u .nextLabel) k;
@@ -201,23 +182,22 @@ module _ (s t : List ℕ) (e : Env) (front tail marks rest : List ℕ) (we : Wor
   }
 
   -- an action pushed behind a sizing that an operation's rule left
-  pub pushed-state : (spare more : ℕ) (st : State) → Stood (e .section) tail marks rest spare st → (x : SemanticAction) (z : Sizing) → SoundAction (e .section) (length (z .temporaries)) x → placesLabel x ≡ false → length (z .temporaries) ≡ count st → Each SoundTmp (z .temporaries) → Names (st .sizing) z → length (z .errors) ≤ more + 4 * length (st .actions) + 4
-      → (u : State) → u ≡ withAction x (withSizing z st) → 24 * length (u .actions) ≤ length tail → Reached (e .section) front tail marks rest more st u
-  pushed-state spare more st f x z sound plain same fit names few u q long =
+  pub pushed-state : (spare more : ℕ) (st : State) → Stood (e .section) tail rest spare st → (x : SemanticAction) (z : Sizing) → SoundAction (e .section) (length (z .temporaries)) x → placesLabel x ≡ false → length (z .temporaries) ≡ count st → Each SoundTmp (z .temporaries) → z .begun ≡ st .sizing .begun → length (z .errors) ≤ more + 4 * length (st .actions) + 4
+      → (u : State) → u ≡ withAction x (withSizing z st) → 24 * length (u .actions) ≤ length tail → Reached (e .section) front tail rest more st u
+  pushed-state spare more st f x z sound plain same fit begun few u q long =
       let n : length (st .actions ++ (x ∷ [])) ≡ length (st .actions) + 1 = length-append (st .actions) (x ∷ []) in
       let c : 24 * length (st .actions ++ (x ∷ [])) ≤ length tail = subst (λ (u : State). 24 * length (u .actions) ≤ length tail) q long in
-      subst (λ (w : State). Reached (e .section) front tail marks rest more st w) (sym q) (record {
+      subst (λ (w : State). Reached (e .section) front tail rest more st w) (sym q) (record {
         stood = record {
           actions = c;
           temporaries = rw same (f .temporaries);
-          marked = rw same (f .marked);
           sizes = fit;
           errors = omega arith;
           sound = each-last _ (st .actions) x (actions-more (e .section) (count st) (length (z .temporaries)) (omega arith) (st .actions) (f .sound)) sound;
           params = params-more (e .section) (count st) (length (z .temporaries)) (omega arith) (st .scope .params) (f .params);
           mapping = mapping-more (e .section) (count st) (length (z .temporaries)) (omega arith) (st .scope .mapping) (f .mapping);
         };
-        later = record { temporaries = omega arith; names = names .names; statements = refl; scope = refl; nextLabel = refl; export = refl; begun = names .begun; actions = omega arith; placed = placed-last (st .actions) x ∙ unlabelled };
+        later = record { temporaries = omega arith; statements = refl; scope = refl; nextLabel = refl; export = refl; begun = begun; actions = omega arith; placed = placed-last (st .actions) x ∙ unlabelled };
       })
     where
       unlabelled : labelsPlaced (st .actions) + (definition.if_then_else_ (placesLabel x) 1 0) ≡ labelsPlaced (st .actions)
@@ -225,7 +205,7 @@ module _ (s t : List ℕ) (e : Env) (front tail marks rest : List ℕ) (we : Wor
 
   -- an operation
 
-  module _ (spare : ℕ) (st : State) (room : Spare spare tail) (f : Stood (e .section) tail marks rest (suc spare) st) (op : Operation) (n : ℕ) (vs : List Value) (few : length vs ≤ 2) (output : Option Value)
+  module _ (spare : ℕ) (st : State) (room : Spare spare tail) (f : Stood (e .section) tail rest (suc spare) st) (op : Operation) (n : ℕ) (vs : List Value) (few : length vs ≤ 2) (output : Option Value)
       (sound : SoundAction (e .section) (count st) (record { kind = ActionKind.Op op; number = n; inputs = vs; output = output })) (operands : Operands (kindOf op) (record { kind = ActionKind.Op op; number = n; inputs = vs; output = output })) (plain : isOp Operation.PcodeLabel op ≡ false) where
     abbrev pushedAs : SemanticAction
     pushedAs = record { kind = ActionKind.Op op; number = n; inputs = vs; output = output }
@@ -234,22 +214,22 @@ module _ (s t : List ℕ) (e : Env) (front tail marks rest : List ℕ) (we : Wor
     errors-few = let a = f .errors in let b = f .actions in omega arith
 
     after : After (e .section) 3 pushedAs (st .sizing) (sizes.updateOperandSizes (e .section) false pushedAs (st .sizing) .0) (sizes.updateOperandSizes (e .section) false pushedAs (st .sizing) .1)
-    after = update-after e st front tail marks rest lent (stands (suc spare) st f) s t holds we pointer-is op n vs few output sound operands errors-few
+    after = update-after e st front tail rest lent (stands (suc spare) st f) s t holds we pointer-is op n vs few output sound operands errors-few
 
-    push-goes : (a : SemanticAction) (u : State) → d.pushOp op n vs output e st ≡ done a u → Reached (e .section) front tail marks rest spare st u × SoundAction (e .section) (count u) a
+    push-goes : (a : SemanticAction) (u : State) → d.pushOp op n vs output e st ≡ done a u → Reached (e .section) front tail rest spare st u × SoundAction (e .section) (count u) a
     push-goes a u q =
-        let k = push-op-done e st front tail marks rest lent (stands (suc spare) st f) s t holds we pointer-is op n vs few output sound operands errors-few a u q in
+        let k = push-op-done e st front tail rest lent (stands (suc spare) st f) s t holds we pointer-is op n vs few output sound operands errors-few a u q in
         let z = sizes.updateOperandSizes (e .section) false pushedAs (st .sizing) .1 in
         let w = after in (
           pushed-state (suc spare) spare st f (sizes.updateOperandSizes (e .section) false pushedAs (st .sizing) .0) z (w .action) (no-label _ op (w .kind) plain) (w .count) (w .temporaries) (update-keeps (e .section) false pushedAs (st .sizing)) (omega (arith, f .errors, w .errors)) u (k .1) (k .2 .actions),
           rw (k .0) (subst (λ (v : State). SoundAction (e .section) (count v) (sizes.updateOperandSizes (e .section) false pushedAs (st .sizing) .0)) (sym (k .1)) (w .action)),
         )
 
-  op-refines : (spare : ℕ) (st : State) → Spare spare tail → Stood (e .section) tail marks rest (suc spare) st → (op : Operation) (n : ℕ) (vs : List Value) (to : Value) → length vs ≤ 2 → Applies op vs → Each (Sound (e .section) (count st)) vs → Sound (e .section) (count st) to
-      → Refines (e .section) front tail marks rest spare st encV (Sound (e .section)) (seenRead (opTo s t (acts (e .section) front tail marks rest st) (temps (e .section) front tail marks rest st) we (operationNumber op) n (length vs) (encV to) (firstOf vs) (secondOf vs) (word (e .section) front tail marks rest st))) (d.op op n vs (some to) e st)
+  op-refines : (spare : ℕ) (st : State) → Spare spare tail → Stood (e .section) tail rest (suc spare) st → (op : Operation) (n : ℕ) (vs : List Value) (to : Value) → length vs ≤ 2 → Applies op vs → Each (Sound (e .section) (count st)) vs → Sound (e .section) (count st) to
+      → Refines (e .section) front tail rest spare st encV (Sound (e .section)) (seenRead (opTo s t (acts (e .section) front tail rest st) (temps (e .section) front tail rest st) we (operationNumber op) n (length vs) (encV to) (firstOf vs) (secondOf vs) (word (e .section) front tail rest st))) (d.op op n vs (some to) e st)
   unfolding d.op d.outputOr on
   op-refines spare st room f op n vs to few ok h g = record {
-    same = op-to-is e st front tail marks rest lent (stands (suc spare) st f) s t holds we pointer-is op n vs few to (record { inputs = h; output = g }) (ok n to .0) (errors-few spare st room f op n vs few (some to) (record { inputs = h; output = g }) (ok n to .0) (ok n to .1));
+    same = op-to-is e st front tail rest lent (stands (suc spare) st f) s t holds we pointer-is op n vs few to (record { inputs = h; output = g }) (ok n to .0) (errors-few spare st room f op n vs few (some to) (record { inputs = h; output = g }) (ok n to .0) (ok n to .1));
     goes = λ v u q. go (d.pushOp op n vs (some to) e st) (push-goes spare st room f op n vs few (some to) (record { inputs = h; output = g }) (ok n to .0) (ok n to .1)) v u q;
     stops = last-halts e st (d.pushOp op n vs (some to) e st) (λ a. orElse to (a .output)) (push-op-halts e st op n vs (some to));
   }
@@ -261,8 +241,8 @@ module _ (s t : List ℕ) (e : Env) (front tail marks rest : List ℕ) (we : Wor
           pick none m = unfold orElse in sound-more (e .section) (count st) (count u) l to g
           pick (some v) m = unfold orElse in m
 
-      go : (o : Outcome SemanticAction) → ((a : SemanticAction) (u : State) → o ≡ done a u → Reached (e .section) front tail marks rest spare st u × SoundAction (e .section) (count u) a)
-          → (v : Value) (u : State) → on e o (λ a. λ e1 st1. done (orElse to (a .output)) st1) ≡ done v u → Reached (e .section) front tail marks rest spare st u × Sound (e .section) (count u) v
+      go : (o : Outcome SemanticAction) → ((a : SemanticAction) (u : State) → o ≡ done a u → Reached (e .section) front tail rest spare st u × SoundAction (e .section) (count u) a)
+          → (v : Value) (u : State) → on e o (λ a. λ e1 st1. done (orElse to (a .output)) st1) ≡ done v u → Reached (e .section) front tail rest spare st u × Sound (e .section) (count u) v
       go (done a w) k v u q =
           let i : orElse to (a .output) ≡ v = cc in
           let j : w ≡ u = cc in
@@ -270,15 +250,15 @@ module _ (s t : List ℕ) (e : Env) (front tail marks rest : List ℕ) (we : Wor
           rw (← i, ← j) (m .0, known w (m .0 .later .temporaries) a (m .1))
       go (stopped r ordinal errors) k v u q = let z : _≡_ {A = ℕ} 0 1 = cc in absurd (omega arith)
 
-  arg-refines : (spare : ℕ) (st : State) → Spare spare tail → Stood (e .section) tail marks rest spare st → (n : ℕ) (v : Value) → Sound (e .section) (count st) v
-      → Refines (e .section) front tail marks rest spare st (λ _. tt {0}) (λ n (_ : Unit {0}). Unit {0}) (seenPushed (pushOp s t (acts (e .section) front tail marks rest st) (temps (e .section) front tail marks rest st) we 64 n 1 noOutput (encV v) absent (word (e .section) front tail marks rest st))) (d.opNoOutput Operation.Arg n (v ∷ []) e st)
+  arg-refines : (spare : ℕ) (st : State) → Spare spare tail → Stood (e .section) tail rest spare st → (n : ℕ) (v : Value) → Sound (e .section) (count st) v
+      → Refines (e .section) front tail rest spare st (λ _. tt {0}) (λ n (_ : Unit {0}). Unit {0}) (seenPushed (pushOp s t (acts (e .section) front tail rest st) (temps (e .section) front tail rest st) we 64 n 1 noOutput (encV v) absent (word (e .section) front tail rest st))) (d.opNoOutput Operation.Arg n (v ∷ []) e st)
   unfolding d.opNoOutput operationNumber outputOf firstOf secondOf kindOf
   arg-refines spare st room f n v g =
       let k : SoundAction (e .section) (count st) (record { kind = ActionKind.Op Operation.Arg; number = n; inputs = v ∷ []; output = none }) = record { inputs = (g, tt); output = tt } in
       let w = stood-more (suc spare) (omega arith) f in
-      refines-map (e .section) front tail marks rest spare e st (λ (_ : SemanticAction). tt {0}) (λ m a. SoundAction (e .section) m a) (λ _. tt {0}) (λ n (_ : Unit {0}). Unit {0}) (λ _. tt) _ (d.pushOp Operation.Arg n (v ∷ []) none e st)
+      refines-map (e .section) front tail rest spare e st (λ (_ : SemanticAction). tt {0}) (λ m a. SoundAction (e .section) m a) (λ _. tt {0}) (λ n (_ : Unit {0}). Unit {0}) (λ _. tt) _ (d.pushOp Operation.Arg n (v ∷ []) none e st)
       (record {
-        same = push-op-is e st front tail marks rest lent (stands (suc spare) st w) s t holds we pointer-is Operation.Arg n (v ∷ []) (omega arith) none k tt (errors-few spare st room w Operation.Arg n (v ∷ []) (omega arith) none k tt refl);
+        same = push-op-is e st front tail rest lent (stands (suc spare) st w) s t holds we pointer-is Operation.Arg n (v ∷ []) (omega arith) none k tt (errors-few spare st room w Operation.Arg n (v ∷ []) (omega arith) none k tt refl);
         goes = push-goes spare st room w Operation.Arg n (v ∷ []) (omega arith) none k tt refl;
         stops = push-op-halts e st Operation.Arg n (v ∷ []) none;
       }) (λ a. refl) (λ m a h. tt)
@@ -295,18 +275,18 @@ module _ (s t : List ℕ) (e : Env) (front tail marks rest : List ℕ) (we : Wor
           (omega (arith, lent .builds, lent .actionRoom), cc)
       go false p q = let h : stopped listFull (st .sizing .begun) 0 ≡ done (tt {0}) u = unfold require in q in let z : _≡_ {A = ℕ} 0 1 = cc in absurd (omega arith)
 
-  push-refines : (spare : ℕ) (st : State) → Spare spare tail → Stood (e .section) tail marks rest (4 + spare) st → (x : SemanticAction) → length (x .inputs) ≤ 2 → SoundAction (e .section) (count st) x → placesLabel x ≡ false
-      → Refines (e .section) front tail marks rest spare st (λ _. tt {0}) (λ n (_ : Unit {0}). Unit {0}) (seenPush (temps (e .section) front tail marks rest st) (push (acts (e .section) front tail marks rest st) (actionKindNumber (x .kind)) (operationWord (operationOf (x .kind))) (x .number) (length (x .inputs)) (outputOf (operationOf (x .kind)) (x .output)) (firstOf (x .inputs)) (secondOf (x .inputs)) (word (e .section) front tail marks rest st))) (d.push x e st)
+  push-refines : (spare : ℕ) (st : State) → Spare spare tail → Stood (e .section) tail rest (4 + spare) st → (x : SemanticAction) → length (x .inputs) ≤ 2 → SoundAction (e .section) (count st) x → placesLabel x ≡ false
+      → Refines (e .section) front tail rest spare st (λ _. tt {0}) (λ n (_ : Unit {0}). Unit {0}) (seenPush (temps (e .section) front tail rest st) (push (acts (e .section) front tail rest st) (actionKindNumber (x .kind)) (operationWord (operationOf (x .kind))) (x .number) (length (x .inputs)) (outputOf (operationOf (x .kind)) (x .output)) (firstOf (x .inputs)) (secondOf (x .inputs)) (word (e .section) front tail rest st))) (d.push x e st)
   push-refines spare st room f x few k plain = record {
-    same = push-is e st front tail marks rest lent (stands (4 + spare) st f) (count st) x few k;
+    same = push-is e st front tail rest lent (stands (4 + spare) st f) (count st) x few k;
     goes = λ a u q.
         let h = push-done st x u q in
         let n : length (st .actions ++ (x ∷ [])) ≡ length (st .actions) + 1 = length-append (st .actions) (x ∷ []) in
         let c : 24 * length (st .actions ++ (x ∷ [])) ≤ length tail = omega (arith, h .0) in
-        (pushed-state (4 + spare) spare st f x (st .sizing) k plain refl (f .sizes) (names-refl (st .sizing)) (omega (arith, f .errors)) u (h .1) (subst (λ (w : State). 24 * length (w .actions) ≤ length tail) (sym (h .1)) c), tt);
+        (pushed-state (4 + spare) spare st f x (st .sizing) k plain refl (f .sizes) refl (omega (arith, f .errors)) u (h .1) (subst (λ (w : State). 24 * length (w .actions) ≤ length tail) (sym (h .1)) c), tt);
     stops = push-halts-at e st x;
   }
 
   -- all that expressions need of the level below
-  pub level-below : Below s t e front tail marks rest we
+  pub level-below : Below s t e front tail rest we
   level-below = record { sizes = holds; pointer = pointer-is; adds = add-refines; ops = op-refines; args = arg-refines; pushes = push-refines }

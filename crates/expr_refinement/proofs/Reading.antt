@@ -22,11 +22,13 @@ use Rattle.definition.specs.Expressions as d
 use Rattle.definition.specs.ActionList.{orNone, actionKindNumber, operationWord, placesLabel}
 use Rattle.definition.proofs.Openers.{base-opens}
 use Rattle.list_values.specs.declared.value.Value.{Value as WordValue}
+use Rattle.list_values.specs.declared.value.Slice.{Slice}
 use Rattle.list_pushes.specs.declared.push.State.{State as WordState}
 use Rattle.list_pushes.specs.declared.push.Env.{Env as WordEnv}
 use Rattle.list_pushes.specs.declared.push.Read.{Read}
 use Rattle.list_pushes.specs.declared.push.Pushed.{Pushed}
 use Rattle.list_values.specs.Base.{Listed, listed}
+use Rattle.list_values.specs.Values as words
 use Rattle.list_values.specs.Values.{absent}
 use Rattle.list_values.specs.Sizes.{sizeOf}
 use Rattle.list_pushes.specs.Pushes.{ReadOut, read, onRead, outputOr, push, opTo, op}
@@ -36,9 +38,9 @@ use Rattle.list_refinement.proofs.RuleKinds.{kindOf}
 use Rattle.list_refinement.proofs.Lists.{firstOf, secondOf, outputOf}
 use Rattle.list_refinement.proofs.Seen.{yes, no, seenRead, seenTmp, seenPush}
 use Rattle.expr_reading.specs.declared.read.Stated.{Stated}
-use Rattle.expr_reading.specs.Reading.{neededBytes, setStated, takeStated, copyTo, byteAligned, sliced, shiftTo, shiftAndMask, partOf, readSlice, pushedTo, pushedOut, readAddress, loadTo, load, loadRegisterTo, loadRegister, readValue, readOperand}
+use Rattle.expr_reading.specs.Reading.{neededBytes, setStated, takeStated, copyTo, byteAligned, sliceRead, sliced, shiftTo, shiftAndMask, partOf, readSlice, pushedTo, pushedOut, readAddress, loadTo, load, loadRegisterTo, loadRegister, readValue, readOperand}
 use Rattle.expr_refinement.proofs.Encodings.{encX, Applies, Small, SoundX, sound-more, each-more, tmps, count, Stood, stood-more}
-use Rattle.expr_refinement.proofs.Answers.{bind, bind-read, bind-tmp, bind-require, acts, temps, word, Refines, refines-done}
+use Rattle.expr_refinement.proofs.Answers.{bind, bind-read, bind-tmp, bind-require, acts, temps, word, Refines, refines-done, refines-stopped}
 use Rattle.expr_refinement.proofs.Below.{Spare, Below, seenStated}
 use Rattle.expr_refinement.proofs.Stated.{set-stated, take-stated}
 
@@ -71,45 +73,45 @@ option-more : (sec : Section) (n k : ℕ) → n ≤ k → (to : Option Value) �
 option-more sec n k l none f = tt
 option-more sec n k l (some v) f = sound-more sec n k l v f
 
-module _ (s t : List ℕ) (e : Env) (front tail marks rest : List ℕ) (we : WordEnv) (below : Below s t e front tail marks rest we) (spare : ℕ) (room : Spare spare tail) where
+module _ (s t : List ℕ) (e : Env) (front tail rest : List ℕ) (we : WordEnv) (below : Below s t e front tail rest we) (spare : ℕ) (room : Spare spare tail) where
   abbrev sec : Section
   sec = e .section
 
   abbrev A : State → List ℕ
-  A st = acts (e .section) front tail marks rest st
+  A st = acts (e .section) front tail rest st
 
   abbrev M : State → List ℕ
-  M st = temps (e .section) front tail marks rest st
+  M st = temps (e .section) front tail rest st
 
   abbrev W : State → WordState
-  W st = word (e .section) front tail marks rest st
+  W st = word (e .section) front tail rest st
 
   abbrev pub Stands : State → Type 0
-  Stands st = Stood (e .section) tail marks rest spare st
+  Stands st = Stood (e .section) tail rest spare st
 
   -- an answer with a value
   abbrev pub Reads : State → ReadOut → Outcome Value → Type 0
-  Reads st x o = Refines (e .section) front tail marks rest spare st encV (Sound (e .section)) (seenRead x) o
+  Reads st x o = Refines (e .section) front tail rest spare st encV (Sound (e .section)) (seenRead x) o
 
   pub copy-to : (st : State) → Stands st → (to : Option Value) (v : Value) → EachOption (Sound (e .section) (count st)) to → Sound (e .section) (count st) v
       → Reads st (copyTo s t (A st) (M st) we (isSome to) (toOf to) (encV v) (W st)) (d.copyTo to v e st)
   unfolding copyTo if_then_else_ isSome toOf d.copyTo seenRead operationNumber firstOf secondOf
-  copy-to st f none v g h = refines-done (e .section) front tail marks rest spare st encV (Sound (e .section)) v (encV v) f h refl
+  copy-to st f none v g h = refines-done (e .section) front tail rest spare st encV (Sound (e .section)) v (encV v) f h refl
   copy-to st f (some to) v g h = below .ops spare st room (stood-more (suc spare) (omega arith) f) Operation.Copy 0 (v ∷ []) to (omega arith) (copy-applies v) (h, tt) g
 
   -- the output given, else a fresh temporary
   output : (st : State) → Stands st → (size : Option ℕ) (to : Option Value) → Small size → EachOption (Sound (e .section) (count st)) to
-      → Refines (e .section) front tail marks rest spare st encV (Sound (e .section)) (seenTmp (A st) (outputOr (M st) (isSome to) (toOf to) (orNone size) (W st))) (w.outputOr size to e st)
+      → Refines (e .section) front tail rest spare st encV (Sound (e .section)) (seenTmp (A st) (outputOr (M st) (isSome to) (toOf to) (orNone size) (W st))) (w.outputOr size to e st)
   unfolding outputOr if_then_else_ isSome toOf w.outputOr
   output st f size none h g = below .adds spare st room f size h
-  output st f size (some v) h g = unfold seenTmp in refines-done (e .section) front tail marks rest spare st encV (Sound (e .section)) v (encV v) f g refl
+  output st f size (some v) h g = unfold seenTmp in refines-done (e .section) front tail rest spare st encV (Sound (e .section)) v (encV v) f g refl
 
   -- an operation
   pub operation : (st : State) → Stands st → (code : Operation) (n : ℕ) (vs : List Value) (to : Option Value) → length vs ≤ 2 → Applies code vs → Each (Sound (e .section) (count st)) vs → EachOption (Sound (e .section) (count st)) to
       → Reads st (op s t (A st) (M st) we (operationNumber code) n (length vs) (isSome to) (toOf to) (firstOf vs) (secondOf vs) (W st)) (w.op code n vs to e st)
   unfolding op
   operation st f code n vs to few ok h g =
-      rw (split to) (bind-tmp (e .section) front tail marks rest spare spare e st (Sound (e .section)) seenRead encV (Sound (e .section)) (λ v. w.op code n vs (some v)) encV (A st)
+      rw (split to) (bind-tmp (e .section) front tail rest spare spare e st (Sound (e .section)) seenRead encV (Sound (e .section)) (λ v. w.op code n vs (some v)) encV (A st)
       (outputOr (M st) (isSome to) (toOf to) 65535 (W st)) (w.outputOr none to e st)
       (λ v st1 a m. opTo s t a m we (operationNumber code) n (length vs) v (firstOf vs) (secondOf vs) st1) _
       (unfold orNone orElse in output st f none to (unfold orElse in omega arith) g) (λ k m. unfold seenRead in refl)
@@ -131,7 +133,7 @@ module _ (s t : List ℕ) (e : Env) (front tail marks rest : List ℕ) (we : Wor
       → Reads st (shiftTo s t (A st) (M st) we (encV v) (encV tmp) from bits (W st)) (on e (w.op Operation.IntRight 0 (v ∷ constant from ∷ []) (some tmp) e st) (masking tmp bits))
   unfolding shiftTo operationNumber firstOf secondOf kindNumber orNone orElse
   shift-to st f v tmp from bits h g =
-      bind-read (e .section) front tail marks rest spare spare e st (Sound (e .section)) seenRead encV (Sound (e .section)) (masking tmp bits) encV _ _ _ _
+      bind-read (e .section) front tail rest spare spare e st (Sound (e .section)) seenRead encV (Sound (e .section)) (masking tmp bits) encV _ _ _ _
       (below .ops spare st room (stood-more (suc spare) (omega arith) f) Operation.IntRight 0 (v ∷ constant from ∷ []) tmp (omega arith) (right-applies v (constant from)) (h, (constant-sound (e .section) (count st) from, tt)) g)
       (λ n a m. unfold seenRead in refl)
       λ u st1 r p.
@@ -142,18 +144,18 @@ module _ (s t : List ℕ) (e : Env) (front tail marks rest : List ℕ) (we : Wor
       → Reads st (shiftAndMask s t (A st) (M st) we (encV v) from bits (W st)) (d.shiftAndMask v from bits e st)
   unfolding shiftAndMask d.shiftAndMask on
   shift-and-mask st f v from bits h l =
-      rw (size-is s t (e .section) (below .sizes) marks rest (tmps st) (f .sizes) v h)
-      (bind-tmp (e .section) front tail marks rest spare spare e st (Sound (e .section)) seenRead encV (Sound (e .section)) _ encV (A st) _ _
+      rw (size-is s t (e .section) (below .sizes) rest (tmps st) (f .sizes) v h)
+      (bind-tmp (e .section) front tail rest spare spare e st (Sound (e .section)) seenRead encV (Sound (e .section)) _ encV (A st) _ _
       (λ tmp st1 a m. onRead (shiftTo s t a m we (encV v) tmp from bits st1)
       (λ _ st2 b u. read (Read.Value (record { kind = tmp .kind; number = tmp .number; offset = tmp .offset; size = neededBytes bits }) st2) b u)
       (λ n b u. read (Read.No n) b u)) _
-      (below .adds spare st room f (sizes.sizeOf (e .section) (tmps st) v) (known-small s t (e .section) (below .sizes) marks rest (tmps st) (f .sizes) v h)) (λ n m. unfold seenRead in refl)
+      (below .adds spare st room f (sizes.sizeOf (e .section) (tmps st) v) (known-small s t (e .section) (below .sizes) rest (tmps st) (f .sizes) v h)) (λ n m. unfold seenRead in refl)
       λ tmp st1 r p.
       rw (← on-assoc (w.op Operation.IntRight 0 (v ∷ constant from ∷ []) (some tmp) e st1) (masking tmp bits) (λ _. λ e2 st2. done (truncate (neededBytes bits) tmp) st2))
-      (bind-read (e .section) front tail marks rest spare spare e st1 (Sound (e .section)) seenRead encV (Sound (e .section)) (λ _. λ e2 st2. done (truncate (neededBytes bits) tmp) st2) encV _ _ _ _
+      (bind-read (e .section) front tail rest spare spare e st1 (Sound (e .section)) seenRead encV (Sound (e .section)) (λ _. λ e2 st2. done (truncate (neededBytes bits) tmp) st2) encV _ _ _ _
       (shift-to st1 (r .stood) v tmp from bits (sound-more (e .section) (count st) (count st1) (r .later .temporaries) v h) p) (λ n a m. unfold seenRead in refl)
       λ u st2 q k. let g = sound-more (e .section) (count st1) (count st2) (q .later .temporaries) tmp p in
-      unfold seenRead in refines-done (e .section) front tail marks rest spare st2 encV (Sound (e .section)) (truncate (neededBytes bits) tmp) _ (q .stood) (record { number = g .number; offset = g .offset; size = unfold orElse in omega arith }) (unfold orNone orElse in refl)))
+      unfold seenRead in refines-done (e .section) front tail rest spare st2 encV (Sound (e .section)) (truncate (neededBytes bits) tmp) _ (q .stood) (record { number = g .number; offset = g .offset; size = unfold orElse in omega arith }) (unfold orNone orElse in refl)))
 
   aligned-is : (from bits : ℕ) → byteAligned from bits ≡ d.byteAligned from bits
   unfolding byteAligned d.byteAligned if_then_else_
@@ -165,18 +167,22 @@ module _ (s t : List ℕ) (e : Env) (front tail marks rest : List ℕ) (we : Wor
 
   slice : (st : State) → Stands st → (v : Value) (more size : ℕ) → Sound (e .section) (count st) v → size < 65535
       → Reads st (read (sliced (encV v) more size (W st)) (A st) (M st)) (w.sliced more size v e st)
-  unfolding sliced w.sliced
-  slice st f v more size h l =
-      bind-require (e .section) front tail marks rest spare e st (λ (r : Read). seenRead (read r (A st) (M st))) encV (Sound (e .section)) (leb (v .offset + more) 65535) offsetTooFar _ _ _
-      (unfold seenRead refusalNumber in refl)
-      λ q. let k = leb-true (v .offset + more) 65535 q in
-      unfold seenRead in refines-done (e .section) front tail marks rest spare st encV (Sound (e .section)) (sliceBytes more size v) _ f (record { number = h .number; offset = k; size = unfold orElse in l }) (unfold orNone orElse in refl)
+  unfolding sliced words.sliceBytes w.sliced
+  slice st f v more size h l = go (leb (v .offset + more) 65535) refl
+    where
+      go : (b : Bool) → leb (v .offset + more) 65535 ≡ b
+          → Reads st (read (sliceRead (if b then Slice.Is (record { kind = kindNumber (v .kind); number = v .number; offset = v .offset + more; size = size }) else Slice.No 42) (W st)) (A st) (M st))
+          (on e (w.require b offsetTooFar e st) λ _. λ e1 st1. done (sliceBytes more size v) st1)
+      go true q = unfold if_then_else_ sliceRead seenRead w.require on in
+          refines-done (e .section) front tail rest spare st encV (Sound (e .section)) (sliceBytes more size v) _ f (record { number = h .number; offset = leb-true (v .offset + more) 65535 q; size = unfold orElse in l }) (unfold orNone orElse in refl)
+      go false q = unfold if_then_else_ sliceRead seenRead w.require on in
+          refines-stopped (e .section) front tail rest spare st encV (Sound (e .section)) 42 offsetTooFar (unfold refusalNumber in refl)
 
   pub read-slice : (st : State) → Stands st → (v : Value) (from bits : ℕ) (to : Option Value) → Sound (e .section) (count st) v → bits ≤ 16384 → EachOption (Sound (e .section) (count st)) to
       → Reads st (readSlice s t (A st) (M st) we (encV v) from bits (isSome to) (toOf to) (W st)) (d.readSlice v from bits to e st)
   unfolding readSlice d.readSlice partOf
   read-slice st f v from bits to h l g =
-      bind-read (e .section) front tail marks rest spare spare e st (Sound (e .section)) seenRead encV (Sound (e .section)) (d.copyTo to) encV _ _ _ _
+      bind-read (e .section) front tail rest spare spare e st (Sound (e .section)) seenRead encV (Sound (e .section)) (d.copyTo to) encV _ _ _ _
       (rw (aligned-is from bits) (go (d.byteAligned from bits))) (λ n a m. unfold seenRead in refl)
       λ u st1 r p. copy-to st1 (r .stood) to u (option-more (e .section) (count st) (count st1) (r .later .temporaries) to g) p
     where
@@ -187,12 +193,12 @@ module _ (s t : List ℕ) (e : Env) (front tail marks rest : List ℕ) (we : Wor
 
   -- an action pushed, and the output that it was given
   pushed-out : (from : State) (a m : List ℕ) (kind n : ℕ) (x : WordValue) (wst : WordState) (o : Outcome (Unit {0})) (v : Value)
-      → Refines (e .section) front tail marks rest spare from (λ _. tt {0}) (λ n (_ : Unit {0}). Unit {0}) (seenPush m (push a kind 0 n 1 (encV v) x absent wst)) o → Sound (e .section) (count from) v
+      → Refines (e .section) front tail rest spare from (λ _. tt {0}) (λ n (_ : Unit {0}). Unit {0}) (seenPush m (push a kind 0 n 1 (encV v) x absent wst)) o → Sound (e .section) (count from) v
       → Reads from (pushedOut (push a kind 0 n 1 (encV v) x absent wst) (encV v) m) (on e o (λ _. λ e1 st1. done v st1))
   pushed-out from a m kind n x wst o v r g =
-      bind (e .section) front tail marks rest spare spare e from (λ _. tt {0}) (λ n (_ : Unit {0}). Unit {0}) seenRead encV (Sound (e .section)) (λ _. λ e1 st1. done v st1)
+      bind (e .section) front tail rest spare spare e from (λ _. tt {0}) (λ n (_ : Unit {0}). Unit {0}) seenRead encV (Sound (e .section)) (λ _. λ e1 st1. done v st1)
       (seenPush m (push a kind 0 n 1 (encV v) x absent wst)) o (pushedOut (push a kind 0 n 1 (encV v) x absent wst) (encV v) m) (λ _ st1 b u. read (Read.Value (encV v) st1) b u) r
-      (λ _ st1 q p. unfold seenRead in refines-done (e .section) front tail marks rest spare st1 encV (Sound (e .section)) v (encV v) (q .stood) (sound-more (e .section) (count from) (count st1) (q .later .temporaries) v g) refl)
+      (λ _ st1 q p. unfold seenRead in refines-done (e .section) front tail rest spare st1 encV (Sound (e .section)) v (encV v) (q .stood) (sound-more (e .section) (count from) (count st1) (q .later .temporaries) v g) refl)
       (go (push a kind 0 n 1 (encV v) x absent wst)) (stop (push a kind 0 n 1 (encV v) x absent wst))
     where
       go : (y : Listed Pushed) (z : Unit {0}) (st1 : WordState) (b u : List ℕ) → seenPush m y ≡ yes z st1 b u → seenRead (pushedOut y (encV v) m) ≡ seenRead (read (Read.Value (encV v) st1) b u)
@@ -207,8 +213,8 @@ module _ (s t : List ℕ) (e : Env) (front tail marks rest : List ℕ) (we : Wor
       → Reads st (readAddress (A st) (M st) (encV base) (orNone size) (isSome to) (toOf to) (W st)) (d.readValue (ExprValue.AddressOf base size) to e st)
   unfolding readAddress d.readValue
   read-address st f base size to h l g =
-      bind-require (e .section) front tail marks rest spare e st seenRead encV (Sound (e .section)) (eqb (base .offset) 0) addressOfOffset _ _ _ (unfold seenRead refusalNumber in refl)
-      λ q. bind-tmp (e .section) front tail marks rest spare spare e st (Sound (e .section)) seenRead encV (Sound (e .section)) _ encV (A st) _ _
+      bind-require (e .section) front tail rest spare e st seenRead encV (Sound (e .section)) (eqb (base .offset) 0) addressOfOffset _ _ _ (unfold seenRead refusalNumber in refl)
+      λ q. bind-tmp (e .section) front tail rest spare spare e st (Sound (e .section)) seenRead encV (Sound (e .section)) _ encV (A st) _ _
       (λ v st1 a m. pushedOut (push a 1 0 0 1 v (record { kind = kindNumber (base .kind); number = base .number; offset = 0; size = 65535 }) absent st1) v m) _
       (output st f size to l g) (λ n m. unfold seenRead in refl)
       λ v st1 r p.
@@ -222,14 +228,14 @@ module _ (s t : List ℕ) (e : Env) (front tail marks rest : List ℕ) (we : Wor
       → Reads st (load s t (A st) (M st) we (encV pointer) size (isSome to) (toOf to) (W st)) (d.readValue (ExprValue.RamRef pointer size) to e st)
   unfolding load d.readValue
   read-ram st f pointer size to h l g =
-      bind-tmp (e .section) front tail marks rest spare spare e st (Sound (e .section)) seenRead encV (Sound (e .section)) _ encV (A st) _ _
+      bind-tmp (e .section) front tail rest spare spare e st (Sound (e .section)) seenRead encV (Sound (e .section)) _ encV (A st) _ _
       (λ v st1 a m. loadTo s t a we (encV pointer) (takeStated s t m v size st1)) _
       (unfold orNone orElse in output st f none to (unfold orElse in omega arith) g) (λ n m. unfold seenRead in refl)
       λ v st1 r p.
-      bind (e .section) front tail marks rest (suc spare) spare e st1 encV (Sound (e .section)) seenRead encV (Sound (e .section)) (λ out. w.op Operation.Load 0 (pointer ∷ []) (some out))
+      bind (e .section) front tail rest (suc spare) spare e st1 encV (Sound (e .section)) seenRead encV (Sound (e .section)) (λ out. w.op Operation.Load 0 (pointer ∷ []) (some out))
       (seenStated (A st1) (takeStated s t (M st1) (encV v) size (W st1))) (d.takeStated size v e st1) (loadTo s t (A st1) we (encV pointer) (takeStated s t (M st1) (encV v) size (W st1)))
       (λ u st2 a m. opTo s t a m we 58 0 1 u (encV pointer) absent st2)
-      (take-stated s t e front tail marks rest (below .sizes) spare room st1 (r .stood) size v l p)
+      (take-stated s t e front tail rest (below .sizes) spare room st1 (r .stood) size v l p)
       (λ u st2 q k. let j = sound-more (e .section) (count st) (count st2) (omega (arith, r .later .temporaries, q .later .temporaries)) pointer h in
       unfold operationNumber firstOf secondOf in below .ops spare st2 room (q .stood) Operation.Load 0 (pointer ∷ []) u (omega arith) (load-applies pointer) (j, tt) k)
       (go (A st1) (takeStated s t (M st1) (encV v) size (W st1))) (stop (A st1) (takeStated s t (M st1) (encV v) size (W st1)))
@@ -247,14 +253,14 @@ module _ (s t : List ℕ) (e : Env) (front tail marks rest : List ℕ) (we : Wor
       → Reads st (loadRegister s t (A st) (M st) (encV pointer) size (isSome to) (toOf to) (W st)) (d.readValue (ExprValue.RegisterRef pointer size) to e st)
   unfolding loadRegister d.readValue
   read-register st f pointer size to h l g =
-      bind-tmp (e .section) front tail marks rest spare spare e st (Sound (e .section)) seenRead encV (Sound (e .section)) _ encV (A st) _ _
+      bind-tmp (e .section) front tail rest spare spare e st (Sound (e .section)) seenRead encV (Sound (e .section)) _ encV (A st) _ _
       (λ v st1 a m. loadRegisterTo a (encV pointer) size (setStated s t m v size st1)) _
       (unfold orNone orElse in output st f (some size) to l g) (λ n m. unfold seenRead in refl)
       λ v st1 r p.
-      bind (e .section) front tail marks rest (suc spare) spare e st1 encV (Sound (e .section)) seenRead encV (Sound (e .section)) (λ out. λ e2 st2. on e2 (w.push (loading pointer size out) e2 st2) (λ _. λ e3 st3. done out st3))
+      bind (e .section) front tail rest (suc spare) spare e st1 encV (Sound (e .section)) seenRead encV (Sound (e .section)) (λ out. λ e2 st2. on e2 (w.push (loading pointer size out) e2 st2) (λ _. λ e3 st3. done out st3))
       (seenStated (A st1) (setStated s t (M st1) (encV v) size (W st1))) (d.setStated size v e st1) (loadRegisterTo (A st1) (encV pointer) size (setStated s t (M st1) (encV v) size (W st1)))
       (λ u st2 a m. pushedOut (push a 2 0 size 1 u (encV pointer) absent st2) u m)
-      (set-stated s t e front tail marks rest (below .sizes) spare room st1 (r .stood) size v l p)
+      (set-stated s t e front tail rest (below .sizes) spare room st1 (r .stood) size v l p)
       (λ u st2 q k. let j = sound-more (e .section) (count st) (count st2) (omega (arith, r .later .temporaries, q .later .temporaries)) pointer h in
       pushed-out st2 (A st2) (M st2) 2 size (encV pointer) (W st2) (w.push (loading pointer size u) e st2) u
       (unfold actionKindNumber operationWord operationOf outputOf firstOf secondOf in

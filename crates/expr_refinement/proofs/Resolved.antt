@@ -23,15 +23,15 @@ use Rattle.expr_refinement.proofs.Scopes.{Scoped, BitRangesFit}
 use Rattle.expr_refinement.proofs.Pushing.{level-below}
 use Rattle.expr_refinement.proofs.Expressions.{resolve-expr}
 
-module _ (s t : List ℕ) (e : Env) (p front tail marks rest : List ℕ) (we : WordEnv) (lent : Lent e front tail rest) (sizes : SizesHold s t (e .section)) (pointer-is : we .pointer ≡ pointerSize (e .section))
+module _ (s t : List ℕ) (e : Env) (p front tail rest : List ℕ) (we : WordEnv) (lent : Lent e front tail rest) (sizes : SizesHold s t (e .section)) (pointer-is : we .pointer ≡ pointerSize (e .section))
     (holds : Holds s t (e .section)) (ranges : BitRangesFit (e .section)) (spare : ℕ) (room : Spare spare tail) (short : length s ≤ 65280)
     (deep : ℕ) (shallow : deep ≤ 32) (pos : ℕ) (x : PcodeExpr) (next : ℕ) (reads : exprWithin (le16 s 2) deep (drop pos s) ≡ parsed x (drop next s)) (inside : next ≤ length s)
-    (st : State) (stood : Stood (e .section) tail marks rest spare st) (scoped : Scoped s t e p front tail marks rest we st) where
+    (st : State) (stood : Stood (e .section) tail rest spare st) (scoped : Scoped t p we st) where
   -- with what holds of the state and the value that it ends with
-  pub expression-refines : Refines (e .section) front tail marks rest spare st (λ (x : ExprValue). (encX x, next)) (SoundX (e .section))
-      (seenExpr (resolveExpr deep s t p we pos (actionsIn front tail (st .actions)) (temporariesIn marks rest (st .sizing .temporaries)) (encS (length front) st))) (d.resolveExpr x e st)
-  expression-refines = resolve-expr s t e p front tail marks rest we (level-below s t e front tail marks rest we lent sizes pointer-is) holds ranges spare room short deep shallow pos x next reads inside st stood scoped
+  pub expression-refines : Refines (e .section) front tail rest spare st (λ (x : ExprValue). (encX x, next)) (SoundX (e .section))
+      (seenExpr (resolveExpr deep s t p we pos (actionsIn front tail (st .actions)) (temporariesIn rest (st .sizing .temporaries)) (encS (length front) st))) (d.resolveExpr x e st)
+  expression-refines = resolve-expr s t e p front tail rest we (level-below s t e front tail rest we lent sizes pointer-is) holds ranges spare room short deep shallow pos x next reads inside st stood scoped
 
-  pub expression-is : seenExpr (resolveExpr deep s t p we pos (actionsIn front tail (st .actions)) (temporariesIn marks rest (st .sizing .temporaries)) (encS (length front) st))
-      ≡ outcome front tail marks rest (λ (x : ExprValue). (encX x, next)) (d.resolveExpr x e st)
+  pub expression-is : seenExpr (resolveExpr deep s t p we pos (actionsIn front tail (st .actions)) (temporariesIn rest (st .sizing .temporaries)) (encS (length front) st))
+      ≡ outcome front tail rest (λ (x : ExprValue). (encX x, next)) (d.resolveExpr x e st)
   expression-is = expression-refines .same

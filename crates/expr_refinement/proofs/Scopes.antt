@@ -1,8 +1,7 @@
--- What a name means: a parameter's slot, the two instruction addresses, a local among the temporaries or in the table, a
+-- What a name means: a parameter's slot, the two instruction addresses, a local of the scope's list or of the table, a
 -- global register or bit range, each as the definition has it.
-use Prim.Native.Nat.{ℕ, zero, suc, _+_, _-_, _*_, _/_, _%_, _≤_, _<_}
-use mathlib.Core.Path.{_≡_, refl, sym, _∙_, ap, subst}
-use mathlib.Core.Logic.{_≢_, _⊎_, inl, inr}
+use Prim.Native.Nat.{ℕ, suc, _+_, _-_, _*_, _/_, _%_, _≤_, _<_}
+use mathlib.Core.Path.{_≡_, refl, sym, _∙_, subst}
 use mathlib.Core.Bool.{Bool, true, false}
 use mathlib.Core.List.{List, [], _∷_}
 use mathlib.Core.Option.{Option, none, some}
@@ -13,7 +12,7 @@ use borrow.Author.Tests.{eqb-true, eqb-false, ne-eqb, eq-eqb, lt-ltb}
 use Rattle.prelude.specs.Base as definition
 use Rattle.prelude.specs.Base.{_or_, andThen, orElse, first, if_then_else_}
 use Rattle.definition.specs.Refusals.{refusalNumber}
-use Rattle.definition.specs.Value.{Kind, kindNumber, Value, local, Temporary}
+use Rattle.definition.specs.Value.{Kind, kindNumber, Value, local}
 use Rattle.definition.specs.Ast.{BitRange as BitRangeEntry, Section}
 use Rattle.definition.specs.Walk.{ExprValue, State, Env, on}
 use Rattle.definition.specs.Scope as d
@@ -25,17 +24,17 @@ use Rattle.list_values.specs.Sizes.{entry}
 use Rattle.file_refinement.specs.Holds.{Holds, bitRangeAt, symbolWord}
 use Rattle.definition_guarantee.proofs.Tests.{some-same}
 use Rattle.definition_guarantee.proofs.Globals.{place-below, FoundPlaced, found-placed}
-use Rattle.list_refinement.specs.Encoding.{encV, temporariesIn, Sound, SoundTmp, Each}
-use Rattle.list_refinement.proofs.Marks.{tmp-at, tmp-name, tmp-mark}
+use Rattle.list_refinement.specs.Encoding.{encV, Sound, Each}
 use Rattle.expr_scope.specs.declared.scope.ExprValue.{ExprValue as WordExpr}
 use Rattle.expr_scope.specs.declared.scope.Meaning.{Meaning as WordMeaning}
+use Rattle.expr_scope.specs.declared.symbols.Symbol.{Symbol as WordSymbol}
 use Rattle.expr_terms.specs.Answers.{resolved}
 use Rattle.expr_resolver.specs.Expressions.{meansAt}
 use Rattle.expr_scope.specs.Slots.{ofSlot, slotAt, paramPlace}
 use Rattle.expr_scope.specs.Scopes as words
-use Rattle.expr_scope.specs.Scopes.{Found, findParam, isLocal, ownLocal, tmpLocal, orTmp, lookupLocal, global, bitsAt, bitRange, foundOr, paramOr}
-use Rattle.expr_refinement.proofs.Encodings.{encX, SoundX, nameAt, tmps, count, Stood, Later}
-use Rattle.expr_refinement.proofs.Tree.{grown-plain}
+use Rattle.expr_scope.specs.Symbols.{ofKind, symbolOf, lookup}
+use Rattle.expr_scope.specs.Scopes.{Found, findParam, lookupLocal, bitsAt, bitRange, foundOr, paramOr}
+use Rattle.expr_refinement.proofs.Encodings.{encX, SoundX, count, Stood, Later}
 use Rattle.expr_refinement.proofs.Answers.{acts, temps, word, Refines, refines-done, refines-stopped, seenExpr}
 
 pub eqb-swap : (a b : ℕ) → eqb a b ≡ eqb b a
@@ -81,79 +80,18 @@ param-is (x ∷ xs) p name other h = rw (h .0, eqb-swap (x .0) name) (go (eqb na
         rw (i, j, h .1)
     go false q = q
 
--- Temporaries by their names and marks.
+-- The words hold the scope: its parameters stand in their slots, and the table and the scope's list give its locals.
+pub record Scoped (t p : List ℕ) (we : WordEnv) (st : State) : Type 0 where
+  pub params : ParamsIn p (st .scope .params)
+  pub counted : we .count ≡ length (st .scope .params)
+  pub locals : (name : ℕ) → name < 1024 → lookupLocal t p (we .own) name ≡ encF (find name (st .scope .mapping))
 
-tmp-in : (ts : List Temporary) (i : ℕ) → i < length ts → Each SoundTmp ts → (t : Temporary) × (getElem? ts i ≡ some t) × SoundTmp t
-tmp-in [] i h f = absurd (omega arith)
-tmp-in (t ∷ ts) zero h f = (t, refl, f .0)
-tmp-in (t ∷ ts) (suc i) h f = tmp-in ts i (omega arith) (f .1)
-
-pub name-at : (marks rest : List ℕ) (ts : List Temporary) (i : ℕ) → i < length ts → Each SoundTmp ts → getD (temporariesIn marks rest ts) i 0 % 65536 ≡ orNone (nameAt ts i)
-unfolding nameAt andThen
-name-at marks rest ts i h f = let k = tmp-in ts i h f in rw (tmp-at marks rest ts i (k .0) (k .1), tmp-name (getD marks i 0) (k .0) (k .2), k .1)
-
-pub mark-at : (marks rest : List ℕ) (ts : List Temporary) (i : ℕ) → i < length ts → Each SoundTmp ts → getD (temporariesIn marks rest ts) i 0 / 4294967296 ≡ getD marks i 0
-mark-at marks rest ts i h f = let k = tmp-in ts i h f in rw (tmp-at marks rest ts i (k .0) (k .1)) (tmp-mark (getD marks i 0) (k .0) (k .2))
-
--- one with no name, or of another scope, is not found
-pub local-not : (marks rest : List ℕ) (ts : List Temporary) (i name scope : ℕ) → i < length ts → Each SoundTmp ts → name < 1024 → (nameAt ts i ≡ none) ⊎ (getD marks i 0 / 262144 ≢ scope)
-    → isLocal (getD (temporariesIn marks rest ts) i 0) name scope ≡ false
-unfolding isLocal if_then_else_
-local-not marks rest ts i name scope h f k (inl z) = rw (name-at marks rest ts i h f, z) (unfold orNone orElse in rw (ne-eqb 65535 name (λ q. omega arith)))
-local-not marks rest ts i name scope h f k (inr z) =
-    let a = mark-at marks rest ts i h f in
-    let b : getD (temporariesIn marks rest ts) i 0 / 1125899906842624 ≡ getD marks i 0 / 262144 = omega arith in
-    rw (b, ne-eqb (getD marks i 0 / 262144) scope z) (go (eqb (getD (temporariesIn marks rest ts) i 0 % 65536) name))
-  where
-    go : (b : Bool) → (if b then false else false) ≡ false
-    go true = unfold if_then_else_ in refl
-    go false = unfold if_then_else_ in refl
-
-pub past-end : (xs : List ℕ) (i : ℕ) → length xs ≤ i → getD xs i 0 ≡ 0
-past-end [] i h = refl
-past-end (x ∷ xs) zero h = absurd (omega arith)
-past-end (x ∷ xs) (suc i) h = past-end xs i (omega arith)
-
-pub nameless : (ts : List Temporary) (i : ℕ) → length ts ≤ i → nameAt ts i ≡ none
-unfolding nameAt andThen
-nameless [] i h = refl
-nameless (t ∷ ts) zero h = absurd (omega arith)
-nameless (t ∷ ts) (suc i) h = nameless ts i (omega arith)
-
--- locals are found where the temporaries are
-pub lookup-as : (t m w : List ℕ) (scope n k name : ℕ) → tmpLocal w k name scope ≡ tmpLocal m n name scope → lookupLocal t w scope k name ≡ lookupLocal t m scope n name
-unfolding lookupLocal
-lookup-as t m w scope n k name h = go (eqb scope 0) (ownLocal t name)
-  where
-    go : (b : Bool) (x : Found) → (if b then orTmp x w k name scope else tmpLocal w k name scope) ≡ (if b then orTmp x m n name scope else tmpLocal m n name scope)
-    go true (Found.Is v) = unfold if_then_else_ orTmp in refl
-    go true Found.Nothing = unfold if_then_else_ orTmp in h
-    go false x = unfold if_then_else_ in h
-
-module _ (s t : List ℕ) (e : Env) (p front tail marks rest : List ℕ) (we : WordEnv) where
-  -- The words hold the scope: its parameters stand in their slots, and the table and the temporaries give
-  -- its locals.
-  pub record Scoped (st : State) : Type 0 where
-    pub params : ParamsIn p (st .scope .params)
-    pub counted : we .count ≡ length (st .scope .params)
-    pub locals : (name : ℕ) → name < 1024 → lookupLocal t (temps (e .section) front tail marks rest st) (we .scope) (count st) name ≡ encF (find name (st .scope .mapping))
-
-  -- a temporary is found where it was
-  pub tmp-later : (spare more : ℕ) (from st : State) → Stood (e .section) tail marks rest spare from → Stood (e .section) tail marks rest more st → Later from st → (name scope : ℕ) → name < 1024
-      → tmpLocal (temps (e .section) front tail marks rest st) (count st) name scope ≡ tmpLocal (temps (e .section) front tail marks rest from) (count from) name scope
-  tmp-later spare more from st f g l name scope h = grown-plain (temps (e .section) front tail marks rest from) (temps (e .section) front tail marks rest st) (count from) (count st) name scope (l .temporaries)
-      (λ i k. name-at marks rest (tmps st) i (omega (arith, l .temporaries)) (g .sizes) ∙ ap orNone (l .names i) ∙ sym (name-at marks rest (tmps from) i k (f .sizes)))
-      (λ i k. mark-at marks rest (tmps st) i (omega (arith, l .temporaries)) (g .sizes) ∙ sym (mark-at marks rest (tmps from) i k (f .sizes)))
-      (λ i k j. local-not marks rest (tmps st) i name scope j (g .sizes) h (inl (l .names i ∙ nameless (tmps from) i k)))
-      (λ i k j. let a = mark-at marks rest (tmps st) i j (g .sizes) in let b = past-end marks i (omega (arith, f .marked)) in omega arith)
-
-  pub scoped-later : (spare more : ℕ) (from st : State) → Stood (e .section) tail marks rest spare from → Stood (e .section) tail marks rest more st → Later from st → Scoped from → Scoped st
-  scoped-later spare more from st f g l h = record {
-    params = rw (l .scope) (h .params);
-    counted = rw (l .scope) (h .counted);
-    locals = λ name k. rw (l .scope)
-        (lookup-as t (temps (e .section) front tail marks rest from) (temps (e .section) front tail marks rest st) (we .scope) (count from) (count st) name (tmp-later spare more from st f g l name (we .scope) k) ∙ h .locals name k);
-  }
+pub scoped-later : (t p : List ℕ) (we : WordEnv) (from st : State) → Later from st → Scoped t p we from → Scoped t p we st
+scoped-later t p we from st l h = record {
+  params = rw (l .scope) (h .params);
+  counted = rw (l .scope) (h .counted);
+  locals = λ name k. rw (l .scope) (h .locals name k);
+}
 
 -- Globals.
 
@@ -166,15 +104,35 @@ find-each {A} P n (x ∷ xs) a h q = go (eqb n (x .0)) (find-each P n xs a (h .1
     go true f q = let r : x .1 ≡ a = cc in subst P r (h .0)
     go false f q = f q
 
--- the word of a symbol
-pub word-nonzero : (k i : ℕ) → eqb (1 + k + 8 * i) 0 ≡ false
-word-nonzero k i = ne-eqb (1 + k + 8 * i) 0 (λ q. omega arith)
+-- the global of a name, as its word in the table tells it
+unfoldable pub encSymbol : Option Symbol → WordSymbol
+encSymbol none = WordSymbol.Undefined
+encSymbol (some (Symbol.Space i x)) = WordSymbol.Space i
+encSymbol (some (Symbol.Register i x)) = WordSymbol.Register i
+encSymbol (some (Symbol.BitRange i x)) = WordSymbol.BitRange i
+encSymbol (some (Symbol.Table i x)) = WordSymbol.Table i
+encSymbol (some (Symbol.UserOp i)) = WordSymbol.UserOp i
+encSymbol (some (Symbol.Macro i x)) = WordSymbol.Macro i
+encSymbol (some (Symbol.Other i)) = WordSymbol.Other i
 
-pub word-kind : (k i : ℕ) → k < 8 → (1 + k + 8 * i - 1) % 8 ≡ k
-word-kind k i h = let p : 1 + k + 8 * i - 1 ≡ k + 8 * i = omega arith in rw p (omega arith)
+word-parts : (k i : ℕ) → k < 8 → symbolOf (1 + k + 8 * i) ≡ ofKind k i
+unfolding symbolOf if_then_else_
+word-parts k i h =
+    let z : 1 + k + 8 * i - 1 ≡ k + 8 * i = omega arith in
+    let a : (k + 8 * i) % 8 ≡ k = omega arith in
+    let b : (k + 8 * i) / 8 ≡ i = omega arith in
+    rw (ne-eqb (1 + k + 8 * i) 0 (λ q. omega arith), z, a, b)
 
-pub word-place : (k i : ℕ) → k < 8 → (1 + k + 8 * i - 1) / 8 ≡ i
-word-place k i h = let p : 1 + k + 8 * i - 1 ≡ k + 8 * i = omega arith in rw p (omega arith)
+symbol-is : (y : Option Symbol) → symbolOf (symbolWord y) ≡ encSymbol y
+unfolding symbolWord encSymbol
+symbol-is none = unfold symbolOf if_then_else_ in refl
+symbol-is (some (Symbol.Space i x)) = word-parts 0 i (omega arith) ∙ (unfold ofKind if_then_else_ in refl)
+symbol-is (some (Symbol.Register i x)) = word-parts 1 i (omega arith) ∙ (unfold ofKind if_then_else_ in refl)
+symbol-is (some (Symbol.BitRange i x)) = word-parts 2 i (omega arith) ∙ (unfold ofKind if_then_else_ in refl)
+symbol-is (some (Symbol.Table i x)) = word-parts 3 i (omega arith) ∙ (unfold ofKind if_then_else_ in refl)
+symbol-is (some (Symbol.UserOp i)) = word-parts 4 i (omega arith) ∙ (unfold ofKind if_then_else_ in refl)
+symbol-is (some (Symbol.Macro i x)) = word-parts 5 i (omega arith) ∙ (unfold ofKind if_then_else_ in refl)
+symbol-is (some (Symbol.Other i)) = word-parts 6 i (omega arith) ∙ (unfold ofKind if_then_else_ in refl)
 
 -- the bit ranges name registers, and their bits are within limits
 pub record BitRangesFit (sec : Section) : Type 0 where
@@ -182,9 +140,9 @@ pub record BitRangesFit (sec : Section) : Type 0 where
   pub bits : (i : ℕ) (b : BitRangeEntry) → getElem? (sec .bitRanges) i ≡ some b → b .firstBit + b .bitCount ≤ 16384
 
 module _ (s t : List ℕ) (sec : Section) (holds : Holds s t sec) where
-  pub global-is : (name : ℕ) → name < 1024 → global t name ≡ symbolWord (find name (globals sec))
-  unfolding global
-  global-is name h = let p : name % 1024 ≡ name = omega arith in rw p (holds .globals name h)
+  pub lookup-is : (name : ℕ) → name < 1024 → lookup t name ≡ encSymbol (find name (globals sec))
+  unfolding lookup
+  lookup-is name h = let p : name % 1024 ≡ name = omega arith in rw (p, holds .globals name h) (symbol-is (find name (globals sec)))
 
   range-place : (i : ℕ) → i < length (sec .bitRanges) → entry t 2 (i % 65536 * 8) ≡ getD t 3330 0 + 8 * i
   unfolding entry
@@ -203,83 +161,85 @@ module _ (s t : List ℕ) (sec : Section) (holds : Holds s t sec) where
       let d : getD t 3330 0 + 8 * i + 2 + 4 ≡ getD t 3330 0 + 8 * i + 6 = omega arith in
       rw (range-place i h, ← some-same (sym (holds .bitRanges .element i h) ∙ q), z, c, d)
 
-  pub global-means : (y : Option Symbol) → FoundPlaced sec y → words.globalMeaning s t (symbolWord y) ≡ encM (globalMeaning y)
-  unfolding words.globalMeaning symbolWord globalMeaning if_then_else_ encM refusalNumber
+  global-means : (y : Option Symbol) → FoundPlaced sec y → words.globalMeaning s t (encSymbol y) ≡ encM (globalMeaning y)
+  unfolding words.globalMeaning encSymbol globalMeaning encM refusalNumber
   global-means none h = refl
-  global-means (some (Symbol.Space i x)) h = rw (word-nonzero 0 i, word-kind 0 i (omega arith))
-  global-means (some (Symbol.Register i x)) h = unfold encX kindNumber orNone orElse in rw (word-nonzero 1 i, word-kind 1 i (omega arith), word-place 1 i (omega arith))
-  global-means (some (Symbol.BitRange i b)) h = rw (word-nonzero 2 i, word-kind 2 i (omega arith), word-place 2 i (omega arith), range-is i b h)
-  global-means (some (Symbol.Table i x)) h = rw (word-nonzero 3 i, word-kind 3 i (omega arith))
-  global-means (some (Symbol.UserOp i)) h = rw (word-nonzero 4 i, word-kind 4 i (omega arith))
-  global-means (some (Symbol.Macro i x)) h = rw (word-nonzero 5 i, word-kind 5 i (omega arith))
-  global-means (some (Symbol.Other i)) h = rw (word-nonzero 6 i, word-kind 6 i (omega arith))
+  global-means (some (Symbol.Space i x)) h = refl
+  global-means (some (Symbol.Register i x)) h = unfold encX kindNumber orNone orElse in refl
+  global-means (some (Symbol.BitRange i b)) h = rw (range-is i b h)
+  global-means (some (Symbol.Table i x)) h = refl
+  global-means (some (Symbol.UserOp i)) h = refl
+  global-means (some (Symbol.Macro i x)) h = refl
+  global-means (some (Symbol.Other i)) h = refl
 
-module _ (s t : List ℕ) (e : Env) (p front tail marks rest : List ℕ) (we : WordEnv) (holds : Holds s t (e .section)) (spare : ℕ) (st : State) (scoped : Scoped s t e p front tail marks rest we st) (name : ℕ) (known : name < 1024) where
-  inner-is : words.innerMeaning s t (temps (e .section) front tail marks rest st) we (word (e .section) front tail marks rest st) name
+module _ (s t : List ℕ) (e : Env) (p : List ℕ) (we : WordEnv) (holds : Holds s t (e .section)) (st : State) (scoped : Scoped t p we st) (name : ℕ) (known : name < 1024) where
+  inner-is : words.innerMeaning s t p we name
       ≡ encM (meaningOf (e .section) ((definition.if_then_else_ (eqb name (e .section .header .instNext)) (some (ExprValue.Local (local Kind.InstNext 0))) none) or (definition.if_then_else_ (eqb name (e .section .header .instStart)) (some (ExprValue.Local (local Kind.InstStart 0))) none)
       or (andThen (find name (st .scope .mapping)) λ v. some (ExprValue.Local v))) name)
   unfolding words.innerMeaning
   inner-is =
-      rw (scoped .locals name known, global-is s t (e .section) holds name known, ← holds .instNext, ← holds .instStart)
+      rw (scoped .locals name known, lookup-is s t (e .section) holds name known, ← holds .instNext, ← holds .instStart)
       (go (eqb name (e .section .header .instNext)) (eqb name (e .section .header .instStart)) (find name (st .scope .mapping)))
     where
       go : (a b : Bool) (v : Option Value)
-          → (if a then WordMeaning.Means (WordExpr.Local (record { kind = 1; number = 0; offset = 0; size = 65535 })) else if b then WordMeaning.Means (WordExpr.Local (record { kind = 0; number = 0; offset = 0; size = 65535 })) else foundOr (encF v) (words.globalMeaning s t (symbolWord (find name (globals (e .section))))))
+          → (if a then WordMeaning.Means (WordExpr.Local (record { kind = 1; number = 0; offset = 0; size = 65535 })) else if b then WordMeaning.Means (WordExpr.Local (record { kind = 0; number = 0; offset = 0; size = 65535 })) else foundOr (encF v) (words.globalMeaning s t (encSymbol (find name (globals (e .section))))))
           ≡ encM (meaningOf (e .section) ((definition.if_then_else_ a (some (ExprValue.Local (local Kind.InstNext 0))) none) or (definition.if_then_else_ b (some (ExprValue.Local (local Kind.InstStart 0))) none) or (andThen v λ v. some (ExprValue.Local v))) name)
       go true b v = unfold if_then_else_ base-opens meaningOf encM encX kindNumber orNone orElse in refl
       go false true v = unfold if_then_else_ base-opens meaningOf encM encX kindNumber orNone orElse in refl
       go false false (some v) = unfold if_then_else_ base-opens meaningOf encM encX foundOr encF in refl
       go false false none = unfold if_then_else_ base-opens meaningOf foundOr encF in global-means s t (e .section) holds (find name (globals (e .section))) (found-placed (e .section) name _ refl)
 
-  pub ident-is : words.resolveIdent s t p (temps (e .section) front tail marks rest st) we (word (e .section) front tail marks rest st) name ≡ encM (meaningOf (e .section) (innerMeaning (e .section) (st .scope) name) name)
+  pub ident-is : words.resolveIdent s t p we name ≡ encM (meaningOf (e .section) (innerMeaning (e .section) (st .scope) name) name)
   unfolding words.resolveIdent paramOr found innerMeaning words.innerMeaning
   ident-is =
       rw (scoped .counted)
       (param-is (st .scope .params) p name _ (scoped .params) ∙ go (find name (st .scope .params)))
     where
-      go : (x : Option ExprValue) → meansOr x (words.innerMeaning s t (temps (e .section) front tail marks rest st) we (word (e .section) front tail marks rest st) name)
+      go : (x : Option ExprValue) → meansOr x (words.innerMeaning s t p we name)
           ≡ encM (meaningOf (e .section) (x or (definition.if_then_else_ (eqb name (e .section .header .instNext)) (some (ExprValue.Local (local Kind.InstNext 0))) none) or (definition.if_then_else_ (eqb name (e .section .header .instStart)) (some (ExprValue.Local (local Kind.InstStart 0))) none)
           or (andThen (find name (st .scope .mapping)) λ v. some (ExprValue.Local v))) name)
       go (some x) = unfold meansOr _or_ meaningOf encM in refl
       go none = unfold meansOr _or_ in inner-is
 
-  -- what it means is sound
-  abbrev pub SoundM : Meaning → Type 0
-  SoundM (means x) = SoundX (e .section) (count st) x
-  SoundM (wrong r) = Unit {0}
+-- what a name means is sound
+abbrev pub SoundM : Section → ℕ → Meaning → Type 0
+SoundM sec n (means x) = SoundX sec n x
+SoundM sec n (wrong r) = Unit {0}
 
-  module _ (ranges : BitRangesFit (e .section)) (stood : Stood (e .section) tail marks rest spare st) where
-    global-sound : (y : Option Symbol) → FoundPlaced (e .section) y → SoundM (globalMeaning y)
-    unfolding globalMeaning registerBits
-    global-sound none h = tt
-    global-sound (some (Symbol.Space i x)) h = tt
-    global-sound (some (Symbol.Register i x)) h = record { number = place-below (e .section .registers) i x h; offset = omega arith; size = unfold orElse in omega arith }
-    global-sound (some (Symbol.BitRange i b)) h = (record { number = ranges .register i b h; offset = omega arith; size = unfold orElse in omega arith }, ranges .bits i b h)
-    global-sound (some (Symbol.Table i x)) h = tt
-    global-sound (some (Symbol.UserOp i)) h = tt
-    global-sound (some (Symbol.Macro i x)) h = tt
-    global-sound (some (Symbol.Other i)) h = tt
+module _ (sec : Section) (tail rest : List ℕ) (spare : ℕ) (st : State) (name : ℕ) (ranges : BitRangesFit sec) (stood : Stood sec tail rest spare st) where
+  global-sound : (y : Option Symbol) → FoundPlaced sec y → SoundM sec (count st) (globalMeaning y)
+  unfolding globalMeaning registerBits
+  global-sound none h = tt
+  global-sound (some (Symbol.Space i x)) h = tt
+  global-sound (some (Symbol.Register i x)) h = record { number = place-below (sec .registers) i x h; offset = omega arith; size = unfold orElse in omega arith }
+  global-sound (some (Symbol.BitRange i b)) h = (record { number = ranges .register i b h; offset = omega arith; size = unfold orElse in omega arith }, ranges .bits i b h)
+  global-sound (some (Symbol.Table i x)) h = tt
+  global-sound (some (Symbol.UserOp i)) h = tt
+  global-sound (some (Symbol.Macro i x)) h = tt
+  global-sound (some (Symbol.Other i)) h = tt
 
-    pub meaning-sound : SoundM (meaningOf (e .section) (innerMeaning (e .section) (st .scope) name) name)
-    unfolding innerMeaning
-    meaning-sound = go (find name (st .scope .params)) refl (eqb name (e .section .header .instNext)) (eqb name (e .section .header .instStart)) (find name (st .scope .mapping)) refl
-      where
-        go : (x : Option ExprValue) → find name (st .scope .params) ≡ x → (a b : Bool) (v : Option Value) → find name (st .scope .mapping) ≡ v
-            → SoundM (meaningOf (e .section) (x or (definition.if_then_else_ a (some (ExprValue.Local (local Kind.InstNext 0))) none) or (definition.if_then_else_ b (some (ExprValue.Local (local Kind.InstStart 0))) none) or (andThen v λ v. some (ExprValue.Local v))) name)
-        go (some x) h a b v k = unfold base-opens meaningOf in find-each (SoundX (e .section) (count st)) name (st .scope .params) x (stood .params) h
-        go none h true b v k = unfold base-opens meaningOf in record { number = tt; offset = omega arith; size = omega arith }
-        go none h false true v k = unfold base-opens meaningOf in record { number = tt; offset = omega arith; size = omega arith }
-        go none h false false (some v) k = unfold base-opens meaningOf in find-each (Sound (e .section) (count st)) name (st .scope .mapping) v (stood .mapping) k
-        go none h false false none k = unfold base-opens meaningOf in global-sound (find name (globals (e .section))) (found-placed (e .section) name _ refl)
+  pub meaning-sound : SoundM sec (count st) (meaningOf sec (innerMeaning sec (st .scope) name) name)
+  unfolding innerMeaning
+  meaning-sound = go (find name (st .scope .params)) refl (eqb name (sec .header .instNext)) (eqb name (sec .header .instStart)) (find name (st .scope .mapping)) refl
+    where
+      go : (x : Option ExprValue) → find name (st .scope .params) ≡ x → (a b : Bool) (v : Option Value) → find name (st .scope .mapping) ≡ v
+          → SoundM sec (count st) (meaningOf sec (x or (definition.if_then_else_ a (some (ExprValue.Local (local Kind.InstNext 0))) none) or (definition.if_then_else_ b (some (ExprValue.Local (local Kind.InstStart 0))) none) or (andThen v λ v. some (ExprValue.Local v))) name)
+      go (some x) h a b v k = unfold base-opens meaningOf in find-each (SoundX sec (count st)) name (st .scope .params) x (stood .params) h
+      go none h true b v k = unfold base-opens meaningOf in record { number = tt; offset = omega arith; size = omega arith }
+      go none h false true v k = unfold base-opens meaningOf in record { number = tt; offset = omega arith; size = omega arith }
+      go none h false false (some v) k = unfold base-opens meaningOf in find-each (Sound sec (count st)) name (st .scope .mapping) v (stood .mapping) k
+      go none h false false none k = unfold base-opens meaningOf in global-sound (find name (globals sec)) (found-placed sec name _ refl)
 
-    meant-refines : (next : ℕ) (x : Meaning) → SoundM x
-        → Refines (e .section) front tail marks rest spare st (λ (x : ExprValue). (encX x, next)) (SoundX (e .section)) (seenExpr (resolved (meansAt (encM x) next (word (e .section) front tail marks rest st)) (acts (e .section) front tail marks rest st) (temps (e .section) front tail marks rest st))) (d.meant x e st)
-    unfolding meansAt encM seenExpr d.meant
-    meant-refines next (means x) h = refines-done (e .section) front tail marks rest spare st _ (SoundX (e .section)) x (encX x, next) stood h refl
-    meant-refines next (wrong r) h = refines-stopped (e .section) front tail marks rest spare st _ (SoundX (e .section)) (refusalNumber r) r refl
+module _ (s t : List ℕ) (e : Env) (p front tail rest : List ℕ) (we : WordEnv) (holds : Holds s t (e .section)) (spare : ℕ) (st : State) (scoped : Scoped t p we st) (name : ℕ) (known : name < 1024)
+    (ranges : BitRangesFit (e .section)) (stood : Stood (e .section) tail rest spare st) where
+  meant-refines : (next : ℕ) (x : Meaning) → SoundM (e .section) (count st) x
+      → Refines (e .section) front tail rest spare st (λ (x : ExprValue). (encX x, next)) (SoundX (e .section)) (seenExpr (resolved (meansAt (encM x) next (word (e .section) front tail rest st)) (acts (e .section) front tail rest st) (temps (e .section) front tail rest st))) (d.meant x e st)
+  unfolding meansAt encM seenExpr d.meant
+  meant-refines next (means x) h = refines-done (e .section) front tail rest spare st _ (SoundX (e .section)) x (encX x, next) stood h refl
+  meant-refines next (wrong r) h = refines-stopped (e .section) front tail rest spare st _ (SoundX (e .section)) (refusalNumber r) r refl
 
-    -- a name as an expression
-    pub ident : (next : ℕ)
-        → Refines (e .section) front tail marks rest spare st (λ (x : ExprValue). (encX x, next)) (SoundX (e .section)) (seenExpr (resolved (meansAt (words.resolveIdent s t p (temps (e .section) front tail marks rest st) we (word (e .section) front tail marks rest st) name) next (word (e .section) front tail marks rest st)) (acts (e .section) front tail marks rest st) (temps (e .section) front tail marks rest st))) (d.resolveIdent name e st)
-    unfolding d.resolveIdent d.meaning on
-    ident next = rw ident-is (meant-refines next (meaningOf (e .section) (innerMeaning (e .section) (st .scope) name) name) meaning-sound)
+  -- a name as an expression
+  pub ident : (next : ℕ)
+      → Refines (e .section) front tail rest spare st (λ (x : ExprValue). (encX x, next)) (SoundX (e .section)) (seenExpr (resolved (meansAt (words.resolveIdent s t p we name) next (word (e .section) front tail rest st)) (acts (e .section) front tail rest st) (temps (e .section) front tail rest st))) (d.resolveIdent name e st)
+  unfolding d.resolveIdent d.meaning on
+  ident next = rw (ident-is s t e p we holds st scoped name known) (meant-refines next (meaningOf (e .section) (innerMeaning (e .section) (st .scope) name) name) (meaning-sound (e .section) tail rest spare st name ranges stood))

@@ -165,10 +165,15 @@ pub arg-length : (args : List ℕ) (i : ℕ) (x : WordExpr) → length (putArg a
 unfolding putArg
 arg-length args i x = put-length args (paramPlace i) (slotOf x)
 
-pub arg-again : (sec : Section) (n : ℕ) (args : List ℕ) (i : ℕ) (x : ExprValue) → length args ≡ 64 → SoundX sec n x → argAt (putArg args i (encX x)) i ≡ encX x
+pub arg-again : (sec : Section) (n : ℕ) (args : List ℕ) (i : ℕ) (x : ExprValue) → 64 ≤ length args → SoundX sec n x → argAt (putArg args i (encX x)) i ≡ encX x
 unfolding argAt putArg paramPlace
 arg-again sec n args i x h f = slot-again sec n args (i % 8 * 8) x (omega arith) f
 
 pub arg-other : (args : List ℕ) (i j : ℕ) (x : WordExpr) → i < j → j < 8 → argAt (putArg args j x) i ≡ argAt args i
 unfolding argAt putArg paramPlace
 arg-other args i j x h l = ap ofSlot (slot-other args (j % 8 * 8) (i % 8 * 8) (slotOf x) (before (omega arith)))
+
+-- what stands behind the slots stays
+pub arg-behind : (args : List ℕ) (i : ℕ) (x : WordExpr) (j : ℕ) → 64 ≤ j → getD (putArg args i x) j 0 ≡ getD args j 0
+unfolding putArg paramPlace
+arg-behind args i x j h = put-behind args (i % 8 * 8) (slotOf x) j (omega arith)

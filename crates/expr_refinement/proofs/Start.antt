@@ -1,10 +1,11 @@
--- The section's own scope at the start: the table gives its fields and subtables, and there is no temporary.
-use Prim.Native.Nat.{ℕ, suc, _+_, _-_, _*_, _/_, _%_, _<_}
-use mathlib.Core.Path.{_≡_, refl}
+-- A scope at its start: the table gives the section's fields and subtables, and there is no local.
+use Prim.Native.Nat.{ℕ, zero, suc, _+_, _-_, _*_, _/_, _%_, _<_}
+use mathlib.Core.Path.{_≡_, refl, _∙_}
 use mathlib.Core.Bool.{Bool, true, false}
 use mathlib.Core.List.{List, [], _∷_, _++_, map}
 use mathlib.Core.Option.{Option, none, some}
 use native.Mathlib.Omega.{arith}
+use lib.ListN.{getD, replicate}
 use lib.Dec.{eqb}
 use borrow.Author.Tests.{ne-eqb}
 use Rattle.prelude.specs.Base as definition
@@ -15,8 +16,33 @@ use Rattle.definition.specs.Scope.{find, locals, sectionScope}
 use Rattle.definition.specs.ActionList.{orNone}
 use Rattle.definition.proofs.Openers.{base-opens}
 use Rattle.file_refinement.specs.Holds.{Holds, localWord}
-use Rattle.expr_scope.specs.Scopes.{Found, ownOf, ownLocal, findLocal, tmpOf, tmpLocal, orTmp, lookupLocal}
+use Rattle.expr_scope.specs.Smalls.{unit, smallOf, small}
+use Rattle.expr_scope.specs.Scopes.{Found, ownOf, ownLocal, tmpOf, tmpLocal, orTmp, lookupLocal}
 use Rattle.expr_refinement.proofs.Scopes.{encF}
+
+-- in the words of a scope that begins, every small number is 0
+zero-word : (n i : ℕ) → _≡_ {A = ℕ} (getD (replicate n 0) i 0) 0
+zero-word zero i = refl
+zero-word (suc n) zero = refl
+zero-word (suc n) (suc i) = zero-word n i
+
+zero-place : (k : ℕ) → k < 6 → smallOf 0 k ≡ 0
+unfolding smallOf unit
+zero-place zero h = refl
+zero-place (suc zero) h = refl
+zero-place (suc (suc zero)) h = refl
+zero-place (suc (suc (suc zero))) h = refl
+zero-place (suc (suc (suc (suc zero)))) h = refl
+zero-place (suc (suc (suc (suc (suc zero))))) h = refl
+zero-place (suc (suc (suc (suc (suc (suc k)))))) h = absurd (omega arith)
+
+pub none-small : (n i : ℕ) → small (replicate n 0) i ≡ 0
+unfolding small
+none-small n i = rw (zero-word n (64 + i / 6)) (zero-place (i % 6) (omega arith))
+
+pub none-local : (name : ℕ) → tmpLocal (replicate 406 0) name ≡ Found.Nothing
+unfolding tmpLocal tmpOf if_then_else_
+none-local name = rw (none-small 406 (name % 1024))
 
 pub find-append : {A : Type 0} (n : ℕ) (xs ys : List (ℕ × A)) → find n (xs ++ ys) ≡ find n xs or find n ys
 unfolding find first _or_
@@ -63,10 +89,11 @@ module _ (s t : List ℕ) (sec : Section) (holds : Holds s t sec) (name : ℕ) (
       )
       (own-word _ _)
 
-  pub start-locals : (m : List ℕ) → lookupLocal t m 0 0 name ≡ encF (find name (sectionScope sec .mapping))
-  unfolding lookupLocal tmpLocal findLocal tmpOf if_then_else_
-  start-locals m = go (ownLocal t name) own-is
+  -- no local is declared
+  pub start-locals : lookupLocal t (replicate 406 0) true name ≡ encF (find name (sectionScope sec .mapping))
+  unfolding lookupLocal if_then_else_
+  start-locals = go (ownLocal t name) own-is
     where
-      go : (x : Found) → x ≡ encF (find name (sectionScope sec .mapping)) → orTmp x m 0 name 0 ≡ encF (find name (sectionScope sec .mapping))
+      go : (x : Found) → x ≡ encF (find name (sectionScope sec .mapping)) → orTmp x (replicate 406 0) name ≡ encF (find name (sectionScope sec .mapping))
       go (Found.Is v) h = unfold orTmp in h
-      go Found.Nothing h = unfold orTmp tmpLocal findLocal tmpOf if_then_else_ in h
+      go Found.Nothing h = unfold orTmp in none-local name ∙ h

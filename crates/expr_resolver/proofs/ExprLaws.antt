@@ -110,53 +110,53 @@ address-other (ExprValue.RegisterRef v z) size next st o = refl
 address-other (ExprValue.AddressOf v z) size next st o = refl
 address-other (ExprValue.BitRange v b w) size next st o = refl
 
-module _ (s t p m : List ℕ) (pos : ℕ) (e : Env) (st : State) (name : ℕ) (x : Meaning) (en : name ≡ le16 s (pos + 3)) (f : x ≡ resolveIdent s t p m e st name) where
-  pub address-wrong : (n : ℕ) → x ≡ Meaning.Wrong n → Expr.No n ≡ addressOf s t p m pos e st
+module _ (s t p : List ℕ) (pos : ℕ) (e : Env) (st : State) (name : ℕ) (x : Meaning) (en : name ≡ le16 s (pos + 3)) (f : x ≡ resolveIdent s t p e name) where
+  pub address-wrong : (n : ℕ) → x ≡ Meaning.Wrong n → Expr.No n ≡ addressOf s t p pos e st
   unfolding addressOf addressMeant
   address-wrong n q = rw (← en, ← f, q)
 
   pub address-meant : (v : ExprValue) (size next : ℕ) (z : Expr) → x ≡ Meaning.Means v → size ≡ le16 s (pos + 1) → next ≡ after pos 5 → z ≡ localAddress v size next st →
-      z ≡ addressOf s t p m pos e st
+      z ≡ addressOf s t p pos e st
   unfolding addressOf addressMeant
   address-meant v size next z q es ex h = rw (← en, ← f, q, ← es, ← ex) h
 
-module _ (code : ℕ) (s t p m : List ℕ) (pos : ℕ) (e : Env) (st : State) where
-  pub atom-name : (z : Expr) → code ≡ 0 → z ≡ atom 0 s t p m pos e st → z ≡ atom code s t p m pos e st
+module _ (code : ℕ) (s t p : List ℕ) (pos : ℕ) (e : Env) (st : State) where
+  pub atom-name : (z : Expr) → code ≡ 0 → z ≡ atom 0 s t p pos e st → z ≡ atom code s t p pos e st
   atom-name z k h = rw k h
 
-  pub atom-integer : (at n next : ℕ) → code ≡ 1 → at ≡ after pos 1 → n ≡ le64 s at → next ≡ after pos 9 → Expr.Value next (ExprValue.Const n 65535) st ≡ atom code s t p m pos e st
+  pub atom-integer : (at n next : ℕ) → code ≡ 1 → at ≡ after pos 1 → n ≡ le64 s at → next ≡ after pos 9 → Expr.Value next (ExprValue.Const n 65535) st ≡ atom code s t p pos e st
   unfolding atom if_then_else_
   atom-integer at n next k ea en ex = rw (k, ← ea, ← en, ← ex)
 
-  pub atom-address : (z : Expr) → (code ≡ 0 → ⊥) → (code ≡ 1 → ⊥) → z ≡ addressOf s t p m pos e st → z ≡ atom code s t p m pos e st
+  pub atom-address : (z : Expr) → (code ≡ 0 → ⊥) → (code ≡ 1 → ⊥) → z ≡ addressOf s t p pos e st → z ≡ atom code s t p pos e st
   unfolding atom if_then_else_
   atom-address z k l h = rw (ne-eqb code 0 k, ne-eqb code 1 l) h
 
-module _ (s t p m : List ℕ) (pos : ℕ) (e : Env) (st : State) (name : ℕ) (en : name ≡ le16 s (pos + 1)) (next : ℕ) (ex : next ≡ after pos 3) where
-  pub name-plain : (q : ℕ) (v : Value) → q ≡ plainLocal s t p m e st name → 8 ≤ q → v ≡ local (q % 8) (q / 8 - 1) →
-      Expr.Value next (ExprValue.Local v) st ≡ atom 0 s t p m pos e st
+module _ (s t p : List ℕ) (pos : ℕ) (e : Env) (st : State) (name : ℕ) (en : name ≡ le16 s (pos + 1)) (next : ℕ) (ex : next ≡ after pos 3) where
+  pub name-plain : (q : ℕ) (v : Value) → q ≡ plainLocal s t p e name → 8 ≤ q → v ≡ local (q % 8) (q / 8 - 1) →
+      Expr.Value next (ExprValue.Local v) st ≡ atom 0 s t p pos e st
   unfolding atom meansAt if_then_else_
-  name-plain q v f h ev = rw (← en, ← ex, plain-means s t p m e st name q f h, ev)
+  name-plain q v f h ev = rw (← en, ← ex, plain-means s t p e name q f h, ev)
 
-  pub name-other : (x : Meaning) (z : Expr) → x ≡ resolveIdent s t p m e st name → z ≡ meansAt x next st → z ≡ atom 0 s t p m pos e st
+  pub name-other : (x : Meaning) (z : Expr) → x ≡ resolveIdent s t p e name → z ≡ meansAt x next st → z ≡ atom 0 s t p pos e st
   unfolding atom if_then_else_
   name-other x z f h = rw (← en, ← ex, ← f) h
 
 -- ---- operands that are the value itself
-pub plain-deep : (d : ℕ) (s t p m : List ℕ) (pos : ℕ) (e : Env) (st : State) → d ≡ 0 → 0 ≡ plainAt d s t p m pos e st
+pub plain-deep : (d : ℕ) (s t p : List ℕ) (pos : ℕ) (e : Env) → d ≡ 0 → 0 ≡ plainAt d s t p pos e
 unfolding plainAt if_then_else_
-plain-deep d s t p m pos e st z = rw (eq-eqb d 0 z)
+plain-deep d s t p pos e z = rw (eq-eqb d 0 z)
 
-module _ (d : ℕ) (s t p m : List ℕ) (pos : ℕ) (e : Env) (st : State) (nz : d ≡ 0 → ⊥) (code : ℕ) (ec : code ≡ getD s (pos + 0) 0) where
-  pub plain-name : (name q : ℕ) → code ≡ 0 → name ≡ le16 s (pos + 1) → q ≡ plainLocal s t p m e st name → q ≡ plainAt d s t p m pos e st
+module _ (d : ℕ) (s t p : List ℕ) (pos : ℕ) (e : Env) (nz : d ≡ 0 → ⊥) (code : ℕ) (ec : code ≡ getD s (pos + 0) 0) where
+  pub plain-name : (name q : ℕ) → code ≡ 0 → name ≡ le16 s (pos + 1) → q ≡ plainLocal s t p e name → q ≡ plainAt d s t p pos e
   unfolding plainAt if_then_else_
   plain-name name q k en f = rw (ne-eqb d 0 nz, ← ec, eq-eqb code 0 k, ← en) f
 
-  pub plain-integer : code ≡ 1 → 7 ≡ plainAt d s t p m pos e st
+  pub plain-integer : code ≡ 1 → 7 ≡ plainAt d s t p pos e
   unfolding plainAt if_then_else_
   plain-integer k = rw (ne-eqb d 0 nz, ← ec, k)
 
-  pub plain-none : (code ≡ 0 → ⊥) → (code ≡ 1 → ⊥) → 0 ≡ plainAt d s t p m pos e st
+  pub plain-none : (code ≡ 0 → ⊥) → (code ≡ 1 → ⊥) → 0 ≡ plainAt d s t p pos e
   unfolding plainAt if_then_else_
   plain-none k l = rw (ne-eqb d 0 nz, ← ec, ne-eqb code 0 k, ne-eqb code 1 l)
 
@@ -307,22 +307,22 @@ module _ (walk : Walk) (s t : List ℕ) (e : Env) (pos id n : ℕ) (a m : List �
 
 module _ (walk : Walk) (s t p : List ℕ) (e : Env) (pos : ℕ) (a m : List ℕ) (st : State) (name n : ℕ) (c : Callee)
     (en : name ≡ le16 s (pos + 1)) (ec : n ≡ getD s (pos + 3) 0) (f : c ≡ calleeOf s t name n) (z : Expr) (a1 m1 : List ℕ) where
-  pub call-inbuilt : c .kind ≡ 0 → resolved z a1 m1 ≡ callInbuilt walk s t e pos (c .number) n a m st → resolved z a1 m1 ≡ resolveCall walk s t p e pos a m st
-  unfolding resolveCall callNamed if_then_else_
-  call-inbuilt k g = rw (← en, ← ec, ← f, eq-eqb (c .kind) 0 k) g
+  pub call-inbuilt : (op : ℕ) → c ≡ Callee.Inbuilt op → resolved z a1 m1 ≡ callInbuilt walk s t e pos op n a m st → resolved z a1 m1 ≡ resolveCall walk s t p e pos a m st
+  unfolding resolveCall callNamed
+  call-inbuilt op k g = rw (← en, ← ec, ← f, k) g
 
-  pub call-user-op : c .kind ≡ 1 → resolved z a1 m1 ≡ userOp walk s t e pos (c .number) n a m st → resolved z a1 m1 ≡ resolveCall walk s t p e pos a m st
-  unfolding resolveCall callNamed if_then_else_
-  call-user-op k g = rw (← en, ← ec, ← f, k) g
+  pub call-user-op : (id : ℕ) → c ≡ Callee.UserOp id → resolved z a1 m1 ≡ userOp walk s t e pos id n a m st → resolved z a1 m1 ≡ resolveCall walk s t p e pos a m st
+  unfolding resolveCall callNamed
+  call-user-op id k g = rw (← en, ← ec, ← f, k) g
 
-  pub call-subpiece : (c .kind ≡ 0 → ⊥) → (c .kind ≡ 1 → ⊥) → (c .kind ≡ 2 → ⊥) → resolved z a1 m1 ≡ subpiece s t p a m pos name n e st → resolved z a1 m1 ≡ resolveCall walk s t p e pos a m st
-  unfolding resolveCall callNamed if_then_else_
-  call-subpiece k l o g = rw (← en, ← ec, ← f, ne-eqb (c .kind) 0 k, ne-eqb (c .kind) 1 l, ne-eqb (c .kind) 2 o) g
+  pub call-subpiece : c ≡ Callee.Local → resolved z a1 m1 ≡ subpiece s t p a m pos name n e st → resolved z a1 m1 ≡ resolveCall walk s t p e pos a m st
+  unfolding resolveCall callNamed
+  call-subpiece k g = rw (← en, ← ec, ← f, k) g
 
 pub call-refused : (walk : Walk) (s t p : List ℕ) (e : Env) (pos : ℕ) (a m : List ℕ) (st : State) (name n : ℕ) (c : Callee) → name ≡ le16 s (pos + 1) →
-    n ≡ getD s (pos + 3) 0 → c ≡ calleeOf s t name n → c .kind ≡ 2 → resolved (Expr.No (c .number)) a m ≡ resolveCall walk s t p e pos a m st
-unfolding resolveCall callNamed if_then_else_
-call-refused walk s t p e pos a m st name n c en ec f k = rw (← en, ← ec, ← f, k)
+    n ≡ getD s (pos + 3) 0 → c ≡ calleeOf s t name n → (k : ℕ) → c ≡ Callee.No k → resolved (Expr.No k) a m ≡ resolveCall walk s t p e pos a m st
+unfolding resolveCall callNamed
+call-refused walk s t p e pos a m st name n c en ec f k q = rw (← en, ← ec, ← f, q)
 
 -- ---- an expression, by its code
 pub expr-deep : (d : ℕ) (s t p : List ℕ) (e : Env) (pos : ℕ) (a m : List ℕ) (st : State) → d ≡ 0 → resolved (Expr.No 4) a m ≡ resolveExpr d s t p e pos a m st
@@ -334,7 +334,7 @@ module _ (d : ℕ) (s t p : List ℕ) (e : Env) (pos : ℕ) (a m : List ℕ) (st
   unfolding resolveExpr
   step = let h : d ≡ suc (d - 1) = omega arith in ap (λ n. resolveExpr n s t p e pos a m st) h ∙ rw (ec)
 
-  pub expr-atom : (z : Expr) → code < 3 → z ≡ atom code s t p m pos e st → resolved z a m ≡ resolveExpr d s t p e pos a m st
+  pub expr-atom : (z : Expr) → code < 3 → z ≡ atom code s t p pos e st → resolved z a m ≡ resolveExpr d s t p e pos a m st
   unfolding byCode if_then_else_
   expr-atom z h g = rw (step, lt-ltb code 3 h, g)
 
@@ -360,35 +360,35 @@ module _ (d : ℕ) (s t p : List ℕ) (e : Env) (pos : ℕ) (a m : List ℕ) (st
 
 -- ---- an atom that is read is the value itself
 module _ (d : ℕ) (s t p : List ℕ) (e : Env) (pos : ℕ) (a m : List ℕ) (st : State) (nz : d ≡ 0 → ⊥) where
-  value-atom : (x : ExprValue) (v : Value) (next : ℕ) → getD s (pos + 0) 0 < 3 → Expr.Value next x st ≡ atom (getD s (pos + 0) 0) s t p m pos e st →
+  value-atom : (x : ExprValue) (v : Value) (next : ℕ) → getD s (pos + 0) 0 < 3 → Expr.Value next x st ≡ atom (getD s (pos + 0) 0) s t p pos e st →
       read (Read.Value v st) a m ≡ readOperand s t a m e x st → operand (Operand.Value v next st) a m ≡ exprValue (resolveExpr d s t p e) s t e pos a m st
   unfolding valueThen
   value-atom x v next h g r =
       value-yes (resolveExpr d s t p e) s t e pos a m st (Expr.Value next x st) a m (expr-atom d s t p e pos a m st nz (getD s (pos + 0) 0) refl (Expr.Value next x st) h g)
       x next st (Read.Value v st) a m (Operand.Value v next st) refl r refl
 
-  plain-atom : (q : ℕ) → getD s (pos + 0) 0 ≡ 0 → q ≡ plainLocal s t p m e st (le16 s (pos + 1)) → 7 ≤ q →
+  plain-atom : (q : ℕ) → getD s (pos + 0) 0 ≡ 0 → q ≡ plainLocal s t p e (le16 s (pos + 1)) → 7 ≤ q →
       operand (plainOperand q s pos st) a m ≡ exprValue (resolveExpr d s t p e) s t e pos a m st
   unfolding plainOperand readOperand readValue copyTo if_then_else_
   plain-atom q k f h =
-      let l : 8 ≤ q = plain-least s t p m e st (le16 s (pos + 1)) q f (omega arith) in
+      let l : 8 ≤ q = plain-least s t p e (le16 s (pos + 1)) q f (omega arith) in
       rw (le-ltb q 8 l)
       (value-atom (ExprValue.Local (local (q % 8) (q / 8 - 1))) (local (q % 8) (q / 8 - 1)) (after pos 3) (omega arith)
-      (rw k (name-plain s t p m pos e st (le16 s (pos + 1)) refl (after pos 3) refl q _ f l refl)) refl)
+      (rw k (name-plain s t p pos e st (le16 s (pos + 1)) refl (after pos 3) refl q _ f l refl)) refl)
 
   integer-atom : getD s (pos + 0) 0 ≡ 1 → operand (plainOperand 7 s pos st) a m ≡ exprValue (resolveExpr d s t p e) s t e pos a m st
   unfolding plainOperand readOperand readValue copyTo if_then_else_
   integer-atom k =
       value-atom (ExprValue.Const (le64 s (after pos 1)) 65535) (constant (le64 s (after pos 1))) (after pos 9) (omega arith)
-      (atom-integer (getD s (pos + 0) 0) s t p m pos e st (after pos 1) _ (after pos 9) k refl refl refl) refl
+      (atom-integer (getD s (pos + 0) 0) s t p pos e st (after pos 1) _ (after pos 9) k refl refl refl) refl
 
-pub value-plain : (d : ℕ) (s t p : List ℕ) (e : Env) (pos : ℕ) (a m : List ℕ) (st : State) (q : ℕ) (z : Operand) → q ≡ plainAt d s t p m pos e st → 7 ≤ q →
+pub value-plain : (d : ℕ) (s t p : List ℕ) (e : Env) (pos : ℕ) (a m : List ℕ) (st : State) (q : ℕ) (z : Operand) → q ≡ plainAt d s t p pos e → 7 ≤ q →
     z ≡ plainOperand q s pos st → operand z a m ≡ exprValue (resolveExpr d s t p e) s t e pos a m st
 unfolding plainAt if_then_else_
 value-plain d s t p e pos a m st q z f h g = rw g (go (eqb d 0) refl (eqb (getD s (pos + 0) 0) 0) refl (eqb (getD s (pos + 0) 0) 1) refl f)
   where
     go : (x : Bool) → eqb d 0 ≡ x → (y : Bool) → eqb (getD s (pos + 0) 0) 0 ≡ y → (w : Bool) → eqb (getD s (pos + 0) 0) 1 ≡ w →
-        q ≡ (if x then 0 else (if y then plainLocal s t p m e st (le16 s (pos + 1)) else (if w then 7 else 0))) →
+        q ≡ (if x then 0 else (if y then plainLocal s t p e (le16 s (pos + 1)) else (if w then 7 else 0))) →
         operand (plainOperand q s pos st) a m ≡ exprValue (resolveExpr d s t p e) s t e pos a m st
     go true ex y ey w ew f = absurd (omega arith)
     go false ex true ey w ew f = plain-atom d s t p e pos a m st (eqb-false d 0 ex) q (eqb-true (getD s (pos + 0) 0) 0 ey) f h

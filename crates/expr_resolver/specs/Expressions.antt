@@ -50,21 +50,21 @@ unfoldable pub addressMeant : Meaning → ℕ → ℕ → State → Expr
 addressMeant (Meaning.Means x) size next st = localAddress x size next st
 addressMeant (Meaning.Wrong n) size next st = Expr.No n
 
-unfoldable pub addressOf : List ℕ → List ℕ → List ℕ → List ℕ → ℕ → Env → State → Expr
-addressOf s t p m pos e st = addressMeant (resolveIdent s t p m e st (le16 s (pos + 3))) (le16 s (pos + 1)) (after pos 5) st
+unfoldable pub addressOf : List ℕ → List ℕ → List ℕ → ℕ → Env → State → Expr
+addressOf s t p pos e st = addressMeant (resolveIdent s t p e (le16 s (pos + 3))) (le16 s (pos + 1)) (after pos 5) st
 
 -- a name, an integer or the address of a local
-unfoldable pub atom : ℕ → List ℕ → List ℕ → List ℕ → List ℕ → ℕ → Env → State → Expr
-atom code s t p m pos e st =
-    if eqb code 0 then meansAt (resolveIdent s t p m e st (le16 s (pos + 1))) (after pos 3) st
+unfoldable pub atom : ℕ → List ℕ → List ℕ → List ℕ → ℕ → Env → State → Expr
+atom code s t p pos e st =
+    if eqb code 0 then meansAt (resolveIdent s t p e (le16 s (pos + 1))) (after pos 3) st
     else if eqb code 1 then Expr.Value (after pos 9) (ExprValue.Const (le64 s (after pos 1)) 65535) st
-    else addressOf s t p m pos e st
+    else addressOf s t p pos e st
 
 -- what stands at a position as one number: that of a plain local, or 7 for an integer; less for what has to be resolved
-unfoldable pub plainAt : ℕ → List ℕ → List ℕ → List ℕ → List ℕ → ℕ → Env → State → ℕ
-plainAt deep s t p m pos e st =
+unfoldable pub plainAt : ℕ → List ℕ → List ℕ → List ℕ → ℕ → Env → ℕ
+plainAt deep s t p pos e =
     if eqb deep 0 then 0
-    else if eqb (getD s (pos + 0) 0) 0 then plainLocal s t p m e st (le16 s (pos + 1))
+    else if eqb (getD s (pos + 0) 0) 0 then plainLocal s t p e (le16 s (pos + 1))
     else if eqb (getD s (pos + 0) 0) 1 then 7
     else 0
 
@@ -178,11 +178,10 @@ userOp walk s t e pos id n a m st =
     (λ k b w. resolved (Expr.No k) b w)
 
 unfoldable pub callNamed : Walk → List ℕ → List ℕ → List ℕ → Env → ℕ → ℕ → ℕ → Callee → List ℕ → List ℕ → State → ExprOut
-callNamed walk s t p e pos name n c a m st =
-    if eqb (c .kind) 0 then callInbuilt walk s t e pos (c .number) n a m st
-    else if eqb (c .kind) 1 then userOp walk s t e pos (c .number) n a m st
-    else if eqb (c .kind) 2 then resolved (Expr.No (c .number)) a m
-    else subpiece s t p a m pos name n e st
+callNamed walk s t p e pos name n (Callee.Inbuilt op) a m st = callInbuilt walk s t e pos op n a m st
+callNamed walk s t p e pos name n (Callee.UserOp id) a m st = userOp walk s t e pos id n a m st
+callNamed walk s t p e pos name n Callee.Local a m st = subpiece s t p a m pos name n e st
+callNamed walk s t p e pos name n (Callee.No k) a m st = resolved (Expr.No k) a m
 
 unfoldable pub resolveCall : Walk → List ℕ → List ℕ → List ℕ → Env → ℕ → List ℕ → List ℕ → State → ExprOut
 resolveCall walk s t p e pos a m st =
@@ -191,13 +190,13 @@ resolveCall walk s t p e pos a m st =
 
 unfoldable pub byCode : Walk → ℕ → List ℕ → List ℕ → List ℕ → Env → ℕ → List ℕ → List ℕ → State → ExprOut
 byCode walk code s t p e pos a m st =
-    if ltb code 3 then resolved (atom code s t p m pos e st) a m
+    if ltb code 3 then resolved (atom code s t p pos e st) a m
     else if eqb code 5 then resolveOp walk s t e pos a m st
     else if ltb code 7 then part walk code s t e pos a m st
     else if eqb code 7 then resolved (Expr.No 32) a m
     else resolveCall walk s t p e pos a m st
 
--- depth left, the stream, the section's table, the parameters of the scope, the walk's own; a position, the two lists, the state
+-- depth left, the stream, the section's table, the scope's list, the walk's own; a position, the two lists, the state
 unfoldable pub resolveExpr : ℕ → List ℕ → List ℕ → List ℕ → Env → ℕ → List ℕ → List ℕ → State → ExprOut
 resolveExpr zero s t p e pos a m st = resolved (Expr.No 4) a m
 resolveExpr (suc d) s t p e pos a m st = byCode (resolveExpr d s t p e) (getD s (pos + 0) 0) s t p e pos a m st

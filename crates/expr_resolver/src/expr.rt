@@ -18,9 +18,7 @@ use expr_terms::address::resolve_address;
 use expr_terms::answers::Expr;
 use expr_terms::answers::Operand;
 use expr_terms::answers::after;
-use expr_terms::calls::INBUILT;
-use expr_terms::calls::REFUSED;
-use expr_terms::calls::USER_OP;
+use expr_terms::calls::Callee;
 use expr_terms::calls::applied;
 use expr_terms::calls::call_user_op;
 use expr_terms::calls::callee_of;
@@ -84,23 +82,14 @@ fn local_address(expr: ExprValue, size: u64, next: usize, state: State) -> Expr
 fn address_of(
     stream: &[u8],
     table: &[u16; table::LENGTH],
-    params: &[u64],
-    temporaries: &[u64],
+    scope: &[u64],
     pos: usize,
     env: Env,
     state: State,
 ) -> Expr
-    ensures { λ r. ⌜ r ≡ addressOf (now (stream .entry)) (now (table .entry)) (now (params .entry)) (now (temporaries .entry)) pos env state ⌝ }
+    ensures { λ r. ⌜ r ≡ addressOf (now (stream .entry)) (now (table .entry)) (now (scope .entry)) pos env state ⌝ }
 {
-    match resolve_ident(
-        stream,
-        table,
-        params,
-        temporaries,
-        env,
-        state,
-        u16_in(stream, pos, 3),
-    ) {
+    match resolve_ident(stream, table, scope, env, u16_in(stream, pos, 3)) {
         Meaning::Wrong(n) => Expr::No(n),
         Meaning::Means(x) => local_address(x, u16_in(stream, pos, 1), after(pos, 5), state),
     }
@@ -110,16 +99,15 @@ fn address_of(
 fn name_at(
     stream: &[u8],
     table: &[u16; table::LENGTH],
-    params: &[u64],
-    temporaries: &[u64],
+    scope: &[u64],
     pos: usize,
     env: Env,
     state: State,
 ) -> Expr
-    ensures { λ r. ⌜ r ≡ atom 0 (now (stream .entry)) (now (table .entry)) (now (params .entry)) (now (temporaries .entry)) pos env state ⌝ }
+    ensures { λ r. ⌜ r ≡ atom 0 (now (stream .entry)) (now (table .entry)) (now (scope .entry)) pos env state ⌝ }
 {
     let name = u16_in(stream, pos, 1);
-    let q = plain_local(stream, table, params, temporaries, env, state, name);
+    let q = plain_local(stream, table, scope, env, name);
     if 8 <= q {
         return Expr::Value {
             x: ExprValue::Local(local(q % 8, q / 8 - 1)),
@@ -128,7 +116,7 @@ fn name_at(
         };
     }
     means_at(
-        resolve_ident(stream, table, params, temporaries, env, state, name),
+        resolve_ident(stream, table, scope, env, name),
         after(pos, 3),
         state,
     )
@@ -139,16 +127,15 @@ fn atom(
     code: u64,
     stream: &[u8],
     table: &[u16; table::LENGTH],
-    params: &[u64],
-    temporaries: &[u64],
+    scope: &[u64],
     pos: usize,
     env: Env,
     state: State,
 ) -> Expr
-    ensures { λ r. ⌜ r ≡ atom code (now (stream .entry)) (now (table .entry)) (now (params .entry)) (now (temporaries .entry)) pos env state ⌝ }
+    ensures { λ r. ⌜ r ≡ atom code (now (stream .entry)) (now (table .entry)) (now (scope .entry)) pos env state ⌝ }
 {
     match code {
-        expression::IDENT => name_at(stream, table, params, temporaries, pos, env, state),
+        expression::IDENT => name_at(stream, table, scope, pos, env, state),
         expression::INTEGER => Expr::Value {
             x: ExprValue::Const {
                 value: access::u64_at(stream, after(pos, 1)),
@@ -157,7 +144,7 @@ fn atom(
             next: after(pos, 9),
             st: state,
         },
-        _ => address_of(stream, table, params, temporaries, pos, env, state),
+        _ => address_of(stream, table, scope, pos, env, state),
     }
 }
 
@@ -318,28 +305,18 @@ fn plain_at(
     deep: u64,
     stream: &[u8],
     table: &[u16; table::LENGTH],
-    params: &[u64],
-    temporaries: &[u64],
+    scope: &[u64],
     pos: usize,
     env: Env,
-    state: State,
 ) -> u64
-    ensures { λ r. ⌜ r ≡ plainAt deep (now (stream .entry)) (now (table .entry)) (now (params .entry)) (now (temporaries .entry)) pos env state ⌝ }
+    ensures { λ r. ⌜ r ≡ plainAt deep (now (stream .entry)) (now (table .entry)) (now (scope .entry)) pos env ⌝ }
 {
     if deep == 0 {
         return 0;
     }
     let code = access::byte(stream, pos, 0);
     match code {
-        expression::IDENT => plain_local(
-            stream,
-            table,
-            params,
-            temporaries,
-            env,
-            state,
-            u16_in(stream, pos, 1),
-        ),
+        expression::IDENT => plain_local(stream, table, scope, env, u16_in(stream, pos, 1)),
         expression::INTEGER => INTEGER,
         _ => 0,
     }
@@ -368,16 +345,16 @@ pub fn expr_value(
     deep: u64,
     stream: &[u8],
     table: &[u16; table::LENGTH],
-    params: &[u64],
+    scope: &[u64],
     pos: usize,
     env: Env,
     actions: &mut [u64],
     temporaries: &mut [u64],
     state: State,
 ) -> Operand
-    ensures { λ r. ⌜ operand r (now (actions .exit)) (now (temporaries .exit)) ≡ exprValue (resolveExpr deep (now (stream .entry)) (now (table .entry)) (now (params .entry)) env) (now (stream .entry)) (now (table .entry)) env pos (now (actions .entry)) (now (temporaries .entry)) state ⌝ }
+    ensures { λ r. ⌜ operand r (now (actions .exit)) (now (temporaries .exit)) ≡ exprValue (resolveExpr deep (now (stream .entry)) (now (table .entry)) (now (scope .entry)) env) (now (stream .entry)) (now (table .entry)) env pos (now (actions .entry)) (now (temporaries .entry)) state ⌝ }
 {
-    let q = plain_at(deep, stream, table, params, temporaries, pos, env, state);
+    let q = plain_at(deep, stream, table, scope, pos, env);
     if INTEGER <= q {
         return plain_operand(q, stream, pos, state);
     }
@@ -385,7 +362,7 @@ pub fn expr_value(
         deep,
         stream,
         table,
-        params,
+        scope,
         pos,
         env,
         actions,
@@ -406,20 +383,20 @@ fn part(
     code: u64,
     stream: &[u8],
     table: &[u16; table::LENGTH],
-    params: &[u64],
+    scope: &[u64],
     pos: usize,
     env: Env,
     actions: &mut [u64],
     temporaries: &mut [u64],
     state: State,
 ) -> Expr
-    ensures { λ r. ⌜ resolved r (now (actions .exit)) (now (temporaries .exit)) ≡ part (resolveExpr deep (now (stream .entry)) (now (table .entry)) (now (params .entry)) env) code (now (stream .entry)) (now (table .entry)) env pos (now (actions .entry)) (now (temporaries .entry)) state ⌝ }
+    ensures { λ r. ⌜ resolved r (now (actions .exit)) (now (temporaries .exit)) ≡ part (resolveExpr deep (now (stream .entry)) (now (table .entry)) (now (scope .entry)) env) code (now (stream .entry)) (now (table .entry)) env pos (now (actions .entry)) (now (temporaries .entry)) state ⌝ }
 {
     match resolve_expr(
         deep,
         stream,
         table,
-        params,
+        scope,
         after(pos, part_at(code)),
         env,
         actions,
@@ -446,21 +423,21 @@ fn resolve_op(
     deep: u64,
     stream: &[u8],
     table: &[u16; table::LENGTH],
-    params: &[u64],
+    scope: &[u64],
     pos: usize,
     env: Env,
     actions: &mut [u64],
     temporaries: &mut [u64],
     state: State,
 ) -> Expr
-    ensures { λ r. ⌜ resolved r (now (actions .exit)) (now (temporaries .exit)) ≡ resolveOp (resolveExpr deep (now (stream .entry)) (now (table .entry)) (now (params .entry)) env) (now (stream .entry)) (now (table .entry)) env pos (now (actions .entry)) (now (temporaries .entry)) state ⌝ }
+    ensures { λ r. ⌜ resolved r (now (actions .exit)) (now (temporaries .exit)) ≡ resolveOp (resolveExpr deep (now (stream .entry)) (now (table .entry)) (now (scope .entry)) env) (now (stream .entry)) (now (table .entry)) env pos (now (actions .entry)) (now (temporaries .entry)) state ⌝ }
 {
     let o = operands_of(stream, pos);
     match expr_value(
         deep,
         stream,
         table,
-        params,
+        scope,
         o.first,
         env,
         actions,
@@ -476,7 +453,7 @@ fn resolve_op(
                 deep,
                 stream,
                 table,
-                params,
+                scope,
                 o.second,
                 env,
                 actions,
@@ -492,7 +469,7 @@ fn call_inbuilt(
     deep: u64,
     stream: &[u8],
     table: &[u16; table::LENGTH],
-    params: &[u64],
+    scope: &[u64],
     pos: usize,
     op: u64,
     count: u64,
@@ -501,13 +478,13 @@ fn call_inbuilt(
     temporaries: &mut [u64],
     state: State,
 ) -> Expr
-    ensures { λ r. ⌜ resolved r (now (actions .exit)) (now (temporaries .exit)) ≡ callInbuilt (resolveExpr deep (now (stream .entry)) (now (table .entry)) (now (params .entry)) env) (now (stream .entry)) (now (table .entry)) env pos op count (now (actions .entry)) (now (temporaries .entry)) state ⌝ }
+    ensures { λ r. ⌜ resolved r (now (actions .exit)) (now (temporaries .exit)) ≡ callInbuilt (resolveExpr deep (now (stream .entry)) (now (table .entry)) (now (scope .entry)) env) (now (stream .entry)) (now (table .entry)) env pos op count (now (actions .entry)) (now (temporaries .entry)) state ⌝ }
 {
     let first = expr_value(
         deep,
         stream,
         table,
-        params,
+        scope,
         after(pos, 4),
         env,
         actions,
@@ -527,7 +504,7 @@ fn call_inbuilt(
                 deep,
                 stream,
                 table,
-                params,
+                scope,
                 next,
                 env,
                 actions,
@@ -543,7 +520,7 @@ pub fn resolve_args(
     deep: u64,
     stream: &[u8],
     table: &[u16; table::LENGTH],
-    params: &[u64],
+    scope: &[u64],
     pos: usize,
     count: u64,
     env: Env,
@@ -552,7 +529,7 @@ pub fn resolve_args(
     args: &mut [u64],
     state: State,
 ) -> Args
-    ensures { λ r. ⌜ passed r (now (actions .exit)) (now (temporaries .exit)) (now (args .exit)) ≡ resolveArgs (resolveExpr deep (now (stream .entry)) (now (table .entry)) (now (params .entry)) env) count 0 pos (now (actions .entry)) (now (temporaries .entry)) (now (args .entry)) state ⌝ }
+    ensures { λ r. ⌜ passed r (now (actions .exit)) (now (temporaries .exit)) (now (args .exit)) ≡ resolveArgs (resolveExpr deep (now (stream .entry)) (now (table .entry)) (now (scope .entry)) env) count 0 pos (now (actions .entry)) (now (temporaries .entry)) (now (args .entry)) state ⌝ }
 {
     let mut at = pos;
     let mut state = state;
@@ -561,7 +538,7 @@ pub fn resolve_args(
             deep,
             stream,
             table,
-            params,
+            scope,
             at,
             env,
             actions,
@@ -586,7 +563,7 @@ fn user_op(
     deep: u64,
     stream: &[u8],
     table: &[u16; table::LENGTH],
-    params: &[u64],
+    scope: &[u64],
     pos: usize,
     id: u64,
     count: u64,
@@ -595,14 +572,14 @@ fn user_op(
     temporaries: &mut [u64],
     state: State,
 ) -> Expr
-    ensures { λ r. ⌜ resolved r (now (actions .exit)) (now (temporaries .exit)) ≡ userOp (resolveExpr deep (now (stream .entry)) (now (table .entry)) (now (params .entry)) env) (now (stream .entry)) (now (table .entry)) env pos id count (now (actions .entry)) (now (temporaries .entry)) state ⌝ }
+    ensures { λ r. ⌜ resolved r (now (actions .exit)) (now (temporaries .exit)) ≡ userOp (resolveExpr deep (now (stream .entry)) (now (table .entry)) (now (scope .entry)) env) (now (stream .entry)) (now (table .entry)) env pos id count (now (actions .entry)) (now (temporaries .entry)) state ⌝ }
 {
     let mut args = [0u64; 64];
     match resolve_args(
         deep,
         stream,
         table,
-        params,
+        scope,
         after(pos, 4),
         count,
         env,
@@ -631,51 +608,49 @@ fn resolve_call(
     deep: u64,
     stream: &[u8],
     table: &[u16; table::LENGTH],
-    params: &[u64],
+    scope: &[u64],
     pos: usize,
     env: Env,
     actions: &mut [u64],
     temporaries: &mut [u64],
     state: State,
 ) -> Expr
-    ensures { λ r. ⌜ resolved r (now (actions .exit)) (now (temporaries .exit)) ≡ resolveCall (resolveExpr deep (now (stream .entry)) (now (table .entry)) (now (params .entry)) env) (now (stream .entry)) (now (table .entry)) (now (params .entry)) env pos (now (actions .entry)) (now (temporaries .entry)) state ⌝ }
+    ensures { λ r. ⌜ resolved r (now (actions .exit)) (now (temporaries .exit)) ≡ resolveCall (resolveExpr deep (now (stream .entry)) (now (table .entry)) (now (scope .entry)) env) (now (stream .entry)) (now (table .entry)) (now (scope .entry)) env pos (now (actions .entry)) (now (temporaries .entry)) state ⌝ }
 {
     let name = u16_in(stream, pos, 1);
     let n = access::byte(stream, pos, 3);
-    let c = callee_of(stream, table, name, n);
-    let kind = c.kind;
-    match kind {
-        INBUILT => call_inbuilt(
+    match callee_of(stream, table, name, n) {
+        Callee::Inbuilt(op) => call_inbuilt(
             deep,
             stream,
             table,
-            params,
+            scope,
             pos,
-            c.number,
+            op,
             n,
             env,
             actions,
             temporaries,
             state,
         ),
-        USER_OP => user_op(
+        Callee::UserOp(id) => user_op(
             deep,
             stream,
             table,
-            params,
+            scope,
             pos,
-            c.number,
+            id,
             n,
             env,
             actions,
             temporaries,
             state,
         ),
-        REFUSED => Expr::No(c.number),
-        _ => subpiece(
+        Callee::No(k) => Expr::No(k),
+        Callee::Local => subpiece(
             stream,
             table,
-            params,
+            scope,
             actions,
             temporaries,
             pos,
@@ -691,28 +666,28 @@ pub fn resolve_expr(
     deep: u64,
     stream: &[u8],
     table: &[u16; table::LENGTH],
-    params: &[u64],
+    scope: &[u64],
     pos: usize,
     env: Env,
     actions: &mut [u64],
     temporaries: &mut [u64],
     state: State,
 ) -> Expr
-    ensures { λ r. ⌜ resolved r (now (actions .exit)) (now (temporaries .exit)) ≡ resolveExpr deep (now (stream .entry)) (now (table .entry)) (now (params .entry)) env pos (now (actions .entry)) (now (temporaries .entry)) state ⌝ }
+    ensures { λ r. ⌜ resolved r (now (actions .exit)) (now (temporaries .exit)) ≡ resolveExpr deep (now (stream .entry)) (now (table .entry)) (now (scope .entry)) env pos (now (actions .entry)) (now (temporaries .entry)) state ⌝ }
 {
     if deep == 0 {
         return Expr::No(refusal::OUTSIDE_LIMIT);
     }
     let code = access::byte(stream, pos, 0);
     if code < expression::TRUNCATE {
-        return atom(code, stream, table, params, temporaries, pos, env, state);
+        return atom(code, stream, table, scope, pos, env, state);
     }
     if code == expression::OP {
         return resolve_op(
             deep - 1,
             stream,
             table,
-            params,
+            scope,
             pos,
             env,
             actions,
@@ -726,7 +701,7 @@ pub fn resolve_expr(
             code,
             stream,
             table,
-            params,
+            scope,
             pos,
             env,
             actions,
@@ -741,7 +716,7 @@ pub fn resolve_expr(
         deep - 1,
         stream,
         table,
-        params,
+        scope,
         pos,
         env,
         actions,

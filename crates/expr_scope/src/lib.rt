@@ -1,3 +1,5 @@
-// What a name means, and the words that hold the arguments of a call.
+// What a name means, and the words of a scope: the slots of its parameters, the small numbers of its locals and labels.
 pub mod args;
 pub mod scope;
+pub mod smalls;
+pub mod symbols;

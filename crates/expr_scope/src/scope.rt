@@ -1,12 +1,15 @@
-// What a name means: a macro parameter, inst_next, inst_start, a local, a global register or bit range.
+// What a name means: a macro parameter, inst_next, inst_start, a local, a global register or bit range. And the slots that
+// hold a scope's parameters.
+use crate::smalls::put_small;
+use crate::smalls::small;
+use crate::symbols::Symbol;
+use crate::symbols::lookup;
 use codes::header;
 use codes::refusal;
-use codes::symbol_kind;
 use codes::table;
 use codes::value_kind;
 use list_pushes::push::Env;
 use list_pushes::push::Read;
-use list_pushes::push::SCOPE_PLACE;
 use list_pushes::push::State;
 use list_pushes::push::add_tmp;
 use list_values::sizes::entry;
@@ -18,10 +21,10 @@ use list_values::value::put;
 use list_values::value::put_value;
 use list_values::value::value_at;
 ghost use mathlib.Core.Path.{_≡_};
-ghost use Prim.Native.Nat.{_+_, _<_};
-ghost use Rattle.list_values.specs.Base.{listed};
+ghost use Rattle.list_pushes.specs.Pushes.{read};
 ghost use Rattle.expr_scope.specs.Slots.{oneValue, slotOf, ofSlot, putSlot, slotAt, paramPlace};
-ghost use Rattle.expr_scope.specs.Scopes.{findParam, isLocal, path, link, linked, onward, findLocal, attach, ownLocal, tmpLocal, lookupLocal, global, bitRange, otherGlobal, resolveIdent, plainFound, plainGlobal, plainInner, plainLocal, namedTmp};
+ghost use Rattle.expr_scope.specs.Scopes.{findParam, ownLocal, tmpLocal, lookupLocal, bitRange, globalMeaning, resolveIdent, plainFound, plainGlobal, plainInner, plainLocal, namedTmp};
+ghost use Rattle.expr_scope.specs.Symbols.{lookup};
 
 // The words of a slot: a parameter's name, the tag, two numbers, and two values of two words each.
 pub const SLOT_NAME: usize = 0;
@@ -57,11 +60,6 @@ const BIT_RANGE: u64 = 7;
 const INST_NEXT: u64 = value_kind::INST_NEXT + 8;
 
 const INST_START: u64 = value_kind::INST_START + 8;
-
-// The left link stands in a temporary's word from bit 32 on, the right one from bit 41 on.
-const LEFT_PLACE: u64 = 4294967296;
-
-const RIGHT_PLACE: u64 = 2199023255552;
 
 // What an expression means before it is read.
 pub enum ExprValue {
@@ -217,105 +215,17 @@ pub fn param_place(index: usize) -> usize
 }
 
 // One more than the number of the last parameter of that name, or 0.
-fn find_param(params: &[u64], count: usize, name: u64) -> usize
-    ensures { λ r. ⌜ r ≡ findParam count (now (params .entry)) name ⌝ }
+fn find_param(scope: &[u64], count: usize, name: u64) -> usize
+    ensures { λ r. ⌜ r ≡ findParam count (now (scope .entry)) name ⌝ }
 {
     let mut i = count;
     while 0 < i {
-        if get(params, param_place(i - 1), SLOT_NAME) == name {
+        if get(scope, param_place(i - 1), SLOT_NAME) == name {
             return i;
         }
         i -= 1;
     }
     0
-}
-
-fn is_local(word: u64, name: u64, scope: u64) -> bool
-    ensures { λ r. ⌜ r ≡ isLocal word name scope ⌝ }
-{
-    if word % 65536 == name {
-        word / SCOPE_PLACE == scope
-    } else {
-        false
-    }
-}
-
-// Named temporaries are nodes of a search tree, whose root is temporary 0. At each node a search goes left where its number is
-// even, right where it is odd, and on with half of that number.
-fn path(name: u64, scope: u64) -> u64
-    ensures { λ r. ⌜ r ≡ path name scope ⌝ }
-{
-    name % 65536 + 37 * (scope % 8192)
-}
-
-// Where a word links to on the side of h: the left link stands in the nine bits from bit 32 on, the right one behind it.
-fn link(word: u64, path: u64) -> usize
-    ensures { λ r. ⌜ r ≡ link word path ⌝ }
-{
-    if path % 2 == 0 {
-        (word / LEFT_PLACE % 512) as usize
-    } else {
-        (word / RIGHT_PLACE % 512) as usize
-    }
-}
-
-// The word that links to n there.
-fn linked(word: u64, path: u64, count: usize) -> u64
-    ensures { λ r. ⌜ r ≡ linked word path count ⌝ }
-{
-    if path % 2 == 0 {
-        word % LEFT_PLACE + (count % 512) as u64 * LEFT_PLACE + word / RIGHT_PLACE * RIGHT_PLACE
-    } else {
-        word % RIGHT_PLACE + (count % 512) as u64 * RIGHT_PLACE + word / SCOPE_PLACE * SCOPE_PLACE
-    }
-}
-
-// The node behind node i, which has this word, on the side of h, or n where none of the n is.
-fn onward(word: u64, index: usize, path: u64, count: usize) -> usize
-    ensures { λ r. ⌜ r ≡ onward word index path count ⌝ }
-{
-    let c = link(word, path);
-    if index < c {
-        if c < count {
-            return c;
-        }
-    }
-    count
-}
-
-// The one of n temporaries that has this name in this scope, or n.
-fn find_local(temporaries: &[u64], count: usize, name: u64, scope: u64) -> usize
-    ensures { λ r. ⌜ r ≡ findLocal count 0 (path name scope) count (now (temporaries .entry)) name scope ⌝ }
-{
-    let mut i = 0;
-    let mut h = path(name, scope);
-    while i < count {
-        let w = access::get(temporaries, i);
-        if is_local(w, name, scope) {
-            return i;
-        }
-        i = onward(w, i, h, count);
-        h /= 2;
-    }
-    count
-}
-
-// Temporary n becomes a node, where a search for it among the first n ends.
-fn attach(temporaries: &mut [u64], count: usize, name: u64, scope: u64)
-    ensures { λ _. ⌜ now (temporaries .exit) ≡ attach count 0 (path name scope) count (now (temporaries .entry)) ⌝ }
-{
-    let mut i = 0;
-    let mut h = path(name, scope);
-    while i < count {
-        let w = access::get(temporaries, i);
-        let c = onward(w, i, h, count);
-        if c == count {
-            access::put(temporaries, i, linked(w, h, count));
-            return;
-        }
-        i = c;
-        h /= 2;
-    }
 }
 
 // A field or a subtable as one number: kind + 8 × (1 + number), or 0 where there is none.
@@ -332,40 +242,27 @@ fn plain_own(table: &[u16; table::LENGTH], name: u64) -> u64
     value_kind::SUBTABLE + 8 * (k / 2)
 }
 
-fn plain_tmp(temporaries: &[u64], count: usize, name: u64, scope: u64) -> u64
-    ensures { λ r. ⌜ r ≡ plainFound (tmpLocal (now (temporaries .entry)) count name scope) ⌝ }
+fn plain_tmp(scope: &[u64], name: u64) -> u64
+    ensures { λ r. ⌜ r ≡ plainFound (tmpLocal (now (scope .entry)) name) ⌝ }
 {
-    let i = find_local(temporaries, count, name, scope);
-    if i < count {
-        return value_kind::PCODE_TMP + 8 * (i as u64 + 1);
+    let k = small(scope, (name % 1024) as usize);
+    if k == 0 {
+        return 0;
     }
-    0
+    value_kind::PCODE_TMP + 8 * k
 }
 
-fn plain_found(
-    table: &[u16; table::LENGTH],
-    temporaries: &[u64],
-    scope: u64,
-    count: usize,
-    name: u64,
-) -> u64
-    ensures { λ r. ⌜ r ≡ plainFound (lookupLocal (now (table .entry)) (now (temporaries .entry)) scope count name) ⌝ }
+fn plain_found(table: &[u16; table::LENGTH], scope: &[u64], own: bool, name: u64) -> u64
+    ensures { λ r. ⌜ r ≡ plainFound (lookupLocal (now (table .entry)) (now (scope .entry)) own name) ⌝ }
 {
-    if scope != 0 {
-        return plain_tmp(temporaries, count, name, scope);
+    if own {
+        let q = plain_own(table, name);
+        if q == 0 {
+            return plain_tmp(scope, name);
+        }
+        return q;
     }
-    let q = plain_own(table, name);
-    if q == 0 {
-        return plain_tmp(temporaries, count, name, scope);
-    }
-    q
-}
-
-// A global of a name: 0, or 1 + kind + 8 × its place in that kind's list.
-pub fn global(table: &[u16; table::LENGTH], name: u64) -> u64
-    ensures { λ r. ⌜ (r ≡ global (now (table .entry)) name) × (r < 65536) ⌝ }
-{
-    access::get_u16(table, table::GLOBALS + (name % 1024) as usize) as u64
+    plain_tmp(scope, name)
 }
 
 fn bit_range(stream: &[u8], table: &[u16; table::LENGTH], index: u64) -> ExprValue
@@ -381,16 +278,11 @@ fn bit_range(stream: &[u8], table: &[u16; table::LENGTH], index: u64) -> ExprVal
 
 // A global register as one number; 0 for a bit range, 1 where a name means nothing or a wrong thing.
 fn plain_global(table: &[u16; table::LENGTH], name: u64) -> u64
-    ensures { λ r. ⌜ r ≡ plainGlobal (global (now (table .entry)) name) ⌝ }
+    ensures { λ r. ⌜ r ≡ plainGlobal (lookup (now (table .entry)) name) ⌝ }
 {
-    let g = global(table, name);
-    if g == 0 {
-        return 1;
-    }
-    let kind = (g - 1) % 8;
-    match kind {
-        symbol_kind::REGISTER => value_kind::REGISTER + 8 * ((g - 1) / 8 + 1),
-        symbol_kind::BIT_RANGE => 0,
+    match lookup(table, name) {
+        Symbol::Register(i) => value_kind::REGISTER + 8 * (i + 1),
+        Symbol::BitRange(_) => 0,
         _ => 1,
     }
 }
@@ -398,12 +290,11 @@ fn plain_global(table: &[u16; table::LENGTH], name: u64) -> u64
 fn plain_inner(
     stream: &[u8],
     table: &[u16; table::LENGTH],
-    temporaries: &[u64],
+    scope: &[u64],
     env: Env,
-    state: State,
     name: u64,
 ) -> u64
-    ensures { λ r. ⌜ r ≡ plainInner (now (stream .entry)) (now (table .entry)) (now (temporaries .entry)) env state name ⌝ }
+    ensures { λ r. ⌜ r ≡ plainInner (now (stream .entry)) (now (table .entry)) (now (scope .entry)) env name ⌝ }
 {
     if name == access::u16_at(stream, header::INST_NEXT) {
         return INST_NEXT;
@@ -411,7 +302,7 @@ fn plain_inner(
     if name == access::u16_at(stream, header::INST_START) {
         return INST_START;
     }
-    let q = plain_found(table, temporaries, env.scope, state.temporaries, name);
+    let q = plain_found(table, scope, env.own, name);
     if q == 0 {
         return plain_global(table, name);
     }
@@ -423,74 +314,68 @@ fn plain_inner(
 pub fn plain_local(
     stream: &[u8],
     table: &[u16; table::LENGTH],
-    params: &[u64],
-    temporaries: &[u64],
+    scope: &[u64],
     env: Env,
-    state: State,
     name: u64,
 ) -> u64
-    ensures { λ r. ⌜ r ≡ plainLocal (now (stream .entry)) (now (table .entry)) (now (params .entry)) (now (temporaries .entry)) env state name ⌝ }
+    ensures { λ r. ⌜ r ≡ plainLocal (now (stream .entry)) (now (table .entry)) (now (scope .entry)) env name ⌝ }
 {
-    if 0 < find_param(params, env.count, name) {
+    if 0 < find_param(scope, env.count, name) {
         return 0;
     }
-    plain_inner(stream, table, temporaries, env, state, name)
+    plain_inner(stream, table, scope, env, name)
 }
 
-// What a global means that is no register.
-fn other_global(stream: &[u8], table: &[u16; table::LENGTH], name: u64) -> Meaning
-    ensures { λ r. ⌜ r ≡ otherGlobal (now (stream .entry)) (now (table .entry)) (global (now (table .entry)) name) ⌝ }
+fn global_meaning(stream: &[u8], table: &[u16; table::LENGTH], symbol: Symbol) -> Meaning
+    ensures { λ r. ⌜ r ≡ globalMeaning (now (stream .entry)) (now (table .entry)) symbol ⌝ }
 {
-    let g = global(table, name);
-    if g == 0 {
-        return Meaning::Wrong(refusal::UNDEFINED);
+    match symbol {
+        Symbol::Undefined => Meaning::Wrong(refusal::UNDEFINED),
+        Symbol::Register(i) => Meaning::Means(ExprValue::Local(local(value_kind::REGISTER, i))),
+        Symbol::BitRange(i) => Meaning::Means(bit_range(stream, table, i)),
+        _ => Meaning::Wrong(refusal::WRONG_KIND),
     }
-    if (g - 1) % 8 == symbol_kind::BIT_RANGE {
-        return Meaning::Means(bit_range(stream, table, (g - 1) / 8));
-    }
-    Meaning::Wrong(refusal::WRONG_KIND)
 }
 
 pub fn resolve_ident(
     stream: &[u8],
     table: &[u16; table::LENGTH],
-    params: &[u64],
-    temporaries: &[u64],
+    scope: &[u64],
     env: Env,
-    state: State,
     name: u64,
 ) -> Meaning
-    ensures { λ r. ⌜ r ≡ resolveIdent (now (stream .entry)) (now (table .entry)) (now (params .entry)) (now (temporaries .entry)) env state name ⌝ }
+    ensures { λ r. ⌜ r ≡ resolveIdent (now (stream .entry)) (now (table .entry)) (now (scope .entry)) env name ⌝ }
 {
-    let i = find_param(params, env.count, name);
+    let i = find_param(scope, env.count, name);
     if 0 < i {
-        return Meaning::Means(of_slot(slot_at(params, param_place(i - 1))));
+        return Meaning::Means(of_slot(slot_at(scope, param_place(i - 1))));
     }
-    let q = plain_inner(stream, table, temporaries, env, state, name);
+    let q = plain_inner(stream, table, scope, env, name);
     if 8 <= q {
         return Meaning::Means(ExprValue::Local(local(q % 8, q / 8 - 1)));
     }
-    other_global(stream, table, name)
+    global_meaning(stream, table, lookup(table, name))
 }
 
-// A named temporary is made, then declared.
+// A named temporary is made, then declared: the scope has one more than its number.
 pub fn named_tmp(
     table: &[u16; table::LENGTH],
+    scope: &mut [u64],
     temporaries: &mut [u64],
     env: Env,
     name: u64,
     size: u64,
     state: State,
 ) -> Read
-    ensures { λ r. ⌜ listed r (now (temporaries .exit)) ≡ namedTmp (now (table .entry)) (now (temporaries .entry)) env name size state ⌝ }
+    ensures { λ r. ⌜ read r (now (scope .exit)) (now (temporaries .exit)) ≡ namedTmp (now (table .entry)) (now (scope .entry)) (now (temporaries .entry)) env name size state ⌝ }
 {
-    match add_tmp(temporaries, name, size, env.scope, state) {
+    match add_tmp(temporaries, name, size, state) {
         Read::No(n) => Read::No(n),
         Read::Value { v, st: next } => {
-            if plain_found(table, temporaries, env.scope, state.temporaries, name) != 0 {
+            if plain_found(table, scope, env.own, name) != 0 {
                 return Read::No(refusal::REDECLARED);
             }
-            attach(temporaries, state.temporaries, name, env.scope);
+            put_small(scope, (name % 1024) as usize, next.temporaries as u64);
             Read::Value { v, st: next }
         }
     }

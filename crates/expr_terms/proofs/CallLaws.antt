@@ -1,9 +1,11 @@
 -- One law for each way out of the functions over calls.
 use mathlib.Core.Path.{_≡_, refl}
-use mathlib.Core.List.{List}
-use Prim.Native.Nat.{ℕ, suc, _+_, _-_, _/_, _%_, _≤_, _<_}
+use mathlib.Core.List.{List, [], _∷_}
+use Prim.Native.Nat.{ℕ, suc, _+_, _-_, _%_, _≤_, _<_}
 use native.Mathlib.Omega.{arith}
 use lib.ListN.{getD}
+use types.Run.{OneOf, miss}
+use denote.Enum.Declared.{tagOf}
 use borrow.Author.Tests.{eq-eqb, ne-eqb, lt-ltb, le-ltb}
 use Rattle.access.specs.Le.{le64}
 use Rattle.expr_inbuilts.specs.declared.inbuilt.Inbuilt.{Inbuilt}
@@ -18,47 +20,52 @@ use Rattle.list_values.specs.Values.{absent, noOutput}
 use Rattle.list_pushes.specs.Pushes.{PushedOut, pushed, pushOp, read, onRead, onPushed}
 use Rattle.expr_scope.specs.declared.scope.ExprValue.{ExprValue}
 use Rattle.expr_scope.specs.declared.scope.Meaning.{Meaning}
+use Rattle.expr_scope.specs.declared.symbols.Symbol.{Symbol}
+use Rattle.expr_scope.proofs.symbols.Symbol as symbol
 use Rattle.expr_terms.specs.declared.answers.Expr.{Expr}
 use Rattle.expr_terms.specs.declared.calls.Callee.{Callee}
 use Rattle.expr_scope.specs.Slots.{argAt}
-use Rattle.expr_scope.specs.Scopes.{global, resolveIdent}
+use Rattle.expr_scope.specs.Symbols.{placeOf, lookup}
+use Rattle.expr_scope.specs.Scopes.{resolveIdent}
 use Rattle.expr_reading.specs.Reading.{readOperand}
 use Rattle.expr_terms.specs.Answers.{resolved, exprOf, after}
-use Rattle.expr_terms.specs.Calls.{callee, symbolOf, inbuiltOr, calleeOf, passArg, passFrom, passArgs, applied, userOpTwo, userOpSome, callUserOp, onlyInteger, subpieceFrom, subpieceOf, subpieceMeant, subpiece}
+use Rattle.expr_terms.specs.Calls.{symbolCalled, inbuiltOr, calleeOf, passArg, passFrom, passArgs, applied, userOpTwo, userOpSome, callUserOp, onlyInteger, subpieceFrom, subpieceOf, subpieceMeant, subpiece}
 use Rattle.access.proofs.LoopLaws.{one-less}
 
 -- ---- what a call's name is
-pub symbol-none : (g : ℕ) → g ≡ 0 → callee 3 0 ≡ symbolOf g
-unfolding symbolOf if_then_else_
-symbol-none g z = rw z
+pub symbol-user-op : (x : Symbol) (id : ℕ) → x ≡ Symbol.UserOp id → Callee.UserOp id ≡ symbolCalled x
+unfolding symbolCalled
+symbol-user-op x id e = rw e
 
-module _ (g : ℕ) (z : g ≡ 0 → ⊥) where
-  pub symbol-user-op : (g - 1) % 8 ≡ 4 → callee 1 ((g - 1) / 8) ≡ symbolOf g
-  unfolding symbolOf if_then_else_
-  symbol-user-op k = rw (ne-eqb g 0 z, eq-eqb ((g - 1) % 8) 4 k)
+pub symbol-macro : (x : Symbol) (id : ℕ) → x ≡ Symbol.Macro id → Callee.No 34 ≡ symbolCalled x
+unfolding symbolCalled
+symbol-macro x id e = rw e
 
-  pub symbol-macro : ((g - 1) % 8 ≡ 4 → ⊥) → (g - 1) % 8 ≡ 5 → callee 2 34 ≡ symbolOf g
-  unfolding symbolOf if_then_else_
-  symbol-macro k l = rw (ne-eqb g 0 z, ne-eqb ((g - 1) % 8) 4 k, eq-eqb ((g - 1) % 8) 5 l)
-
-  pub symbol-other : ((g - 1) % 8 ≡ 4 → ⊥) → ((g - 1) % 8 ≡ 5 → ⊥) → callee 3 0 ≡ symbolOf g
-  unfolding symbolOf if_then_else_
-  symbol-other k l = rw (ne-eqb g 0 z, ne-eqb ((g - 1) % 8) 4 k, ne-eqb ((g - 1) % 8) 5 l)
+pub symbol-other : (x : Symbol) → OneOf (0 ∷ 1 ∷ 2 ∷ 3 ∷ 4 ∷ 7 ∷ []) (tagOf symbol.the-type x) → Callee.Local ≡ symbolCalled x
+unfolding symbolCalled
+symbol-other Symbol.Undefined o = refl
+symbol-other (Symbol.Space i) o = refl
+symbol-other (Symbol.Register i) o = refl
+symbol-other (Symbol.BitRange i) o = refl
+symbol-other (Symbol.Table i) o = refl
+symbol-other (Symbol.UserOp i) o = absurd (miss (0 ∷ 1 ∷ 2 ∷ 3 ∷ 4 ∷ 7 ∷ []) 5 tt o)
+symbol-other (Symbol.Macro i) o = absurd (miss (0 ∷ 1 ∷ 2 ∷ 3 ∷ 4 ∷ 7 ∷ []) 6 tt o)
+symbol-other (Symbol.Other i) o = refl
 
 module _ (f : Inbuilt) (t : List ℕ) (name n : ℕ) where
-  pub inbuilt-none : (g : ℕ) (r : Callee) → f .arguments ≡ 0 → g ≡ global t name → r ≡ symbolOf g → r ≡ inbuiltOr f (global t name) n
+  pub inbuilt-none : (x : Symbol) (r : Callee) → f .arguments ≡ 0 → (x ≡ lookup t name) × (placeOf x < 8192) → r ≡ symbolCalled x → r ≡ inbuiltOr f (lookup t name) n
   unfolding inbuiltOr if_then_else_
-  inbuilt-none g r z e h = rw (eq-eqb (f .arguments) 0 z, ← e) h
+  inbuilt-none x r z e h = rw (eq-eqb (f .arguments) 0 z, ← e .0) h
 
-  pub inbuilt-count : (f .arguments ≡ 0 → ⊥) → (f .arguments ≡ n → ⊥) → callee 2 33 ≡ inbuiltOr f (global t name) n
+  pub inbuilt-count : (f .arguments ≡ 0 → ⊥) → (f .arguments ≡ n → ⊥) → Callee.No 33 ≡ inbuiltOr f (lookup t name) n
   unfolding inbuiltOr if_then_else_
   inbuilt-count z k = rw (ne-eqb (f .arguments) 0 z, ne-eqb (f .arguments) n k)
 
-  pub inbuilt-found : (f .arguments ≡ 0 → ⊥) → f .arguments ≡ n → callee 0 (f .op) ≡ inbuiltOr f (global t name) n
+  pub inbuilt-found : (f .arguments ≡ 0 → ⊥) → f .arguments ≡ n → Callee.Inbuilt (f .op) ≡ inbuiltOr f (lookup t name) n
   unfolding inbuiltOr if_then_else_
   inbuilt-found z k = rw (ne-eqb (f .arguments) 0 z, eq-eqb (f .arguments) n k)
 
-pub callee-law : (s t : List ℕ) (name n at : ℕ) (f : Inbuilt) (r : Callee) → at ≡ getD t (name % 1024) 0 → f ≡ inbuiltAt s at → r ≡ inbuiltOr f (global t name) n → r ≡ calleeOf s t name n
+pub callee-law : (s t : List ℕ) (name n at : ℕ) (f : Inbuilt) (r : Callee) → at ≡ getD t (name % 1024) 0 → f ≡ inbuiltAt s at → r ≡ inbuiltOr f (lookup t name) n → r ≡ calleeOf s t name n
 unfolding calleeOf
 callee-law s t name n at f r e q h = rw (← e, ← q) h
 
@@ -162,7 +169,7 @@ module _ (s : List ℕ) (pos n : ℕ) (r : Read) (v : Value) (st : State) (q : r
   unfolding subpieceOf subpieceFrom if_then_else_
   subpiece-from y next z h ey en g = rw (q, ← e, le-ltb 255 offset h, ← en) (rw ey at g)
 
-module _ (s t p a m : List ℕ) (pos name n : ℕ) (e : Env) (st : State) (x : Meaning) (f : x ≡ resolveIdent s t p m e st name) where
+module _ (s t p a m : List ℕ) (pos name n : ℕ) (e : Env) (st : State) (x : Meaning) (f : x ≡ resolveIdent s t p e name) where
   pub subpiece-wrong : (k : ℕ) → x ≡ Meaning.Wrong k → resolved (Expr.No k) a m ≡ subpiece s t p a m pos name n e st
   unfolding subpiece subpieceMeant
   subpiece-wrong k q = rw (← f, q)
@@ -172,4 +179,4 @@ module _ (s t p a m : List ℕ) (pos name n : ℕ) (e : Env) (st : State) (x : M
   unfolding subpiece subpieceMeant exprOf
   subpiece-meant y r a1 m1 z q g h = rw (← f, q, ← g, h)
 
-pub ruleset call-laws = (symbol-none, symbol-user-op, symbol-macro, symbol-other, inbuilt-none, inbuilt-count, inbuilt-found, callee-law, pass-no, pass-yes, two-no, two-yes, some-no, some-two, some-one, user-op-no, user-op-none, user-op-some, integer-not-one, integer-other, integer-found, subpiece-no, subpiece-far, subpiece-from, subpiece-wrong, subpiece-meant)
+pub ruleset call-laws = (symbol-user-op, symbol-macro, symbol-other, inbuilt-none, inbuilt-count, inbuilt-found, callee-law, pass-no, pass-yes, two-no, two-yes, some-no, some-two, some-one, user-op-no, user-op-none, user-op-some, integer-not-one, integer-other, integer-found, subpiece-no, subpiece-far, subpiece-from, subpiece-wrong, subpiece-meant)

@@ -22,9 +22,11 @@ use Rattle.list_values.specs.Sizes.{entry}
 use Rattle.list_pushes.specs.Pushes.{read, onRead}
 use Rattle.expr_scope.specs.declared.scope.ExprValue.{ExprValue}
 use Rattle.expr_scope.proofs.scope.ExprValue as exprValue
+use Rattle.expr_scope.specs.declared.symbols.Symbol.{Symbol}
+use Rattle.expr_scope.proofs.symbols.Symbol as symbol
 use Rattle.expr_terms.specs.declared.answers.Expr.{Expr}
 use Rattle.expr_terms.specs.declared.address.Space.{Space}
-use Rattle.expr_scope.specs.Scopes.{global}
+use Rattle.expr_scope.specs.Symbols.{placeOf, lookup}
 use Rattle.expr_reading.specs.Reading.{neededBytes, readSlice, readOperand}
 use Rattle.expr_terms.specs.Answers.{resolved, exprOf}
 use Rattle.expr_terms.specs.Slices.{lowBits, unboundThen, sliceRead, constBytes, sliceConst, sliceRange, sliceBits}
@@ -154,18 +156,28 @@ pub space-kind : (s t : List ℕ) (i at k : ℕ) → at ≡ entry t 0 (i % 65536
 unfolding kindOfSpace
 space-kind s t i at k e h = rw (← e, h)
 
-module _ (s t : List ℕ) (name g : ℕ) (e : g ≡ global t name) where
-  pub space-undefined : g ≡ 0 → Space.No 22 ≡ namedSpace s t name
-  unfolding namedSpace spaceOf if_then_else_
-  space-undefined z = rw (← e, z)
+module _ (s t : List ℕ) (name : ℕ) (x : Symbol) (e : (x ≡ lookup t name) × (placeOf x < 8192)) where
+  pub space-undefined : x ≡ Symbol.Undefined → Space.No 22 ≡ namedSpace s t name
+  unfolding namedSpace spaceOf
+  space-undefined q = rw (← e .0, q)
 
-  pub space-wrong : (g ≡ 0 → ⊥) → ((g - 1) % 8 ≡ 0 → ⊥) → Space.No 23 ≡ namedSpace s t name
-  unfolding namedSpace spaceOf if_then_else_
-  space-wrong z k = rw (← e, ne-eqb g 0 z, ne-eqb ((g - 1) % 8) 0 k)
+  pub space-found : (i : ℕ) (r : Space) → x ≡ Symbol.Space i → r ≡ kindOfSpace s t i → r ≡ namedSpace s t name
+  unfolding namedSpace spaceOf
+  space-found i r q h = rw (← e .0, q) h
 
-  pub space-found : (r : Space) → (g ≡ 0 → ⊥) → (g - 1) % 8 ≡ 0 → r ≡ kindOfSpace s t ((g - 1) / 8) → r ≡ namedSpace s t name
-  unfolding namedSpace spaceOf if_then_else_
-  space-found r z k h = rw (← e, ne-eqb g 0 z, eq-eqb ((g - 1) % 8) 0 k) h
+  pub space-wrong : OneOf (2 ∷ 3 ∷ 4 ∷ 5 ∷ 6 ∷ 7 ∷ []) (tagOf symbol.the-type x) → Space.No 23 ≡ namedSpace s t name
+  unfolding namedSpace
+  space-wrong o = rw (← e .0) (go x o)
+    where
+      go : (x : Symbol) → OneOf (2 ∷ 3 ∷ 4 ∷ 5 ∷ 6 ∷ 7 ∷ []) (tagOf symbol.the-type x) → Space.No 23 ≡ spaceOf s t x
+      go Symbol.Undefined o = absurd (miss (2 ∷ 3 ∷ 4 ∷ 5 ∷ 6 ∷ 7 ∷ []) 0 tt o)
+      go (Symbol.Space i) o = absurd (miss (2 ∷ 3 ∷ 4 ∷ 5 ∷ 6 ∷ 7 ∷ []) 1 tt o)
+      go (Symbol.Register i) o = unfold spaceOf in refl
+      go (Symbol.BitRange i) o = unfold spaceOf in refl
+      go (Symbol.Table i) o = unfold spaceOf in refl
+      go (Symbol.UserOp i) o = unfold spaceOf in refl
+      go (Symbol.Macro i) o = unfold spaceOf in refl
+      go (Symbol.Other i) o = unfold spaceOf in refl
 
 pub space-named : (s t : List ℕ) (name : ℕ) (r : Space) → (name ≡ 65535 → ⊥) → r ≡ namedSpace s t name → r ≡ resolveSpace s t name
 unfolding resolveSpace if_then_else_

@@ -1,5 +1,5 @@
 -- Addresses: the place that a pointer in a space refers to.
-use Prim.Native.Nat.{ℕ, _+_, _-_, _*_, _/_, _%_}
+use Prim.Native.Nat.{ℕ, _+_, _*_, _%_}
 use mathlib.Core.List.{List}
 use lib.ListN.{getD}
 use lib.Dec.{eqb}
@@ -12,9 +12,10 @@ use Rattle.prelude.specs.Base.{if_then_else_}
 use Rattle.list_values.specs.Values.{withSize}
 use Rattle.list_values.specs.Sizes.{entry}
 use Rattle.expr_scope.specs.declared.scope.ExprValue.{ExprValue}
+use Rattle.expr_scope.specs.declared.symbols.Symbol.{Symbol}
 use Rattle.expr_terms.specs.declared.answers.Expr.{Expr}
 use Rattle.expr_terms.specs.declared.address.Space.{Space}
-use Rattle.expr_scope.specs.Scopes.{global}
+use Rattle.expr_scope.specs.Symbols.{lookup}
 use Rattle.expr_reading.specs.Reading.{readOperand}
 use Rattle.expr_terms.specs.Answers.{ExprOut, resolved, exprOf}
 
@@ -35,14 +36,18 @@ inConstSpace (ExprValue.BitRange v from bits) size next st = Expr.No 38
 unfoldable pub kindOfSpace : List ℕ → List ℕ → ℕ → Space
 kindOfSpace s t i = Space.Kind (getD s (entry t 0 (i % 65536 * 5) + 2) 0)
 
-unfoldable pub spaceOf : List ℕ → List ℕ → ℕ → Space
-spaceOf s t g =
-    if eqb g 0 then Space.No 22
-    else if eqb ((g - 1) % 8) 0 then kindOfSpace s t ((g - 1) / 8)
-    else Space.No 23
+unfoldable pub spaceOf : List ℕ → List ℕ → Symbol → Space
+spaceOf s t Symbol.Undefined = Space.No 22
+spaceOf s t (Symbol.Space i) = kindOfSpace s t i
+spaceOf s t (Symbol.Register i) = Space.No 23
+spaceOf s t (Symbol.BitRange i) = Space.No 23
+spaceOf s t (Symbol.Table i) = Space.No 23
+spaceOf s t (Symbol.UserOp i) = Space.No 23
+spaceOf s t (Symbol.Macro i) = Space.No 23
+spaceOf s t (Symbol.Other i) = Space.No 23
 
 unfoldable pub namedSpace : List ℕ → List ℕ → ℕ → Space
-namedSpace s t name = spaceOf s t (global t name)
+namedSpace s t name = spaceOf s t (lookup t name)
 
 unfoldable pub defaultSpace : List ℕ → List ℕ → ℕ → Space
 defaultSpace s t i = if eqb i 65535 then Space.No 39 else kindOfSpace s t i

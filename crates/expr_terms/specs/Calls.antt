@@ -1,5 +1,5 @@
 -- Calls in expressions: built-in functions come before any symbol, then user ops; the rest is a subpiece of a local.
-use Prim.Native.Nat.{ℕ, zero, suc, _+_, _-_, _/_, _%_}
+use Prim.Native.Nat.{ℕ, zero, suc, _+_, _-_, _%_}
 use mathlib.Core.List.{List}
 use lib.ListN.{getD}
 use lib.Dec.{eqb, ltb}
@@ -16,33 +16,35 @@ use Rattle.list_values.specs.Values.{absent, noOutput}
 use Rattle.list_pushes.specs.Pushes.{PushedOut, pushed, pushOp, onRead, onPushed}
 use Rattle.expr_scope.specs.declared.scope.ExprValue.{ExprValue}
 use Rattle.expr_scope.specs.declared.scope.Meaning.{Meaning}
+use Rattle.expr_scope.specs.declared.symbols.Symbol.{Symbol}
 use Rattle.expr_terms.specs.declared.answers.Expr.{Expr}
 use Rattle.expr_terms.specs.declared.calls.Callee.{Callee}
 use Rattle.expr_scope.specs.Slots.{argAt}
-use Rattle.expr_scope.specs.Scopes.{global, resolveIdent}
+use Rattle.expr_scope.specs.Symbols.{lookup}
+use Rattle.expr_scope.specs.Scopes.{resolveIdent}
 use Rattle.expr_reading.specs.Reading.{readOperand}
 use Rattle.expr_terms.specs.Answers.{ExprOut, resolved, exprOf, after}
 
-abbrev pub callee : ℕ → ℕ → Callee
-callee kind number = record { kind = kind; number = number }
-
 -- of a global: a user op, a macro, which is refused, or none of these
-unfoldable pub symbolOf : ℕ → Callee
-symbolOf g =
-    if eqb g 0 then callee 3 0
-    else if eqb ((g - 1) % 8) 4 then callee 1 ((g - 1) / 8)
-    else if eqb ((g - 1) % 8) 5 then callee 2 34
-    else callee 3 0
+unfoldable pub symbolCalled : Symbol → Callee
+symbolCalled (Symbol.UserOp id) = Callee.UserOp id
+symbolCalled (Symbol.Macro id) = Callee.No 34
+symbolCalled Symbol.Undefined = Callee.Local
+symbolCalled (Symbol.Space i) = Callee.Local
+symbolCalled (Symbol.Register i) = Callee.Local
+symbolCalled (Symbol.BitRange i) = Callee.Local
+symbolCalled (Symbol.Table i) = Callee.Local
+symbolCalled (Symbol.Other i) = Callee.Local
 
-unfoldable pub inbuiltOr : Inbuilt → ℕ → ℕ → Callee
-inbuiltOr f g n =
-    if eqb (f .arguments) 0 then symbolOf g
-    else if eqb (f .arguments) n then callee 0 (f .op)
-    else callee 2 33
+unfoldable pub inbuiltOr : Inbuilt → Symbol → ℕ → Callee
+inbuiltOr f x n =
+    if eqb (f .arguments) 0 then symbolCalled x
+    else if eqb (f .arguments) n then Callee.Inbuilt (f .op)
+    else Callee.No 33
 
 -- the built-in spellings come before any symbol
 unfoldable pub calleeOf : List ℕ → List ℕ → ℕ → ℕ → Callee
-calleeOf s t name n = inbuiltOr (inbuiltAt s (getD t (name % 1024) 0)) (global t name) n
+calleeOf s t name n = inbuiltOr (inbuiltAt s (getD t (name % 1024) 0)) (lookup t name) n
 
 -- an argument, followed by its Arg
 unfoldable pub passArg : List ℕ → List ℕ → List ℕ → List ℕ → ExprValue → ℕ → Env → State → PushedOut
@@ -105,4 +107,4 @@ subpieceMeant (Meaning.Wrong k) s t a m pos n e st = resolved (Expr.No k) a m
 
 -- a call of a local: part of it, from a byte on
 unfoldable pub subpiece : List ℕ → List ℕ → List ℕ → List ℕ → List ℕ → ℕ → ℕ → ℕ → Env → State → ExprOut
-subpiece s t p a m pos name n e st = subpieceMeant (resolveIdent s t p m e st name) s t a m pos n e st
+subpiece s t p a m pos name n e st = subpieceMeant (resolveIdent s t p e name) s t a m pos n e st

@@ -3,11 +3,11 @@ use crate::answers::Expr;
 use codes::NONE;
 use codes::header;
 use codes::refusal;
-use codes::symbol_kind;
 use codes::table;
 use expr_reading::read::read_operand;
 use expr_scope::scope::ExprValue;
-use expr_scope::scope::global;
+use expr_scope::symbols::Symbol;
+use expr_scope::symbols::lookup;
 use list_pushes::push::Env;
 use list_pushes::push::Read;
 use list_pushes::push::State;
@@ -63,14 +63,11 @@ fn kind_of_space(stream: &[u8], table: &[u16; table::LENGTH], index: u64) -> Spa
 fn named_space(stream: &[u8], table: &[u16; table::LENGTH], name: u64) -> Space
     ensures { λ r. ⌜ r ≡ namedSpace (now (stream .entry)) (now (table .entry)) name ⌝ }
 {
-    let g = global(table, name);
-    if g == 0 {
-        return Space::No(refusal::UNDEFINED);
+    match lookup(table, name) {
+        Symbol::Undefined => Space::No(refusal::UNDEFINED),
+        Symbol::Space(i) => kind_of_space(stream, table, i),
+        _ => Space::No(refusal::WRONG_KIND),
     }
-    if (g - 1) % 8 != symbol_kind::SPACE {
-        return Space::No(refusal::WRONG_KIND);
-    }
-    kind_of_space(stream, table, (g - 1) / 8)
 }
 
 // The named space, else the default one.

@@ -4,7 +4,6 @@ use crate::answers::after;
 use codes::expression;
 use codes::operation;
 use codes::refusal;
-use codes::symbol_kind;
 use codes::table;
 use expr_inbuilts::inbuilt::Inbuilt;
 use expr_inbuilts::inbuilt::translate_inbuilt_func;
@@ -12,8 +11,9 @@ use expr_reading::read::read_operand;
 use expr_scope::args::arg_at;
 use expr_scope::scope::ExprValue;
 use expr_scope::scope::Meaning;
-use expr_scope::scope::global;
 use expr_scope::scope::resolve_ident;
+use expr_scope::symbols::Symbol;
+use expr_scope::symbols::lookup;
 use list_pushes::push::Env;
 use list_pushes::push::Pushed;
 use list_pushes::push::Read;
@@ -25,17 +25,8 @@ use list_values::value::no_output;
 ghost use mathlib.Core.Path.{_≡_};
 ghost use Rattle.list_pushes.specs.Pushes.{pushed};
 ghost use Rattle.expr_terms.specs.Answers.{resolved};
-ghost use Rattle.expr_terms.specs.Calls.{symbolOf, inbuiltOr, calleeOf, passArg, passArgs, applied, userOpTwo, userOpSome, callUserOp, onlyInteger, subpieceOf, subpiece};
-ghost use Rattle.expr_scope.specs.Scopes.{global};
-
-// What a call's name is.
-pub const INBUILT: u64 = 0;
-
-pub const USER_OP: u64 = 1;
-
-pub const REFUSED: u64 = 2;
-
-pub const LOCAL: u64 = 3;
+ghost use Rattle.expr_terms.specs.Calls.{symbolCalled, inbuiltOr, calleeOf, passArg, passArgs, applied, userOpTwo, userOpSome, callUserOp, onlyInteger, subpieceOf, subpiece};
+ghost use Rattle.expr_scope.specs.Symbols.{lookup};
 
 // What stands for an argument that is not one integer.
 const NO_INTEGER: u64 = 18446744073709551615;
@@ -43,55 +34,35 @@ const NO_INTEGER: u64 = 18446744073709551615;
 // The greatest argument of a subpiece.
 const LAST_SUBPIECE: u64 = 255;
 
-// What a call's name is, and the number of the operation, the user op or the refusal.
-pub struct Callee {
-    pub kind: u64,
-    pub number: u64,
+// What a call's name is: a built-in function by its operation, a user op by its number, a local, or what is refused.
+pub enum Callee {
+    Inbuilt(u64),
+    UserOp(u64),
+    Local,
+    No(u64),
 }
 
-fn symbol_of(symbol: u64) -> Callee
-    ensures { λ r. ⌜ r ≡ symbolOf symbol ⌝ }
+// A global called: a user op, a macro, which no expression calls, or none of these.
+fn symbol_called(symbol: Symbol) -> Callee
+    ensures { λ r. ⌜ r ≡ symbolCalled symbol ⌝ }
 {
-    if symbol == 0 {
-        return Callee {
-            kind: LOCAL,
-            number: 0,
-        };
-    }
-    if (symbol - 1) % 8 == symbol_kind::USER_OP {
-        return Callee {
-            kind: USER_OP,
-            number: (symbol - 1) / 8,
-        };
-    }
-    if (symbol - 1) % 8 == symbol_kind::MACRO {
-        return Callee {
-            kind: REFUSED,
-            number: refusal::MACRO_IN_EXPRESSION,
-        };
-    }
-    Callee {
-        kind: LOCAL,
-        number: 0,
+    match symbol {
+        Symbol::UserOp(id) => Callee::UserOp(id),
+        Symbol::Macro(_) => Callee::No(refusal::MACRO_IN_EXPRESSION),
+        _ => Callee::Local,
     }
 }
 
 fn inbuilt_or(inbuilt: Inbuilt, table: &[u16; table::LENGTH], name: u64, count: u64) -> Callee
-    ensures { λ r. ⌜ r ≡ inbuiltOr inbuilt (global (now (table .entry)) name) count ⌝ }
+    ensures { λ r. ⌜ r ≡ inbuiltOr inbuilt (lookup (now (table .entry)) name) count ⌝ }
 {
     if inbuilt.arguments == 0 {
-        return symbol_of(global(table, name));
+        return symbol_called(lookup(table, name));
     }
     if inbuilt.arguments != count {
-        return Callee {
-            kind: REFUSED,
-            number: refusal::ARGUMENT_COUNT,
-        };
+        return Callee::No(refusal::ARGUMENT_COUNT);
     }
-    Callee {
-        kind: INBUILT,
-        number: inbuilt.op,
-    }
+    Callee::Inbuilt(inbuilt.op)
 }
 
 pub fn callee_of(stream: &[u8], table: &[u16; table::LENGTH], name: u64, count: u64) -> Callee
@@ -339,7 +310,7 @@ fn subpiece_of(stream: &[u8], pos: usize, count: u64, answer: Read) -> Expr
 pub fn subpiece(
     stream: &[u8],
     table: &[u16; table::LENGTH],
-    params: &[u64],
+    scope: &[u64],
     actions: &mut [u64],
     temporaries: &mut [u64],
     pos: usize,
@@ -348,9 +319,9 @@ pub fn subpiece(
     env: Env,
     state: State,
 ) -> Expr
-    ensures { λ r. ⌜ resolved r (now (actions .exit)) (now (temporaries .exit)) ≡ subpiece (now (stream .entry)) (now (table .entry)) (now (params .entry)) (now (actions .entry)) (now (temporaries .entry)) pos name count env state ⌝ }
+    ensures { λ r. ⌜ resolved r (now (actions .exit)) (now (temporaries .exit)) ≡ subpiece (now (stream .entry)) (now (table .entry)) (now (scope .entry)) (now (actions .entry)) (now (temporaries .entry)) pos name count env state ⌝ }
 {
-    match resolve_ident(stream, table, params, temporaries, env, state, name) {
+    match resolve_ident(stream, table, scope, env, name) {
         Meaning::Wrong(k) => Expr::No(k),
         Meaning::Means(x) => subpiece_of(
             stream,

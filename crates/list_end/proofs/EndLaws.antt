@@ -6,15 +6,16 @@ use Prim.Native.Nat.{ℕ, suc, _+_, _-_, _*_, _/_, _%_, _^_, _≤_, _<_}
 use native.Mathlib.Omega.{arith}
 use lib.ListN.{length, getD, set, take, replicate}
 use lib.Seq.{set-getD}
-use borrow.Author.Tests.{eq-eqb, ne-eqb, lt-ltb, le-ltb}
+use borrow.Author.Tests.{eq-eqb, ne-eqb}
 use Rattle.list_values.specs.declared.value.Value.{Value}
+use Rattle.list_values.specs.declared.value.Slice.{Slice}
 use Rattle.list_values.specs.declared.sizes.Sizing.{Sizing}
 use Rattle.list_end.specs.declared.end.Fixed.{Fixed}
 use Rattle.list_end.specs.declared.end.Finished.{Finished}
 use Rattle.list_values.specs.Base.{Listed, listed, thenL}
 use Rattle.prelude.specs.Base.{if_then_else_}
 use Rattle.access.specs.Loops.{run}
-use Rattle.list_values.specs.Values.{withSize, word, valueOf, valueAt, putValue, place, zeroWord}
+use Rattle.list_values.specs.Values.{withSize, sliceBytes, word, valueOf, valueAt, putValue, place, zeroWord}
 use Rattle.list_values.specs.Sizes.{sizeOf, recorded, error, fallsBack}
 use Rattle.list_end.specs.End.{fixed, finished, fixSize, putFixed, fixOperand, fixInput, fixInputs, fixOutput, fixOperands, writeCopy, copyOf, subpieceCopy, finishFixed, finishOp, thenF, finishFrom, finishActions, markBuild, markAction, markBuilt, zeroAction, writeBuild, implicitBuild, implicitBuilds, moveWord, moveAction, moveTo, moveDown, zeroFrom, assemble}
 use Rattle.access.proofs.LoopLaws.{run-end}
@@ -85,23 +86,23 @@ pub fix-operands-law : (s t a m a1 a2 : List ℕ) (at ptr n : ℕ) (z y x : Sizi
 unfolding fixOperands thenL
 fix-operands-law s t a m a1 a2 at ptr n z y x p q e = rw (← p, ← q) e
 
-pub write-copy-law : (a a1 a2 a3 : List ℕ) (at offset size : ℕ) (v : Value) → a1 ≡ set a (at + 1) 57 → a2 ≡ set a1 (at + 2) 0 → a3 ≡ putValue a2 at 6 (record { kind = v .kind; number = v .number; offset = offset; size = size }) → a3 ≡ writeCopy a at v offset size
+pub write-copy-law : (a a1 a2 a3 : List ℕ) (at : ℕ) (v : Value) → a1 ≡ set a (at + 1) 57 → a2 ≡ set a1 (at + 2) 0 → a3 ≡ putValue a2 at 6 v → a3 ≡ writeCopy a at v
 unfolding writeCopy
-write-copy-law a a1 a2 a3 at offset size v p q e = rw (← p, ← q) e
+write-copy-law a a1 a2 a3 at v p q e = rw (← p, ← q) e
 
 module _ (a : List ℕ) (at : ℕ) (u : Value) (p : u ≡ valueAt a at 4) where
   pub copy-unsized : u .size ≡ 65535 → listed 50 a ≡ subpieceCopy a at
-  unfolding subpieceCopy copyOf if_then_else_
+  unfolding subpieceCopy if_then_else_
   copy-unsized h = rw (← p, eq-eqb (u .size) 65535 h)
 
-  module _ (v : Value) (n : ℕ) (h : u .size ≡ 65535 → ⊥) (q : v ≡ valueAt a at 6) (o : n ≡ getD a (at + 2) 0) where
-    pub copy-far : 65535 < v .offset + n % 65536 → listed 42 a ≡ subpieceCopy a at
+  module _ (v : Value) (n : ℕ) (h : u .size ≡ 65535 → ⊥) (q : v ≡ valueAt a at 6) (o : n ≡ getD a (at + 2) 0) (x : Slice) (f : x ≡ sliceBytes v (n % 65536) (u .size)) where
+    pub copy-refused : (k : ℕ) → x ≡ Slice.No k → listed k a ≡ subpieceCopy a at
     unfolding subpieceCopy copyOf if_then_else_
-    copy-far k = rw (← p, ← q, ← o, ne-eqb (u .size) 65535 h, lt-ltb 65535 (v .offset + n % 65536) k)
+    copy-refused k e = rw (← p, ← q, ← o, ne-eqb (u .size) 65535 h, ← f, e)
 
-    pub copy-written : (a1 : List ℕ) → v .offset + n % 65536 ≤ 65535 → a1 ≡ writeCopy a at v (v .offset + n % 65536) (u .size) → listed 0 a1 ≡ subpieceCopy a at
+    pub copy-written : (part : Value) (a1 : List ℕ) → x ≡ Slice.Is part → a1 ≡ writeCopy a at part → listed 0 a1 ≡ subpieceCopy a at
     unfolding subpieceCopy copyOf if_then_else_
-    copy-written a1 k e = rw (← p, ← q, ← o, ne-eqb (u .size) 65535 h, le-ltb 65535 (v .offset + n % 65536) k, e)
+    copy-written part a1 e k = rw (← p, ← q, ← o, ne-eqb (u .size) 65535 h, ← f, e, k)
 
 module _ (s t a m : List ℕ) (at ptr : ℕ) (z : Sizing) (k : ℕ) (p : k ≡ getD a (at + 0) 0) where
   pub finish-other : (k ≡ 0 → ⊥) → listed (finished 0 z) a ≡ finishOp s t a m at ptr z
@@ -203,4 +204,4 @@ pub assemble-law : (a a1 a2 a3 built : List ℕ) (subtables n base k count at : 
 unfolding assemble zeroFrom thenL
 assemble-law a a1 a2 a3 built subtables n base k count at p q h e c o f = rw (← p, ← q, ← h, ← e, ← c, ← o, f)
 
-pub ruleset end-laws = (fix-known, fix-fallback, fix-error, fix-operand-law, fix-sized, fix-no-output, fix-some-output, fix-operands-law, write-copy-law, copy-unsized, copy-far, copy-written, finish-other, finish-fixed, finish-copy, mark-other, mark-one, write-build-law, implicit-built, implicit-new, assemble-law)
+pub ruleset end-laws = (fix-known, fix-fallback, fix-error, fix-operand-law, fix-sized, fix-no-output, fix-some-output, fix-operands-law, write-copy-law, copy-unsized, copy-refused, copy-written, finish-other, finish-fixed, finish-copy, mark-other, mark-one, write-build-law, implicit-built, implicit-new, assemble-law)

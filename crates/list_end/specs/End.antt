@@ -2,15 +2,16 @@
 use Prim.Native.Nat.{ℕ, zero, suc, _+_, _-_, _*_, _%_, _^_}
 use mathlib.Core.List.{List, _++_}
 use lib.ListN.{length, getD, set, take, replicate}
-use lib.Dec.{eqb, ltb}
+use lib.Dec.{eqb}
 use Rattle.list_values.specs.declared.value.Value.{Value}
+use Rattle.list_values.specs.declared.value.Slice.{Slice}
 use Rattle.list_values.specs.declared.sizes.Sizing.{Sizing}
 use Rattle.list_end.specs.declared.end.Fixed.{Fixed}
 use Rattle.list_end.specs.declared.end.Finished.{Finished}
 use Rattle.list_values.specs.Base.{Listed, listed, thenL}
 use Rattle.prelude.specs.Base.{if_then_else_}
 use Rattle.access.specs.Loops.{run}
-use Rattle.list_values.specs.Values.{withSize, valueAt, putValue, place, zeroWord}
+use Rattle.list_values.specs.Values.{withSize, sliceBytes, valueAt, putValue, place, zeroWord}
 use Rattle.list_values.specs.Sizes.{sizeOf, error, fallsBack}
 
 abbrev pub fixed : Value → Sizing → Fixed
@@ -46,21 +47,19 @@ unfoldable pub fixOperands : List ℕ → List ℕ → List ℕ → List ℕ →
 fixOperands s t a m at ptr z =
     thenL (fixInputs s t a m at (getD a (at + 3) 0 % 16) ptr z) λ y b. fixOutput s t b m at ptr y
 
--- the Copy of the part of a value that begins at an offset and has that size
-unfoldable pub writeCopy : List ℕ → ℕ → Value → ℕ → ℕ → List ℕ
-writeCopy a at v offset size =
-    putValue (set (set a (at + 1) 57) (at + 2) 0) at 6 (record { kind = v .kind; number = v .number; offset = offset; size = size })
+-- the Copy of a part of a value
+unfoldable pub writeCopy : List ℕ → ℕ → Value → List ℕ
+writeCopy a at part = putValue (set (set a (at + 1) 57) (at + 2) 0) at 6 part
 
--- a subpiece with that input and output size becomes a Copy of part of its input: 50 or 42, or 0
-unfoldable pub copyOf : List ℕ → ℕ → Value → ℕ → ℕ → Listed ℕ
-copyOf a at v offset size =
-    if eqb size 65535 then listed 50 a
-    else if ltb 65535 offset then listed 42 a
-    else listed 0 (writeCopy a at v offset size)
+unfoldable pub copyOf : List ℕ → ℕ → Slice → Listed ℕ
+copyOf a at (Slice.Is part) = listed 0 (writeCopy a at part)
+copyOf a at (Slice.No n) = listed n a
 
+-- a subpiece becomes a Copy of part of its input: 50 or 42, or 0
 unfoldable pub subpieceCopy : List ℕ → ℕ → Listed ℕ
 subpieceCopy a at =
-    copyOf a at (valueAt a at 6) (valueAt a at 6 .offset + getD a (at + 2) 0 % 65536) (valueAt a at 4 .size)
+    if eqb (valueAt a at 4 .size) 65535 then listed 50 a
+    else copyOf a at (sliceBytes (valueAt a at 6) (getD a (at + 2) 0 % 65536) (valueAt a at 4 .size))
 
 unfoldable pub finishFixed : List ℕ → ℕ → Sizing → Listed Finished
 finishFixed a at z =

@@ -11,11 +11,13 @@ use list_values::sizes::record_errors;
 use list_values::sizes::size_of;
 use list_values::value::NO_OUTPUT;
 use list_values::value::SIZE_PLACE;
+use list_values::value::Slice;
 use list_values::value::Value;
 use list_values::value::get;
 use list_values::value::place;
 use list_values::value::put;
 use list_values::value::put_value;
+use list_values::value::slice_bytes;
 use list_values::value::value_at;
 use list_values::value::with_size;
 ghost use mathlib.Core.Path.{_≡_};
@@ -25,8 +27,6 @@ ghost use Rattle.list_end.specs.End.{fixSize, fixOperand, fixInputs, fix
 
 // The second word of an output.
 const OUTPUT_WORD: usize = action::OUTPUT + 1;
-
-const LAST_OFFSET: u64 = 65535;
 
 pub struct Fixed {
     pub v: Value,
@@ -171,23 +171,13 @@ fn fix_operands(
     fix_output(stream, table, actions, temporaries, at, pointer, y)
 }
 
-// The Copy of the part of a value that begins at an offset and has that size.
-fn write_copy(actions: &mut [u64], at: usize, value: Value, offset: u64, size: u64)
-    ensures { λ _. ⌜ now (actions .exit) ≡ writeCopy (now (actions .entry)) at value offset size ⌝ }
+// The Copy of a part of a value.
+fn write_copy(actions: &mut [u64], at: usize, part: Value)
+    ensures { λ _. ⌜ now (actions .exit) ≡ writeCopy (now (actions .entry)) at part ⌝ }
 {
     put(actions, at, action::OPERATION, operation::COPY);
     put(actions, at, action::NUMBER, 0);
-    put_value(
-        actions,
-        at,
-        action::INPUT_0,
-        Value {
-            kind: value.kind,
-            number: value.number,
-            offset,
-            size,
-        },
-    );
+    put_value(actions, at, action::INPUT_0, part);
 }
 
 // A subpiece becomes a Copy of part of its input: a refusal, or 0.
@@ -199,12 +189,13 @@ fn subpiece_copy(actions: &mut [u64], at: usize) -> u64
         return refusal::SUBPIECE_SIZE;
     }
     let v = value_at(actions, at, action::INPUT_0);
-    let offset = v.offset + get(actions, at, action::NUMBER) % 65536;
-    if LAST_OFFSET < offset {
-        return refusal::OFFSET_TOO_FAR;
+    match slice_bytes(v, get(actions, at, action::NUMBER) % 65536, size) {
+        Slice::No(n) => n,
+        Slice::Is(part) => {
+            write_copy(actions, at, part);
+            0
+        }
     }
-    write_copy(actions, at, v, offset, size);
-    0
 }
 
 pub struct Finished {

@@ -23,16 +23,16 @@ use Rattle.list_pushes.proofs.PassLaws.{pass-one}
 use Rattle.list_pushes.specs.Pushes.{read, pushed, state, onPushed, onTmp, onPush, onState, withEnd, withTemporaries, withSizing, tmpWord, addTmp, outputOr, writeOperands, writeZeros, writeHead, write, push, updateLast, pushOp, opTo, op}
 use Rattle.access.proofs.LoopLaws.{run-end}
 
-module _ (m : List ℕ) (name size scope : ℕ) (st : State) where
-  pub tmp-added : (v : Value) → st .temporaries < length m → st .temporaries < 512 → v ≡ local 6 (st .temporaries) → listed (Read.Value v (withTemporaries (st .temporaries + 1) st)) (set m (st .temporaries) (name % 65536 + size % 65536 * 65536 + scope % 8192 * 1125899906842624)) ≡ addTmp m name size scope st
+module _ (m : List ℕ) (name size : ℕ) (st : State) where
+  pub tmp-added : (v : Value) → st .temporaries < length m → st .temporaries < 512 → v ≡ local 6 (st .temporaries) → listed (Read.Value v (withTemporaries (st .temporaries + 1) st)) (set m (st .temporaries) (name % 65536 + size % 65536 * 65536)) ≡ addTmp m name size st
   unfolding addTmp tmpWord if_then_else_
   tmp-added v h k e = rw (lt-ltb (st .temporaries) (length m) h, lt-ltb (st .temporaries) 512 k, e)
 
-  pub tmp-many : st .temporaries < length m → 512 ≤ st .temporaries → listed (Read.No 13) m ≡ addTmp m name size scope st
+  pub tmp-many : st .temporaries < length m → 512 ≤ st .temporaries → listed (Read.No 13) m ≡ addTmp m name size st
   unfolding addTmp if_then_else_
   tmp-many h k = rw (lt-ltb (st .temporaries) (length m) h, le-ltb (st .temporaries) 512 k)
 
-  pub tmp-full : length m ≤ st .temporaries → listed (Read.No 13) m ≡ addTmp m name size scope st
+  pub tmp-full : length m ≤ st .temporaries → listed (Read.No 13) m ≡ addTmp m name size st
   unfolding addTmp if_then_else_
   tmp-full h = rw (le-ltb (st .temporaries) (length m) h)
 
@@ -40,7 +40,7 @@ pub output-given : (m : List ℕ) (given : Bool) (to : Value) (size : ℕ) (st :
 unfolding outputOr if_then_else_
 output-given m given to size st h = rw h
 
-pub output-fresh : (m m1 : List ℕ) (given : Bool) (to : Value) (size : ℕ) (st : State) (r : Read) → given ≡ false → listed r m1 ≡ addTmp m 65535 size 0 st → listed r m1 ≡ outputOr m given to size st
+pub output-fresh : (m m1 : List ℕ) (given : Bool) (to : Value) (size : ℕ) (st : State) (r : Read) → given ≡ false → listed r m1 ≡ addTmp m 65535 size st → listed r m1 ≡ outputOr m given to size st
 unfolding outputOr if_then_else_
 output-fresh m m1 given to size st r h e = rw h e
 

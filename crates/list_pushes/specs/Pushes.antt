@@ -57,22 +57,22 @@ withTemporaries n st = record { end = st .end; temporaries = n; sizing = st .siz
 abbrev pub withSizing : Sizing → State → State
 withSizing z st = record { end = st .end; temporaries = st .temporaries; sizing = z }
 
--- a temporary's word: its name, its size and its scope's number
-unfoldable pub tmpWord : ℕ → ℕ → ℕ → ℕ
-tmpWord name size scope = name % 65536 + size % 65536 * 65536 + scope % 8192 * 1125899906842624
+-- a temporary's word: its name and its size
+unfoldable pub tmpWord : ℕ → ℕ → ℕ
+tmpWord name size = name % 65536 + size % 65536 * 65536
 
 -- a temporary: the lent words or 512 at most
-unfoldable pub addTmp : List ℕ → ℕ → ℕ → ℕ → State → Listed Read
-addTmp m name size scope st =
+unfoldable pub addTmp : List ℕ → ℕ → ℕ → State → Listed Read
+addTmp m name size st =
     if ltb (st .temporaries) (length m)
     then (if ltb (st .temporaries) 512
-    then listed (Read.Value (local 6 (st .temporaries)) (withTemporaries (st .temporaries + 1) st)) (set m (st .temporaries) (tmpWord name size scope))
+    then listed (Read.Value (local 6 (st .temporaries)) (withTemporaries (st .temporaries + 1) st)) (set m (st .temporaries) (tmpWord name size))
     else listed (Read.No 13) m)
     else listed (Read.No 13) m
 
 -- the output given, else a fresh temporary of that size
 unfoldable pub outputOr : List ℕ → Bool → Value → ℕ → State → Listed Read
-outputOr m given to size st = if given then listed (Read.Value to st) m else addTmp m 65535 size 0 st
+outputOr m given to size st = if given then listed (Read.Value to st) m else addTmp m 65535 size st
 
 unfoldable pub writeOperands : List ℕ → ℕ → Value → Value → Value → List ℕ
 writeOperands a at out x y = putValue (putValue (putValue a at 4 out) at 6 x) at 8 y

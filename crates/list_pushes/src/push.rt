@@ -21,9 +21,6 @@ ghost use Rattle.list_pushes.specs.Pushes.{read, pushed, state, addTmp, 
 
 const MOST_TEMPORARIES: usize = 512;
 
-// The scope stands in a temporary's word from bit 50 on.
-pub const SCOPE_PLACE: u64 = 1125899906842624;
-
 // Where the list of actions ends, the temporaries made, and the sizing.
 pub struct State {
     pub end: usize,
@@ -31,10 +28,10 @@ pub struct State {
     pub sizing: Sizing,
 }
 
-// What a walk is given: the pointer size, the scope's number and how many parameters it has.
+// What a walk is given: the pointer size, whether the scope is the section's own, and how many parameters it has.
 pub struct Env {
     pub pointer: u64,
-    pub scope: u64,
+    pub own: bool,
     pub count: usize,
 }
 
@@ -48,15 +45,15 @@ pub enum Pushed {
     No(u64),
 }
 
-// A temporary with its name, size and the number of its scope.
-pub fn add_tmp(temporaries: &mut [u64], name: u64, size: u64, scope: u64, state: State) -> Read
-    ensures { λ r. ⌜ listed r (now (temporaries .exit)) ≡ addTmp (now (temporaries .entry)) name size scope state ⌝ }
+// A temporary with its name and size.
+pub fn add_tmp(temporaries: &mut [u64], name: u64, size: u64, state: State) -> Read
+    ensures { λ r. ⌜ listed r (now (temporaries .exit)) ≡ addTmp (now (temporaries .entry)) name size state ⌝ }
 {
     let n = state.temporaries;
     if n < temporaries.len() {
         if n < MOST_TEMPORARIES {
             let z = state.sizing;
-            temporaries[n] = name % 65536 + size % 65536 * 65536 + scope % 8192 * SCOPE_PLACE;
+            temporaries[n] = name % 65536 + size % 65536 * 65536;
             return Read::Value {
                 v: local(value_kind::PCODE_TMP, n as u64),
                 st: State {
@@ -77,7 +74,7 @@ pub fn output_or(temporaries: &mut [u64], given: bool, to: Value, size: u64, sta
     if given {
         return Read::Value { v: to, st: state };
     }
-    add_tmp(temporaries, NONE, size, 0, state)
+    add_tmp(temporaries, NONE, size, state)
 }
 
 fn write_operands(actions: &mut [u64], at: usize, out: Value, first: Value, second: Value)

@@ -145,7 +145,7 @@ module _ (s t : List ℕ) (sec : Section) (holds : SizesHold s t sec) where
     where
       go : (y : Option Value) → at p x ≡ y → orElse 0 (andThen y (d.sizeOf sec (z .temporaries))) < 65535
       go none e = omega arith
-      go (some v) e = known-small s t sec holds [] [] (z .temporaries) (f .1) v (operand-sound p x v (f .0) e)
+      go (some v) e = known-small s t sec holds [] (z .temporaries) (f .1) v (operand-sound p x v (f .0) e)
 
   or-small : (a b : Option ℕ) → orElse 0 a < 65535 → orElse 0 b < 65535 → orElse 0 (a or b) < 65535
   unfolding orElse _or_

@@ -25,6 +25,8 @@ use Rattle.list_values.specs.declared.value.Value.{Value as WordValue}
 use Rattle.list_values.specs.declared.sizes.Sizing.{Sizing as WordSizing}
 use Rattle.list_end.specs.declared.end.Finished.{Finished}
 use Rattle.list_values.specs.Base.{Listed, listed, thenL}
+use Rattle.list_values.specs.declared.value.Slice.{Slice}
+use Rattle.list_values.specs.Values as words
 use Rattle.list_values.specs.Values.{word, valueAt, putValue, place}
 use Rattle.list_end.specs.End.{finished, writeCopy, copyOf, subpieceCopy, finishFixed, finishOp, thenF, finishFrom, finishActions, fixOperands}
 use Rattle.list_refinement.specs.Encoding.{encV, packed, actionsIn, temporariesIn, encZ, Sound, SoundTmp, Each, EachOption, SoundAction, SizesHold}
@@ -94,12 +96,10 @@ module _ (pre post : List ℕ) (at0 : ℕ) (begins : length pre ≡ at0) where
   set-at : (ws : List ℕ) (i v : ℕ) → i < length ws → set (pre ++ (ws ++ post)) (at0 + i) v ≡ pre ++ (set ws i v ++ post)
   set-at ws i v h = set-in pre ws post at0 begins i v h
 
-  copy-words : (ws : List ℕ) (v : WordValue) (offset size : ℕ) → length ws ≡ 24
-      → writeCopy (pre ++ (ws ++ post)) at0 v offset size
-      ≡ pre ++ (set (set (set (set ws 1 57) 2 0) 6 (v .number)) 7
-      (word (record { kind = v .kind; number = v .number; offset = offset; size = size })) ++ post)
+  copy-words : (ws : List ℕ) (v : WordValue) → length ws ≡ 24
+      → writeCopy (pre ++ (ws ++ post)) at0 v ≡ pre ++ (set (set (set (set ws 1 57) 2 0) 6 (v .number)) 7 (word v) ++ post)
   unfolding writeCopy putValue
-  copy-words ws v offset size h =
+  copy-words ws v h =
       let a : length (set ws 1 57) ≡ 24 = length-set ws 1 57 ∙ h in
       let b : length (set (set ws 1 57) 2 0) ≡ 24 = length-set (set ws 1 57) 2 0 ∙ a in
       let c : length (set (set (set ws 1 57) 2 0) 6 (v .number)) ≡ 24 = length-set (set (set ws 1 57) 2 0) 6 (v .number) ∙ b in
@@ -114,14 +114,18 @@ module _ (pre post : List ℕ) (at0 : ℕ) (begins : length pre ≡ at0) where
   abbrev copied : ℕ → ℕ → Value → Option Value → SemanticAction
   copied more size v o = record { kind = ActionKind.Op Operation.Copy; number = 0; inputs = sliceBytes more size v ∷ []; output = o }
 
+  -- that part of a value, as its words have it
+  abbrev part : ℕ → ℕ → Value → WordValue
+  part more size v = record { kind = kindNumber (v .kind); number = v .number; offset = v .offset + more; size = size }
+
   copy-is : (op : Operation) (number size : ℕ) (v o : Value) → v .offset + number ≤ 65535 → size < 65535
-      → writeCopy (wordsOf pre post (record { kind = ActionKind.Op op; number = number; inputs = v ∷ []; output = some o })) at0 (encV v)
-      (v .offset + number) size ≡ wordsOf pre post (copied number size v (some o))
+      → writeCopy (wordsOf pre post (record { kind = ActionKind.Op op; number = number; inputs = v ∷ []; output = some o })) at0
+      (part number size v) ≡ wordsOf pre post (copied number size v (some o))
   copy-is op number size v o h j =
       let x : SemanticAction = record { kind = ActionKind.Op op; number = number; inputs = v ∷ []; output = some o } in
       let e : word (record { kind = kindNumber (v .kind); number = v .number; offset = v .offset + number; size = size })
       ≡ packed (sliceBytes number size v) = unfold orNone orElse in word-is (sliceBytes number size v) h (unfold orElse in j) in
-      copy-words (actionWords x) (encV v) (v .offset + number) size (action-length x)
+      copy-words (actionWords x) (part number size v) (action-length x)
       ∙ rw (e, words-of x, words-of (copied number size v (some o)))
       (unfold actionKindNumber operationWord operationOf operationNumber outNumber outWord inputWords valueWords filled packed in refl)
 
@@ -134,21 +138,19 @@ module _ (pre post : List ℕ) (at0 : ℕ) (begins : length pre ≡ at0) where
     ends x = seenEnd (thenL x (λ r b. listed (finished r (encZ (u .sizing))) b))
 
     sliced-is : (n : ℕ) → n < 65535 → (b : Bool) → leb (v .offset + number) 65535 ≡ b
-        → ends (if ltb 65535 (v .offset + number) then listed 42 (wordsOf pre post piece) else listed 0
-        (writeCopy (wordsOf pre post piece) at0 (encV v) (v .offset + number) n))
+        → ends (copyOf (wordsOf pre post piece) at0 (if b then Slice.Is (part number n v) else Slice.No 42))
         ≡ ending (wordsOf pre post) (on e (on e (on e (require b offsetTooFar e u) λ _. λ e s. done (sliceBytes number n v) s) λ part. λ e
         s. done (part ∷ []) s) λ inputs. λ e s. done
         (record { kind = ActionKind.Op Operation.Copy; number = 0; inputs = inputs; output = some o }) s)
-    unfolding if_then_else_ on require seenEnd thenL ending refusalNumber
-    sliced-is n h true p = let k = leb-true (v .offset + number) 65535 p in rw
-        (le-ltb 65535 (v .offset + number) k, copy-is op number n v o k h)
-    sliced-is n h false p = let k = leb-false (v .offset + number) 65535 p in rw (lt-ltb 65535 (v .offset + number) k)
+    unfolding if_then_else_ copyOf on require seenEnd thenL ending refusalNumber
+    sliced-is n h true p = rw (copy-is op number n v o (leb-true (v .offset + number) 65535 p) h)
+    sliced-is n h false p = refl
 
     copied-is : (z : Option ℕ) → orElse 0 z < 65535
-        → ends (copyOf (wordsOf pre post piece) at0 (encV v) (v .offset + number) (orNone z))
+        → ends (if eqb (orNone z) 65535 then listed 50 (wordsOf pre post piece) else copyOf (wordsOf pre post piece) at0 (words.sliceBytes (encV v) number (orNone z)))
         ≡ ending (wordsOf pre post) (on e (expect subpieceSize z e u) λ size. λ e s. on e (slicedInputs number size (v ∷ []) e s) λ inputs.
         λ e s. done (record { kind = ActionKind.Op Operation.Copy; number = 0; inputs = inputs; output = some o }) s)
-    unfolding copyOf orNone orElse expect on slicedInputs sliced
+    unfolding words.sliceBytes orNone orElse expect on slicedInputs sliced
     copied-is none h = unfold if_then_else_ seenEnd thenL ending refusalNumber in refl
     copied-is (some n) h = rw (ne-eqb n 65535 (λ q. omega arith))
         (unfold if_then_else_ in sliced-is n h (leb (v .offset + number) 65535) refl)
@@ -273,7 +275,7 @@ pub record AfterFinish (xs : List SemanticAction) (u : State) (ys : List Semanti
   pub length-same : length ys ≡ length xs
   pub built : (i : ℕ) → any (builds i) ys ≡ any (builds i) xs
 
-module _ (e : Env) (s t : List ℕ) (holds : SizesHold s t (e .section)) (marks rest : List ℕ) (ts : List Temporary) (fit : Each SoundTmp ts)
+module _ (e : Env) (s t : List ℕ) (holds : SizesHold s t (e .section)) (rest : List ℕ) (ts : List Temporary) (fit : Each SoundTmp ts)
   where
     abbrev Fixed : SemanticAction → Sizing → SemanticAction × Sizing
     Fixed x z = sizes.fixOperands (e .section) x z
@@ -282,8 +284,8 @@ module _ (e : Env) (s t : List ℕ) (holds : SizesHold s t (e .section)) (marks 
         → AfterFix 9 z ((Fixed x z) .1)
     unfolding sizes.fixOperands
     operands-after x z same f few =
-        let a = inputs-after s t (e .section) holds marks rest ts fit (x .inputs) z same (f .inputs) in
-        let b = output-after s t (e .section) holds marks rest ts fit (x .output) ((sizes.fixInputs (e .section) (x .inputs) z) .1)
+        let a = inputs-after s t (e .section) holds rest ts fit (x .inputs) z same (f .inputs) in
+        let b = output-after s t (e .section) holds rest ts fit (x .output) ((sizes.fixInputs (e .section) (x .inputs) z) .1)
         (a .temporaries ∙ same) (f .output) in
         record { temporaries = b .temporaries ∙ a .temporaries; begun = b .begun ∙ a .begun; errors = omega (arith, a .errors, b .errors) }
 
@@ -291,10 +293,10 @@ module _ (e : Env) (s t : List ℕ) (holds : SizesHold s t (e .section)) (marks 
         → SoundAction (e .section) (length ts) ((Fixed x z) .0)
     unfolding sizes.fixOperands
     operands-sound x z same f =
-        let a = inputs-after s t (e .section) holds marks rest ts fit (x .inputs) z same (f .inputs) in
+        let a = inputs-after s t (e .section) holds rest ts fit (x .inputs) z same (f .inputs) in
         record {
-          inputs = inputs-sound s t (e .section) holds marks rest ts fit (x .inputs) z same (f .inputs);
-          output = output-sound s t (e .section) holds marks rest ts fit (x .output) ((sizes.fixInputs (e .section) (x .inputs) z) .1)
+          inputs = inputs-sound s t (e .section) holds rest ts fit (x .inputs) z same (f .inputs);
+          output = output-sound s t (e .section) holds rest ts fit (x .output) ((sizes.fixInputs (e .section) (x .inputs) z) .1)
               (a .temporaries ∙ same) (f .output);
         }
 
@@ -316,11 +318,11 @@ module _ (e : Env) (s t : List ℕ) (holds : SizesHold s t (e .section)) (marks 
 
         by-kind : (k : ActionKind) → x .kind ≡ k
             → seenEnd (if eqb (actionKindNumber k) 0 then thenL
-            (fixOperands s t (wordsOf pre post x) (temporariesIn marks rest ts) at0 (pointerSize (e .section)) (encZ (u .sizing)))
+            (fixOperands s t (wordsOf pre post x) (temporariesIn rest ts) at0 (pointerSize (e .section)) (encZ (u .sizing)))
             (λ y b. finishFixed b at0 y) else listed (finished 0 (encZ (u .sizing))) (wordsOf pre post x))
             ≡ ending (wordsOf pre post) (d.finishOp (operationOf k) x e u)
         unfolding if_then_else_ actionKindNumber operationOf
-        by-kind (ActionKind.Op op) k = rw (operands-fixed s t (e .section) holds marks rest ts fit pre post at0 begins x op (u .sizing) k
+        by-kind (ActionKind.Op op) k = rw (operands-fixed s t (e .section) holds rest ts fit pre post at0 begins x op (u .sizing) k
             (f .few) same (f .sound) room) (op-finished op k)
         by-kind ActionKind.AddressOf k = unfold seenEnd ending d.finishOp in refl
         by-kind ActionKind.LoadRegister k = unfold seenEnd ending d.finishOp in refl
@@ -328,7 +330,7 @@ module _ (e : Env) (s t : List ℕ) (holds : SizesHold s t (e .section)) (marks 
         by-kind ActionKind.DelaySlot k = unfold seenEnd ending d.finishOp in refl
         by-kind ActionKind.Build k = unfold seenEnd ending d.finishOp in refl
 
-        pub finish-op-is : seenEnd (finishOp s t (wordsOf pre post x) (temporariesIn marks rest ts) at0 (pointerSize (e .section))
+        pub finish-op-is : seenEnd (finishOp s t (wordsOf pre post x) (temporariesIn rest ts) at0 (pointerSize (e .section))
             (encZ (u .sizing))) ≡ ending (wordsOf pre post) (d.finishOp (operationOf (x .kind)) x e u)
         unfolding finishOp
         finish-op-is =
@@ -382,13 +384,13 @@ module _ (e : Env) (s t : List ℕ) (holds : SizesHold s t (e .section)) (marks 
     module _ (front tail : List ℕ) (base : ℕ) (begins : length front ≡ base) (low : base < 4096) where
       finish-from : (xs ps : List SemanticAction) (u : State) → length ps + length xs < 700000000000000000 → u .sizing .temporaries ≡ ts
           → Each (Finishable (e .section) (length ts)) xs → length (u .sizing .errors) + 9 * length xs < 2 ^ 64
-          → seenEnd (finishFrom (length xs) (length ps) s t (actionsIn front tail (ps ++ xs)) (temporariesIn marks rest ts) base
+          → seenEnd (finishFrom (length xs) (length ps) s t (actionsIn front tail (ps ++ xs)) (temporariesIn rest ts) base
           (pointerSize (e .section)) (encZ (u .sizing))) ≡ ending (λ ys. actionsIn front tail (ps ++ ys)) (d.finishActions xs e u)
       unfolding finishFrom d.finishActions
       finish-from [] ps u h same f r = unfold seenEnd ending if_then_else_ in refl
       finish-from (x ∷ xs) ps u h same f r =
           bind-end e (λ y. actionsIn front tail (ps ++ (y ∷ xs))) (λ ys. actionsIn front tail (ps ++ ys))
-          (finishOp s t (actionsIn front tail (ps ++ (x ∷ xs))) (temporariesIn marks rest ts) (place base (length ps))
+          (finishOp s t (actionsIn front tail (ps ++ (x ∷ xs))) (temporariesIn rest ts) (place base (length ps))
           (pointerSize (e .section)) (encZ (u .sizing)))
           (d.finishOp (operationOf (x .kind)) x e u) _ _ here
           (λ y q k.
@@ -402,7 +404,7 @@ module _ (e : Env) (s t : List ℕ) (holds : SizesHold s t (e .section)) (marks 
           post : List ℕ
           post = listWords xs ++ drop (24 * (length ps + suc (length xs))) tail
 
-          here : seenEnd (finishOp s t (actionsIn front tail (ps ++ (x ∷ xs))) (temporariesIn marks rest ts) (place base (length ps))
+          here : seenEnd (finishOp s t (actionsIn front tail (ps ++ (x ∷ xs))) (temporariesIn rest ts) (place base (length ps))
               (pointerSize (e .section)) (encZ (u .sizing)))
               ≡ ending (λ y. actionsIn front tail (ps ++ (y ∷ xs))) (d.finishOp (operationOf (x .kind)) x e u)
           here = rw (place-is base (length ps) low (omega arith), list-between front tail ps x xs)
@@ -413,7 +415,7 @@ module _ (e : Env) (s t : List ℕ) (holds : SizesHold s t (e .section)) (marks 
 
       pub finish-is : (xs : List SemanticAction) (u : State) → length xs < 700000000000000000 → u .sizing .temporaries ≡ ts
           → Each (Finishable (e .section) (length ts)) xs → length (u .sizing .errors) + 9 * length xs < 2 ^ 64
-          → seenEnd (finishActions s t (actionsIn front tail xs) (temporariesIn marks rest ts) base (length xs) (pointerSize (e .section))
+          → seenEnd (finishActions s t (actionsIn front tail xs) (temporariesIn rest ts) base (length xs) (pointerSize (e .section))
           (encZ (u .sizing))) ≡ ending (actionsIn front tail) (d.finishActions xs e u)
       unfolding finishActions
       finish-is xs u h same f r = finish-from xs [] u (omega arith) same f r

@@ -38,10 +38,10 @@ pub record AfterFix (cost : ℕ) (z y : Sizing) : Type 0 where
   pub begun : y .begun ≡ z .begun
   pub errors : length (y .errors) ≤ length (z .errors) + cost
 
-module _ (s t : List ℕ) (sec : Section) (holds : SizesHold s t sec) (marks rest : List ℕ) (ts : List Temporary) (fit : Each SoundTmp ts)
+module _ (s t : List ℕ) (sec : Section) (holds : SizesHold s t sec) (rest : List ℕ) (ts : List Temporary) (fit : Each SoundTmp ts)
   where
     abbrev M : List ℕ
-    M = temporariesIn marks rest ts
+    M = temporariesIn rest ts
 
     -- a value
     module _ (z : Sizing) (same : z .temporaries ≡ ts) (v : Value) (sound : Sound sec (length ts) v) where
@@ -63,8 +63,8 @@ module _ (s t : List ℕ) (sec : Section) (holds : SizesHold s t sec) (marks res
 
       pub fix-is : length (z .errors) + 1 < 2 ^ 64 → fixSize s t M (encV v) (pointerSize sec) (encZ z) ≡ fixedAs (d.fixSize sec v z)
       unfolding fixSize d.fixSize
-      fix-is r = rw (final-is, size-is s t sec holds marks rest ts fit v sound)
-          (by-size (d.sizeOf sec ts v) (fallsBack (encV v)) (known-small s t sec holds marks rest ts fit v sound) r)
+      fix-is r = rw (final-is, size-is s t sec holds rest ts fit v sound)
+          (by-size (d.sizeOf sec ts v) (fallsBack (encV v)) (known-small s t sec holds rest ts fit v sound) r)
 
       fixed-after : (a : Option ℕ) → AfterFix 1 z ((d.fixTo sec v a z) .1)
       unfolding d.fixTo
@@ -90,7 +90,7 @@ module _ (s t : List ℕ) (sec : Section) (holds : SizesHold s t sec) (marks res
       pub fix-sound : Sound sec (length ts) ((d.fixSize sec v z) .0)
       unfolding d.fixSize
       fix-sound = fixed-sound _ (rw (same, falls-is sec v)
-          (final-small (d.sizeOf sec ts v) (fallsBack (encV v)) (known-small s t sec holds marks rest ts fit v sound)))
+          (final-small (d.sizeOf sec ts v) (fallsBack (encV v)) (known-small s t sec holds rest ts fit v sound)))
 
 -- two words of a value within a list
 
@@ -181,14 +181,14 @@ fix-trans f h a b = record {
   errors = omega (arith, a .errors, b .errors);
 }
 
-module _ (s t : List ℕ) (sec : Section) (holds : SizesHold s t sec) (marks rest : List ℕ) (ts : List Temporary) (fit : Each SoundTmp ts)
+module _ (s t : List ℕ) (sec : Section) (holds : SizesHold s t sec) (rest : List ℕ) (ts : List Temporary) (fit : Each SoundTmp ts)
   where
     pub inputs-after : (vs : List Value) (z : Sizing) → z .temporaries ≡ ts → Each (Sound sec (length ts)) vs
         → AfterFix (length vs) z ((d.fixInputs sec vs z) .1)
     unfolding d.fixInputs
     inputs-after [] z e f = record { temporaries = refl; begun = refl; errors = omega arith }
     inputs-after (v ∷ vs) z e f =
-        let a = fix-after s t sec holds marks rest ts fit z e v (f .0) in
+        let a = fix-after s t sec holds rest ts fit z e v (f .0) in
         fix-trans (suc (length vs)) (omega arith) a (inputs-after vs ((d.fixSize sec v z) .1) (a .temporaries ∙ e) (f .1))
 
     pub inputs-sound : (vs : List Value) (z : Sizing) → z .temporaries ≡ ts → Each (Sound sec (length ts)) vs
@@ -196,8 +196,8 @@ module _ (s t : List ℕ) (sec : Section) (holds : SizesHold s t sec) (marks res
     unfolding d.fixInputs
     inputs-sound [] z e f = tt
     inputs-sound (v ∷ vs) z e f =
-        let a = fix-after s t sec holds marks rest ts fit z e v (f .0) in
-        (fix-sound s t sec holds marks rest ts fit z e v (f .0), inputs-sound vs ((d.fixSize sec v z) .1) (a .temporaries ∙ e) (f .1))
+        let a = fix-after s t sec holds rest ts fit z e v (f .0) in
+        (fix-sound s t sec holds rest ts fit z e v (f .0), inputs-sound vs ((d.fixSize sec v z) .1) (a .temporaries ∙ e) (f .1))
 
     pub inputs-length : (vs : List Value) (z : Sizing) → length ((d.fixInputs sec vs z) .0) ≡ length vs
     unfolding d.fixInputs
@@ -208,19 +208,19 @@ module _ (s t : List ℕ) (sec : Section) (holds : SizesHold s t sec) (marks res
         → AfterFix 1 z ((d.fixOutput sec y z) .1)
     unfolding d.fixOutput
     output-after none z e f = record { temporaries = refl; begun = refl; errors = omega arith }
-    output-after (some v) z e f = fix-after s t sec holds marks rest ts fit z e v f
+    output-after (some v) z e f = fix-after s t sec holds rest ts fit z e v f
 
     pub output-sound : (y : Option Value) (z : Sizing) → z .temporaries ≡ ts → EachOption (Sound sec (length ts)) y
         → EachOption (Sound sec (length ts)) ((d.fixOutput sec y z) .0)
     unfolding d.fixOutput
     output-sound none z e f = tt
-    output-sound (some v) z e f = fix-sound s t sec holds marks rest ts fit z e v f
+    output-sound (some v) z e f = fix-sound s t sec holds rest ts fit z e v f
 
     -- within the list
     module _ (pre post : List ℕ) (place : ℕ) (begins : length pre ≡ place) where
       operand-fixed : (front back : List ℕ) (i : ℕ) (v : Value) (z : Sizing) → length front ≡ i → z .temporaries ≡ ts
           → Sound sec (length ts) v → length (z .errors) + 1 < 2 ^ 64
-          → fixOperand s t (pre ++ ((front ++ (v .number ∷ packed v ∷ back)) ++ post)) (temporariesIn marks rest ts) place i (pointerSize sec)
+          → fixOperand s t (pre ++ ((front ++ (v .number ∷ packed v ∷ back)) ++ post)) (temporariesIn rest ts) place i (pointerSize sec)
           (encZ z)
           ≡ listed (encZ ((d.fixSize sec v z) .1)) (pre ++ ((front
           ++ ((d.fixSize sec v z) .0 .number ∷ packed ((d.fixSize sec v z) .0) ∷ back)) ++ post))
@@ -228,38 +228,38 @@ module _ (s t : List ℕ) (sec : Section) (holds : SizesHold s t sec) (marks res
       operand-fixed front back i v z e same f r =
           let n : length (pre ++ front) ≡ place + i = length-append pre front ∙ omega arith in
           let w = (d.fixSize sec v z) .0 in
-          let g = fix-sound s t sec holds marks rest ts fit z same v f in
+          let g = fix-sound s t sec holds rest ts fit z same v f in
           let flat : (a b : ℕ) → pre ++ ((front ++ (a ∷ b ∷ back)) ++ post)
           ≡ (pre ++ front) ++ (a ∷ b ∷ (back ++ post)) = λ a b. simp append-assoc in
           rw (
             flat (v .number) (packed v),
             flat (w .number) (packed w),
             value-here (pre ++ front) (back ++ post) place i n v (f .offset) (f .size),
-            fix-is s t sec holds marks rest ts fit z same v f r,
+            fix-is s t sec holds rest ts fit z same v f r,
           )
           (ap (listed (encZ ((d.fixSize sec v z) .1))) (put-here (pre ++ front) (back ++ post) place i n (v .number) (packed v) w (g .offset)
           (g .size)))
 
       inputs-from : (x : SemanticAction) (vs us : List Value) (z : Sizing) → length us + length vs ≤ 8 → z .temporaries ≡ ts
           → Each (Sound sec (length ts)) vs → length (z .errors) + length vs < 2 ^ 64
-          → run (length vs) (length us) (fixInput s t (temporariesIn marks rest ts) place (pointerSize sec))
+          → run (length vs) (length us) (fixInput s t (temporariesIn rest ts) place (pointerSize sec))
           (listed (encZ z) (wordsOf pre post (withInputs (us ++ vs) x)))
           ≡ listed (encZ ((d.fixInputs sec vs z) .1)) (wordsOf pre post (withInputs (us ++ (d.fixInputs sec vs z) .0) x))
       unfolding run d.fixInputs
       inputs-from x [] us z h same f r = refl
       inputs-from x (v ∷ vs) us z h same f r =
           let w = (d.fixSize sec v z) .0 in
-          let a = fix-after s t sec holds marks rest ts fit z same v (f .0) in
+          let a = fix-after s t sec holds rest ts fit z same v (f .0) in
           let n : length (us ++ (w ∷ [])) ≡ suc (length us) = length-append us (w ∷ []) ∙ omega arith in
           let i = inputs-from x vs (us ++ (w ∷ [])) ((d.fixSize sec v z) .1) (rw n (omega arith)) (a .temporaries ∙ same) (f .1)
           (omega (arith, a .errors)) in
-          ap (run (length vs) (suc (length us)) (fixInput s t (temporariesIn marks rest ts) place (pointerSize sec)))
+          ap (run (length vs) (suc (length us)) (fixInput s t (temporariesIn rest ts) place (pointerSize sec)))
           (step x vs us v z h same (f .0) (omega arith))
           ∙ (rw (n, append-assoc us (w ∷ []) vs, append-assoc us (w ∷ []) ((d.fixInputs sec vs ((d.fixSize sec v z) .1)) .0)) at i)
         where
           step : (x : SemanticAction) (vs us : List Value) (v : Value) (z : Sizing) → length us + suc (length vs) ≤ 8 → z .temporaries ≡ ts
               → Sound sec (length ts) v → length (z .errors) + 1 < 2 ^ 64
-              → fixInput s t (temporariesIn marks rest ts) place (pointerSize sec) (length us)
+              → fixInput s t (temporariesIn rest ts) place (pointerSize sec) (length us)
               (listed (encZ z) (wordsOf pre post (withInputs (us ++ (v ∷ vs)) x)))
               ≡ listed (encZ ((d.fixSize sec v z) .1)) (wordsOf pre post (withInputs (us ++ ((d.fixSize sec v z) .0 ∷ vs)) x))
           step x vs us v z h same f r = unfold fixInput thenL in
@@ -273,7 +273,7 @@ module _ (s t : List ℕ) (sec : Section) (holds : SizesHold s t sec) (marks res
 
       output-fixed : (x : SemanticAction) (op : Operation) (y : Option Value) (z : Sizing) → x .kind ≡ ActionKind.Op op → z .temporaries ≡ ts
           → EachOption (Sound sec (length ts)) y → length (z .errors) + 1 < 2 ^ 64
-          → fixOutput s t (wordsOf pre post (withOutput y x)) (temporariesIn marks rest ts) place (pointerSize sec) (encZ z)
+          → fixOutput s t (wordsOf pre post (withOutput y x)) (temporariesIn rest ts) place (pointerSize sec) (encZ z)
           ≡ listed (encZ ((d.fixOutput sec y z) .1)) (wordsOf pre post (withOutput ((d.fixOutput sec y z) .0) x))
       unfolding fixOutput d.fixOutput
       output-fixed x op none z k same f r =
@@ -290,7 +290,7 @@ module _ (s t : List ℕ) (sec : Section) (holds : SizesHold s t sec) (marks res
 
       pub operands-fixed : (x : SemanticAction) (op : Operation) (z : Sizing) → x .kind ≡ ActionKind.Op op → length (x .inputs) ≤ 8
           → z .temporaries ≡ ts → SoundAction sec (length ts) x → length (z .errors) + 9 < 2 ^ 64
-          → fixOperands s t (wordsOf pre post x) (temporariesIn marks rest ts) place (pointerSize sec) (encZ z)
+          → fixOperands s t (wordsOf pre post x) (temporariesIn rest ts) place (pointerSize sec) (encZ z)
           ≡ listed (encZ ((d.fixOperands sec x z) .1)) (wordsOf pre post ((d.fixOperands sec x z) .0))
       unfolding fixOperands fixInputs d.fixOperands
       operands-fixed x op z k few same f r =

@@ -24,11 +24,11 @@ use Rattle.list_refinement.proofs.Settled.{size-is, known-small, settle
 abbrev pub wordsOf : List ℕ → List ℕ → SemanticAction → List ℕ
 wordsOf pre post x = pre ++ (actionWords x ++ post)
 
-abbrev pub temporariesOf : List ℕ → List ℕ → Sizing → List ℕ
-temporariesOf marks tail z = temporariesIn marks tail (z .temporaries)
+abbrev pub temporariesOf : List ℕ → Sizing → List ℕ
+temporariesOf tail z = temporariesIn tail (z .temporaries)
 
-abbrev pub held : List ℕ → List ℕ → List ℕ → List ℕ → SemanticAction × Sizing → Sized
-held pre post marks tail r = sized (encZ (r .1)) (wordsOf pre post (r .0)) (temporariesOf marks tail (r .1))
+abbrev pub held : List ℕ → List ℕ → List ℕ → SemanticAction × Sizing → Sized
+held pre post tail r = sized (encZ (r .1)) (wordsOf pre post (r .0)) (temporariesOf tail (r .1))
 
 -- setting keeps soundness and loses room for one error
 
@@ -64,24 +64,24 @@ module _ (sec : Section) (n : ℕ) (small : n < 65535) (p : Operand) (x : Semant
   unfolding d.setOperand
   set-has q = given-has q (at p x) refl
 
-module _ (s t : List ℕ) (sec : Section) (holds : SizesHold s t sec) (marks tail : List ℕ) (pre post : List ℕ) (place : ℕ)
+module _ (s t : List ℕ) (sec : Section) (holds : SizesHold s t sec) (tail : List ℕ) (pre post : List ℕ) (place : ℕ)
     (begins : length pre ≡ place) where
   module _ (p : Operand) (x : SemanticAction) (z : Sizing) (room : ℕ) (r : Ready sec room x z) where
     pub value-of : (v : Value) → at p x ≡ some v → valueAt (wordsOf pre post x) place (operandAt p) ≡ encV v
     value-of v e = let f = operand-sound p x v (r .action) e in value-at pre post place begins p x v e (f .offset) (f .size)
 
-    known-of : (v : Value) → at p x ≡ some v → sizeAt s t (wordsOf pre post x) (temporariesOf marks tail z) place (operandAt p)
+    known-of : (v : Value) → at p x ≡ some v → sizeAt s t (wordsOf pre post x) (temporariesOf tail z) place (operandAt p)
         ≡ orNone (d.sizeOf sec (z .temporaries) v)
     unfolding sizeAt
-    known-of v e = rw (value-of v e) (size-is s t sec holds marks tail (z .temporaries) (r .temporaries) v
+    known-of v e = rw (value-of v e) (size-is s t sec holds tail (z .temporaries) (r .temporaries) v
         (operand-sound p x v (r .action) e))
 
-    pub known-is : has p x ≡ true → sizeAt s t (wordsOf pre post x) (temporariesOf marks tail z) place (operandAt p)
+    pub known-is : has p x ≡ true → sizeAt s t (wordsOf pre post x) (temporariesOf tail z) place (operandAt p)
         ≡ orNone (knownAt sec x z p)
     unfolding andThen
     known-is h = let q = present (at p x) h in go (q .0) (q .1)
       where
-        go : (v : Value) → at p x ≡ some v → sizeAt s t (wordsOf pre post x) (temporariesOf marks tail z) place (operandAt p)
+        go : (v : Value) → at p x ≡ some v → sizeAt s t (wordsOf pre post x) (temporariesOf tail z) place (operandAt p)
             ≡ orNone (andThen (at p x) (d.sizeOf sec (z .temporaries)))
         go v e = known-of v e ∙ rw e
 
@@ -91,23 +91,23 @@ module _ (s t : List ℕ) (sec : Section) (holds : SizesHold s t sec) (marks tai
       where
         go : (y : Option Value) → at p x ≡ y → orElse 0 (andThen y (d.sizeOf sec (z .temporaries))) < 65535
         go none e = omega arith
-        go (some v) e = known-small s t sec holds marks tail (z .temporaries) (r .temporaries) v (operand-sound p x v (r .action) e)
+        go (some v) e = known-small s t sec holds tail (z .temporaries) (r .temporaries) v (operand-sound p x v (r .action) e)
 
   module _ (n : ℕ) (small : n < 65535) (p : Operand) (x : SemanticAction) (z : Sizing) (room : ℕ) (r : Ready sec (suc room) x z) where
-    given-is : (v : Value) → at p x ≡ some v → setOperand s t (wordsOf pre post x) (temporariesOf marks tail z) place (operandAt p) n
-        (encZ z) ≡ held pre post marks tail (setGiven sec n p (some v) x z)
+    given-is : (v : Value) → at p x ≡ some v → setOperand s t (wordsOf pre post x) (temporariesOf tail z) place (operandAt p) n
+        (encZ z) ≡ held pre post tail (setGiven sec n p (some v) x z)
     unfolding setOperand setGiven setSize thenL
     given-is v e =
         let f = operand-sound p x v (r .action) e in
         rw (
           value-of p x z (suc room) r v e,
           known-of p x z (suc room) r v e,
-          settled-is s t sec holds marks tail z (r .temporaries) (omega (arith, r .errors)) (d.sizeOf sec (z .temporaries) v) v n
-              (known-small s t sec holds marks tail (z .temporaries) (r .temporaries) v f) f small,
+          settled-is s t sec holds tail z (r .temporaries) (omega (arith, r .errors)) (d.sizeOf sec (z .temporaries) v) v n
+              (known-small s t sec holds tail (z .temporaries) (r .temporaries) v f) f small,
           put-size pre post place begins p x v e n (f .offset) small,
         )
 
-    pub set-is : has p x ≡ true → setOperand s t (wordsOf pre post x) (temporariesOf marks tail z) place (operandAt p) n (encZ z)
-        ≡ held pre post marks tail (d.setOperand sec n p x z)
+    pub set-is : has p x ≡ true → setOperand s t (wordsOf pre post x) (temporariesOf tail z) place (operandAt p) n (encZ z)
+        ≡ held pre post tail (d.setOperand sec n p x z)
     unfolding d.setOperand
     set-is h = let q = present (at p x) h in rw (q .1) (given-is (q .0) (q .1))

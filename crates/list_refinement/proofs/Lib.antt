@@ -10,7 +10,7 @@ pub mod Rules
 pub mod Lists
 pub mod Seen
 pub mod Pushes
-pub mod Marks
+pub mod AtStart
 pub mod Passes
 pub mod Fixing
 pub mod Finishing

@@ -47,8 +47,8 @@ pub record AfterPass (sec : Section) (xs : List SemanticAction) (z : Sizing) (ys
   pub begun : w .begun ≡ z .begun
 
 -- a list of actions and a sizing as a pass leaves them
-abbrev pub heldList : List ℕ → List ℕ → List ℕ → List ℕ → List SemanticAction × Sizing → Sized
-heldList front tail marks rest r = sized (encZ (r .1)) (actionsIn front tail (r .0)) (temporariesIn marks rest (r .1 .temporaries))
+abbrev pub heldList : List ℕ → List ℕ → List ℕ → List SemanticAction × Sizing → Sized
+heldList front tail rest r = sized (encZ (r .1)) (actionsIn front tail (r .0)) (temporariesIn rest (r .1 .temporaries))
 
 module _ (s t : List ℕ) (sec : Section) (holds : SizesHold s t sec) where
   abbrev Pass : List SemanticAction → Sizing → List SemanticAction × Sizing → Type 0
@@ -99,12 +99,12 @@ module _ (s t : List ℕ) (sec : Section) (holds : SizesHold s t sec) where
         begun = a .begun ∙ b .begun;
       }
 
-  module _ (front tail marks rest : List ℕ) (base : ℕ) (begins : length front ≡ base) (low : base < 4096) where
+  module _ (front tail rest : List ℕ) (base : ℕ) (begins : length front ≡ base) (low : base < 4096) where
     module _ (ps : List SemanticAction) where
       one-is : (late : Bool) (x : SemanticAction) (ys : List SemanticAction) (z : Sizing) → length ps < 700000000000000000
           → RuledAction sec (length (z .temporaries)) x → Each SoundTmp (z .temporaries) → length (z .errors) + 3 < 2 ^ 64
-          → updateAction s t late base (pointerSize sec) (length ps) (heldList front tail marks rest (ps ++ (x ∷ ys), z))
-          ≡ heldList front tail marks rest (ps ++ ((d.updateOperandSizes sec late x z) .0 ∷ ys), (d.updateOperandSizes sec late x z) .1)
+          → updateAction s t late base (pointerSize sec) (length ps) (heldList front tail rest (ps ++ (x ∷ ys), z))
+          ≡ heldList front tail rest (ps ++ ((d.updateOperandSizes sec late x z) .0 ∷ ys), (d.updateOperandSizes sec late x z) .1)
       unfolding updateAction thenS
       one-is late x ys z h f g r =
           rw (
@@ -113,7 +113,7 @@ module _ (s t : List ℕ) (sec : Section) (holds : SizesHold s t sec) where
             list-between front tail ps
                 ((d.updateOperandSizes sec late x z) .0) ys,
           )
-          (update-is s t sec holds marks rest (front ++ listWords ps) (listWords ys ++ drop (24 * (length ps + suc (length ys))) tail)
+          (update-is s t sec holds rest (front ++ listWords ps) (listWords ys ++ drop (24 * (length ps + suc (length ys))) tail)
           (base + 24 * length ps) (focus-at front tail ps base begins) late x z 0
           (record { action = f .0; temporaries = g; errors = r }) (f .1))
 
@@ -122,8 +122,8 @@ module _ (s t : List ℕ) (sec : Section) (holds : SizesHold s t sec) where
 
     forward-from : (xs ps : List SemanticAction) (z : Sizing) → length ps + length xs < 700000000000000000
         → Each (RuledAction sec (length (z .temporaries))) xs → Each SoundTmp (z .temporaries) → length (z .errors) + 3 * length xs < 2 ^ 64
-        → run (length xs) (length ps) (updateAction s t true base (pointerSize sec)) (heldList front tail marks rest (ps ++ xs, z))
-        ≡ heldList front tail marks rest (ps ++ (d.forwardPass sec xs z) .0, (d.forwardPass sec xs z) .1)
+        → run (length xs) (length ps) (updateAction s t true base (pointerSize sec)) (heldList front tail rest (ps ++ xs, z))
+        ≡ heldList front tail rest (ps ++ (d.forwardPass sec xs z) .0, (d.forwardPass sec xs z) .1)
     unfolding run d.forwardPass
     forward-from [] ps z h f g r = refl
     forward-from (x ∷ xs) ps z h f g r =
@@ -142,8 +142,8 @@ module _ (s t : List ℕ) (sec : Section) (holds : SizesHold s t sec) where
 
     pub forward-is : (xs : List SemanticAction) (z : Sizing) → length xs < 700000000000000000
         → Each (RuledAction sec (length (z .temporaries))) xs → Each SoundTmp (z .temporaries) → length (z .errors) + 3 * length xs < 2 ^ 64
-        → forwardPass s t (actionsIn front tail xs) (temporariesIn marks rest (z .temporaries)) base (length xs) (pointerSize sec) (encZ z)
-        ≡ heldList front tail marks rest (d.forwardPass sec xs z)
+        → forwardPass s t (actionsIn front tail xs) (temporariesIn rest (z .temporaries)) base (length xs) (pointerSize sec) (encZ z)
+        ≡ heldList front tail rest (d.forwardPass sec xs z)
     unfolding forwardPass
     forward-is xs z h f g r = forward-from xs [] z (omega arith) f g r
 
@@ -157,8 +157,8 @@ module _ (s t : List ℕ) (sec : Section) (holds : SizesHold s t sec) where
         → ((i : ℕ) (x : Sized) → f i x ≡ updateAction s t false base (pointerSize sec) (length ps + i) x)
         → length ps + length xs < 700000000000000000 → Each (RuledAction sec (length (z .temporaries))) xs → Each SoundTmp (z .temporaries)
         → length (z .errors) + 3 * length xs < 2 ^ 64
-        → runDown (length xs) f (heldList front tail marks rest (ps ++ xs, z))
-        ≡ heldList front tail marks rest (ps ++ (d.backwardPass sec xs z) .0, (d.backwardPass sec xs z) .1)
+        → runDown (length xs) f (heldList front tail rest (ps ++ xs, z))
+        ≡ heldList front tail rest (ps ++ (d.backwardPass sec xs z) .0, (d.backwardPass sec xs z) .1)
     unfolding runDown d.backwardPass
     backward-from [] ps z f e h g k r = refl
     backward-from (x ∷ xs) ps z f e h g k r =
@@ -167,7 +167,7 @@ module _ (s t : List ℕ) (sec : Section) (holds : SizesHold s t sec) where
         (λ i y. e (suc i) y ∙ ap (λ (n : ℕ). updateAction s t false base (pointerSize sec) n y) (next i))
         (rw (one-more ps x) (omega arith)) (g .1) k (omega arith) in
         let j = rw (append-assoc ps (x ∷ []) xs, append-assoc ps (x ∷ []) ((d.backwardPass sec xs z) .0)) at i in
-        down-first (length xs) f (heldList front tail marks rest (ps ++ (x ∷ xs), z)) ∙ ap (f 0) j ∙ e 0 _
+        down-first (length xs) f (heldList front tail rest (ps ++ (x ∷ xs), z)) ∙ ap (f 0) j ∙ e 0 _
         ∙ rw (add-zero (length ps)) (one-is ps false x ((d.backwardPass sec xs z) .0) ((d.backwardPass sec xs z) .1) (omega arith)
         (subst (λ (n : ℕ). SoundAction sec n x) (sym (b .count)) (g .0 .0), g .0 .1) (b .temporaries) (omega (arith, b .errors)))
       where
@@ -176,8 +176,8 @@ module _ (s t : List ℕ) (sec : Section) (holds : SizesHold s t sec) where
 
     pub backward-is : (xs : List SemanticAction) (z : Sizing) → length xs < 700000000000000000
         → Each (RuledAction sec (length (z .temporaries))) xs → Each SoundTmp (z .temporaries) → length (z .errors) + 3 * length xs < 2 ^ 64
-        → backwardPass s t (actionsIn front tail xs) (temporariesIn marks rest (z .temporaries)) base (length xs) (pointerSize sec) (encZ z)
-        ≡ heldList front tail marks rest (d.backwardPass sec xs z)
+        → backwardPass s t (actionsIn front tail xs) (temporariesIn rest (z .temporaries)) base (length xs) (pointerSize sec) (encZ z)
+        ≡ heldList front tail rest (d.backwardPass sec xs z)
     unfolding backwardPass
     backward-is xs z h f g r = backward-from xs [] z (updateAction s t false base (pointerSize sec))
         (λ i x. ap (λ (n : ℕ). updateAction s t false base (pointerSize sec) n x) (sym (zero-add i))) (omega arith) f g r
@@ -185,9 +185,9 @@ module _ (s t : List ℕ) (sec : Section) (holds : SizesHold s t sec) where
     -- both passes
     pub inference-is : (xs : List SemanticAction) (z : Sizing) → length xs < 700000000000000000
         → Each (RuledAction sec (length (z .temporaries))) xs → Each SoundTmp (z .temporaries) → length (z .errors) + 6 * length xs < 2 ^ 64
-        → thenS (backwardPass s t (actionsIn front tail xs) (temporariesIn marks rest (z .temporaries)) base (length xs) (pointerSize sec)
+        → thenS (backwardPass s t (actionsIn front tail xs) (temporariesIn rest (z .temporaries)) base (length xs) (pointerSize sec)
         (encZ z)) (λ y a m. forwardPass s t a m base (length xs) (pointerSize sec) y)
-        ≡ heldList front tail marks rest (d.applySizeInference sec xs z)
+        ≡ heldList front tail rest (d.applySizeInference sec xs z)
     unfolding thenS d.applySizeInference
     inference-is xs z h f g r =
         let b = backward-after xs z f g in

@@ -107,7 +107,7 @@ unfolding d.updateOperandSizes
 updated-after s t sec holds late x z f = after-more 3 (kind-few (x .kind))
     (steps-after s t sec holds late (stepsOf (operationOf (x .kind))) x z f)
 
-module _ (s t : List ℕ) (sec : Section) (holds : SizesHold s t sec) (marks tail : List ℕ) (pre post : List ℕ) (place : ℕ)
+module _ (s t : List ℕ) (sec : Section) (holds : SizesHold s t sec) (tail : List ℕ) (pre post : List ℕ) (place : ℕ)
     (begins : length pre ≡ place) where
   module _ (late : Bool) (x : SemanticAction) (z : Sizing) (room : ℕ) (r : Ready sec (suc (suc (suc room))) x z) where
     fit : Fit sec x z
@@ -117,61 +117,61 @@ module _ (s t : List ℕ) (sec : Section) (holds : SizesHold s t sec) (marks tai
     two-after : (p q : Operand) → Gives sec 2 x z (setSizeOfAll sec late (p ∷ q ∷ []) x z)
     two-after p q = all-after s t sec holds late (p ∷ q ∷ []) x z fit
 
-    shift-is : Operands RuleKind.shift x → shift s t late (wordsOf pre post x) (temporariesOf marks tail z) place (pointerSize sec) (encZ z)
-        ≡ held pre post marks tail (applySteps sec late (ruleSteps RuleKind.shift) x z)
+    shift-is : Operands RuleKind.shift x → shift s t late (wordsOf pre post x) (temporariesOf tail z) place (pointerSize sec) (encZ z)
+        ≡ held pre post tail (applySteps sec late (ruleSteps RuleKind.shift) x z)
     unfolding shift thenS ruleSteps applySteps applyStep fixedSize
     shift-is h =
         let a = two-after in0 out in
-        rw (pair-is s t sec holds marks tail pre post place begins x z room r in0 out (h .0) (h .2) late)
-        (unsized-is s t sec holds marks tail pre post place begins (pointerSize sec) (holds .pointerSmall) in1 _ _ room
+        rw (pair-is s t sec holds tail pre post place begins x z room r in0 out (h .0) (h .2) late)
+        (unsized-is s t sec holds tail pre post place begins (pointerSize sec) (holds .pointerSmall) in1 _ _ room
         (after-ready (suc room) (suc (suc (suc room))) (omega arith) r a) (a .operands in1 ∙ h .1))
 
-    comparison-is : Operands RuleKind.comparison x → comparison s t late (wordsOf pre post x) (temporariesOf marks tail z) place
-        (pointerSize sec) (encZ z) ≡ held pre post marks tail (applySteps sec late (ruleSteps RuleKind.comparison) x z)
+    comparison-is : Operands RuleKind.comparison x → comparison s t late (wordsOf pre post x) (temporariesOf tail z) place
+        (pointerSize sec) (encZ z) ≡ held pre post tail (applySteps sec late (ruleSteps RuleKind.comparison) x z)
     unfolding comparison thenS ruleSteps applySteps applyStep fixedSize
     comparison-is h =
         let a = two-after in0 in1 in
-        rw (pair-is s t sec holds marks tail pre post place begins x z room r in0 in1 (h .0) (h .1) late)
-        (set-is s t sec holds marks tail pre post place begins 1 (omega arith) out _ _ room
+        rw (pair-is s t sec holds tail pre post place begins x z room r in0 in1 (h .0) (h .1) late)
+        (set-is s t sec holds tail pre post place begins 1 (omega arith) out _ _ room
         (after-ready (suc room) (suc (suc (suc room))) (omega arith) r a) (a .operands out ∙ h .2))
 
-    negation-is : Operands RuleKind.negation x → boolNot s t (wordsOf pre post x) (temporariesOf marks tail z) place (encZ z)
-        ≡ held pre post marks tail (applySteps sec late (ruleSteps RuleKind.negation) x z)
+    negation-is : Operands RuleKind.negation x → boolNot s t (wordsOf pre post x) (temporariesOf tail z) place (encZ z)
+        ≡ held pre post tail (applySteps sec late (ruleSteps RuleKind.negation) x z)
     unfolding boolNot thenS ruleSteps applySteps applyStep fixedSize
     negation-is h =
         let a = set-after s t sec holds 1 (omega arith) in0 x z fit in
         rw (
-          set-is s t sec holds marks tail pre post place begins 1 (omega arith) in0 x z (suc (suc room)) r (h .0),
+          set-is s t sec holds tail pre post place begins 1 (omega arith) in0 x z (suc (suc room)) r (h .0),
           absent-set sec 1 in1
               ((d.setOperand sec 1 in0 x z) .0) ((d.setOperand sec 1 in0 x z) .1) (a .operands in1 ∙ h .1),
         )
-        (set-is s t sec holds marks tail pre post place begins 1 (omega arith) out _ _ room
+        (set-is s t sec holds tail pre post place begins 1 (omega arith) out _ _ room
         (after-ready (suc room) (suc (suc (suc room))) (omega arith) r a) (a .operands out ∙ h .2))
 
-    branch-is : Operands RuleKind.branch x → branch s t (wordsOf pre post x) (temporariesOf marks tail z) place (pointerSize sec) (encZ z)
-        ≡ held pre post marks tail (applySteps sec late (ruleSteps RuleKind.branch) x z)
+    branch-is : Operands RuleKind.branch x → branch s t (wordsOf pre post x) (temporariesOf tail z) place (pointerSize sec) (encZ z)
+        ≡ held pre post tail (applySteps sec late (ruleSteps RuleKind.branch) x z)
     unfolding branch thenS ruleSteps applySteps applyStep fixedSize
     branch-is h =
         let a = set-after s t sec holds 1 (omega arith) in0 x z fit in
-        rw (set-is s t sec holds marks tail pre post place begins 1 (omega arith) in0 x z (suc (suc room)) r (h .0))
-        (unsized-is s t sec holds marks tail pre post place begins (pointerSize sec) (holds .pointerSmall) in1 _ _ room
+        rw (set-is s t sec holds tail pre post place begins 1 (omega arith) in0 x z (suc (suc room)) r (h .0))
+        (unsized-is s t sec holds tail pre post place begins (pointerSize sec) (holds .pointerSmall) in1 _ _ room
         (after-ready (suc room) (suc (suc (suc room))) (omega arith) r a) (a .operands in1 ∙ h .1))
 
-    rule-is : (k : RuleKind) → Operands k x → applyRule s t (ruleNumber k) late (wordsOf pre post x) (temporariesOf marks tail z) place
-        (pointerSize sec) (encZ z) ≡ held pre post marks tail (applySteps sec late (ruleSteps k) x z)
+    rule-is : (k : RuleKind) → Operands k x → applyRule s t (ruleNumber k) late (wordsOf pre post x) (temporariesOf tail z) place
+        (pointerSize sec) (encZ z) ≡ held pre post tail (applySteps sec late (ruleSteps k) x z)
     unfolding applyRule fewOperands if_then_else_ ruleNumber ruleSteps applySteps applyStep fixedSize setOperands
     rule-is RuleKind.unruled h = refl
-    rule-is RuleKind.pair h = pair-is s t sec holds marks tail pre post place begins x z room r in0 out (h .0) (h .1) late
+    rule-is RuleKind.pair h = pair-is s t sec holds tail pre post place begins x z room r in0 out (h .0) (h .1) late
     rule-is RuleKind.shift h = shift-is h
-    rule-is RuleKind.triple h = triple-is s t sec holds marks tail pre post place begins x z room r (h .0) (h .1) (h .2) late
+    rule-is RuleKind.triple h = triple-is s t sec holds tail pre post place begins x z room r (h .0) (h .1) (h .2) late
     rule-is RuleKind.comparison h = comparison-is h
-    rule-is RuleKind.boolean h = three-is s t sec holds marks tail pre post place begins 1 (omega arith) x z room r (h .0) (h .1) (h .2)
+    rule-is RuleKind.boolean h = three-is s t sec holds tail pre post place begins 1 (omega arith) x z room r (h .0) (h .1) (h .2)
     rule-is RuleKind.negation h = negation-is h
-    rule-is RuleKind.nan h = set-is s t sec holds marks tail pre post place begins 1 (omega arith) out x z (suc (suc room)) r h
-    rule-is RuleKind.address h = set-is s t sec holds marks tail pre post place begins (pointerSize sec) (holds .pointerSmall) in0 x z
+    rule-is RuleKind.nan h = set-is s t sec holds tail pre post place begins 1 (omega arith) out x z (suc (suc room)) r h
+    rule-is RuleKind.address h = set-is s t sec holds tail pre post place begins (pointerSize sec) (holds .pointerSmall) in0 x z
         (suc (suc room)) r h
     rule-is RuleKind.branch h = branch-is h
-    rule-is RuleKind.condition h = set-is s t sec holds marks tail pre post place begins 1 (omega arith) in0 x z (suc (suc room)) r h
+    rule-is RuleKind.condition h = set-is s t sec holds tail pre post place begins 1 (omega arith) in0 x z (suc (suc room)) r h
 
     head-is : getD (wordsOf pre post x) (place + 0) 0 ≡ actionKindNumber (x .kind)
     head-is = get-in pre (actionWords x) post place begins 0 (rw (action-length x) (omega arith)) ∙ rw (words-of x)
@@ -181,8 +181,8 @@ module _ (s t : List ℕ) (sec : Section) (holds : SizesHold s t sec) (marks tai
 
     by-kind : (k : ActionKind) → Ruled k x
         → (if eqb (actionKindNumber k) 0 then applyRule s t (ruleOf (operationWord (operationOf k))) late (wordsOf pre post x)
-        (temporariesOf marks tail z) place (pointerSize sec) (encZ z) else held pre post marks tail (x, z))
-        ≡ held pre post marks tail (applySteps sec late (stepsOf (operationOf k)) x z)
+        (temporariesOf tail z) place (pointerSize sec) (encZ z) else held pre post tail (x, z))
+        ≡ held pre post tail (applySteps sec late (stepsOf (operationOf k)) x z)
     unfolding if_then_else_ actionKindNumber operationWord operationOf stepsOf applySteps
     by-kind (ActionKind.Op op) h = rw (ruled op .words, ruled op .steps) (rule-is (kindOf op) h)
     by-kind ActionKind.AddressOf h = refl
@@ -191,7 +191,7 @@ module _ (s t : List ℕ) (sec : Section) (holds : SizesHold s t sec) (marks tai
     by-kind ActionKind.DelaySlot h = refl
     by-kind ActionKind.Build h = refl
 
-    pub update-is : Ruled (x .kind) x → updateOperandSizes s t late (wordsOf pre post x) (temporariesOf marks tail z) place
-        (pointerSize sec) (encZ z) ≡ held pre post marks tail (d.updateOperandSizes sec late x z)
+    pub update-is : Ruled (x .kind) x → updateOperandSizes s t late (wordsOf pre post x) (temporariesOf tail z) place
+        (pointerSize sec) (encZ z) ≡ held pre post tail (d.updateOperandSizes sec late x z)
     unfolding updateOperandSizes d.updateOperandSizes
     update-is h = rw (head-is, code-is) (by-kind (x .kind) h)

@@ -36,14 +36,14 @@ unfoldable pub seenPush : List ℕ → Listed Pushed → Seen (Unit {0})
 seenPush m (listed (Pushed.Done st) a) = yes tt st a m
 seenPush m (listed (Pushed.No n) a) = no n
 
--- The definition's outcome as the words have it: the front and the lent words behind it, the marks and the lent words of
--- the temporaries.
-module _ (front tail marks rest : List ℕ) where
+-- The definition's outcome as the words have it: the front and the lent words behind it, and the lent words of the
+-- temporaries.
+module _ (front tail rest : List ℕ) where
   abbrev pub actionsOf : State → List ℕ
   actionsOf s = actionsIn front tail (s .actions)
 
   abbrev pub tmpsOf : State → List ℕ
-  tmpsOf s = temporariesIn marks rest (s .sizing .temporaries)
+  tmpsOf s = temporariesIn rest (s .sizing .temporaries)
 
   unfoldable pub outcome : {A B : Type 0} → (A → B) → Outcome A → Seen B
   outcome enc (done a s) = yes (enc a) (encS (length front) s) (actionsOf s) (tmpsOf s)

@@ -2,7 +2,7 @@
 use Prim.Native.Nat.{ℕ, zero, suc, _+_, _*_, _/_, _%_, _^_, _≤_, _<_}
 use mathlib.Core.Path.{_≡_, refl, sym, _∙_, ap, subst}
 use mathlib.Core.Bool.{Bool, true, false, _||_}
-use mathlib.Core.List.{List, [], _∷_, _++_}
+use mathlib.Core.List.{List, [], _∷_, _++_, map}
 use mathlib.Core.Option.{Option, none, some}
 use native.Mathlib.Omega.{arith}
 use lib.ListN.{length, getD, set, drop, getElem?, length-set, length-append}
@@ -14,55 +14,44 @@ use Rattle.definition.specs.Value.{Kind, kindNumber, Value, isKind, SemanticAct
 use Rattle.definition.specs.Ast.{Register, Field, Section}
 use Rattle.definition.specs.Sizes as d
 use Rattle.definition.specs.Sizes.{Operand, in0, in1, out, at, put, Sizing, setTmpSize, setSize}
-use Rattle.definition.specs.ActionList.{orNone}
+use Rattle.definition.specs.ActionList.{orNone, temporaryWord}
 use Rattle.definition.proofs.Openers.{base-opens}
 use Rattle.list_values.specs.declared.sizes.Sizing.{Sizing as WordSizing}
 use Rattle.list_values.specs.Base.{Listed, listed}
 use Rattle.list_values.specs.Sizes.{tmpSize, listedSize, sizeOfLocal, sizeOf, sumOfErrors, recorded, error, sizeTemporary, settled}
 use Rattle.list_values.proofs.SizeLaws.{sum-below}
-use Rattle.list_refinement.specs.Encoding.{encV, markedWord, temporaryWords, temporariesIn, firstError, encZ, Within, Sound, SoundTmp, Each, EachOption, SoundAction, SizesHold}
+use Rattle.list_refinement.specs.Encoding.{encV, temporariesIn, firstError, encZ, Within, Sound, SoundTmp, Each, EachOption, SoundAction, SizesHold}
 use Rattle.list_refinement.proofs.Operands.{size-word}
 
 -- temporaries
 
-name-part : (name size mark : ℕ) → name ≤ 65535 → size ≤ 65535 → (name + 65536 * size + 2 ^ 32 * mark) % 65536 ≡ name
-name-part name size mark h j = omega arith
-
-size-part : (name size mark : ℕ) → name ≤ 65535 → size ≤ 65535 → (name + 65536 * size + 2 ^ 32 * mark) / 65536 % 65536 ≡ size
-size-part name size mark h j = omega arith
-
-mark-part : (name size mark : ℕ) → name ≤ 65535 → size ≤ 65535 → (name + 65536 * size + 2 ^ 32 * mark) / 4294967296 * 4294967296
-    ≡ 2 ^ 32 * mark
-mark-part name size mark h j = omega arith
+size-part : (name size : ℕ) → name ≤ 65535 → size ≤ 65535 → (name + 65536 * size) / 65536 % 65536 ≡ size
+size-part name size h j = omega arith
 
 -- a word with a new size
 abbrev resized : ℕ → ℕ → ℕ
 resized n word = word % 65536 + n % 65536 * 65536 + word / 4294967296 * 4294967296
 
-tmp-resized : (mark n : ℕ) (t : Temporary) → SoundTmp t → n < 65535 → resized n (markedWord mark t)
-    ≡ markedWord mark (record { name = t .name; size = some n })
-unfolding orNone orElse
-tmp-resized mark n t f h =
-    let z = size-word (t .size) (f .size) in
-    rw (name-part (orNone (t .name)) (orNone (t .size)) mark (f .name) z, mark-part (orNone (t .name)) (orNone (t .size)) mark (f .name) z)
-    (omega arith)
+tmp-resized : (n : ℕ) (t : Temporary) → SoundTmp t → n < 65535 → resized n (temporaryWord t) ≡ temporaryWord (record { name = t .name; size = some n })
+unfolding orNone orElse temporaryWord
+tmp-resized n t f h = let z = size-word (t .size) (f .size) in by-parts (orNone (t .name)) (orNone (t .size)) (f .name) z
+  where
+    by-parts : (name size : ℕ) → name ≤ 65535 → size ≤ 65535 → resized n (name + 65536 * size) ≡ name + 65536 * n
+    by-parts name size i j = omega arith
 
-tmp-get : (marks rest : List ℕ) (ts : List Temporary) (i : ℕ) → i < length ts → Each SoundTmp ts
-    → tmpSize (temporaryWords marks ts ++ rest) i ≡ orNone (andThen (getElem? ts i) λ (t : Temporary). t .size)
-unfolding temporaryWords tmpSize andThen
-tmp-get marks rest [] i h f = absurd (omega arith)
-tmp-get marks rest (t ∷ ts) zero h f = size-part (orNone (t .name)) (orNone (t .size)) (getD marks 0 0) (f .0 .name)
-    (size-word (t .size) (f .0 .size))
-tmp-get marks rest (t ∷ ts) (suc i) h f = tmp-get (drop 1 marks) rest ts i (omega arith) (f .1)
+tmp-get : (rest : List ℕ) (ts : List Temporary) (i : ℕ) → i < length ts → Each SoundTmp ts
+    → tmpSize (map temporaryWord ts ++ rest) i ≡ orNone (andThen (getElem? ts i) λ (t : Temporary). t .size)
+unfolding temporaryWord tmpSize andThen
+tmp-get rest [] i h f = absurd (omega arith)
+tmp-get rest (t ∷ ts) zero h f = size-part (orNone (t .name)) (orNone (t .size)) (f .0 .name) (size-word (t .size) (f .0 .size))
+tmp-get rest (t ∷ ts) (suc i) h f = tmp-get rest ts i (omega arith) (f .1)
 
-tmp-set : (marks rest : List ℕ) (ts : List Temporary) (i n : ℕ) (t : Temporary) → getElem? ts i ≡ some t → Each SoundTmp ts → n < 65535
-    → set (temporaryWords marks ts ++ rest) i (resized n (getD (temporaryWords marks ts ++ rest) i 0))
-    ≡ temporaryWords marks (set ts i (record { name = t .name; size = some n })) ++ rest
-unfolding temporaryWords
-tmp-set marks rest [] i n t e f h = let z : _≡_ {A = ℕ} 0 1 = cc in absurd (omega arith)
-tmp-set marks rest (u ∷ ts) zero n t e f h = let q : u ≡ t = cc in rw (← q, tmp-resized (getD marks 0 0) n u (f .0) h)
-tmp-set marks rest (u ∷ ts) (suc i) n t e f h = ap (λ (l : List ℕ). markedWord (getD marks 0 0) u ∷ l)
-    (tmp-set (drop 1 marks) rest ts i n t e (f .1) h)
+tmp-set : (rest : List ℕ) (ts : List Temporary) (i n : ℕ) (t : Temporary) → getElem? ts i ≡ some t → Each SoundTmp ts → n < 65535
+    → set (map temporaryWord ts ++ rest) i (resized n (getD (map temporaryWord ts ++ rest) i 0))
+    ≡ map temporaryWord (set ts i (record { name = t .name; size = some n })) ++ rest
+tmp-set rest [] i n t e f h = let z : _≡_ {A = ℕ} 0 1 = cc in absurd (omega arith)
+tmp-set rest (u ∷ ts) zero n t e f h = let q : u ≡ t = cc in rw (← q, tmp-resized n u (f .0) h)
+tmp-set rest (u ∷ ts) (suc i) n t e f h = ap (λ (l : List ℕ). temporaryWord u ∷ l) (tmp-set rest ts i n t e (f .1) h)
 
 pub get-inside : {A : Type 0} (xs : List A) (i : ℕ) → i < length xs → (x : A) × (getElem? xs i ≡ some x)
 get-inside [] i h = absurd (omega arith)
@@ -101,9 +90,9 @@ error-is z h = go (z .errors) h
 
 -- the sizes
 
-module _ (s t : List ℕ) (sec : Section) (holds : SizesHold s t sec) (marks tail : List ℕ) where
+module _ (s t : List ℕ) (sec : Section) (holds : SizesHold s t sec) (tail : List ℕ) where
   module _ (ts : List Temporary) (fit : Each SoundTmp ts) where
-    local-is : (k : Kind) (n : ℕ) → Within sec (length ts) k n → sizeOfLocal s t (temporariesIn marks tail ts) (kindNumber k) n
+    local-is : (k : Kind) (n : ℕ) → Within sec (length ts) k n → sizeOfLocal s t (temporariesIn tail ts) (kindNumber k) n
         ≡ orNone (d.sizeOfLocal sec ts k n)
     unfolding listedSize sizeOfLocal if_then_else_ kindNumber d.sizeOfLocal orNone orElse
     local-is Kind.InstStart n h = refl
@@ -112,7 +101,7 @@ module _ (s t : List ℕ) (sec : Section) (holds : SizesHold s t sec) (marks tai
     local-is Kind.Field n h = holds .fields n h
     local-is Kind.Subtable n h = holds .exports n h
     local-is Kind.SubtableRef n h = holds .exports n h
-    local-is Kind.PcodeTmp n h = tmp-get marks (drop (length ts) tail) ts n h fit
+    local-is Kind.PcodeTmp n h = tmp-get (drop (length ts) tail) ts n h fit
     local-is Kind.Constant n h = refl
 
     tmp-small : (us : List Temporary) (n : ℕ) → Each SoundTmp us → orElse 0 (andThen (getElem? us n) λ (x : Temporary). x .size) < 65535
@@ -133,12 +122,12 @@ module _ (s t : List ℕ) (sec : Section) (holds : SizesHold s t sec) (marks tai
     local-small Kind.Constant n = omega arith
 
     -- the known size
-    pub size-is : (v : Value) → Sound sec (length ts) v → sizeOf s t (temporariesIn marks tail ts) (encV v) ≡ orNone (d.sizeOf sec ts v)
+    pub size-is : (v : Value) → Sound sec (length ts) v → sizeOf s t (temporariesIn tail ts) (encV v) ≡ orNone (d.sizeOf sec ts v)
     unfolding sizeOf if_then_else_ d.sizeOf _or_ orNone orElse
     size-is v f = go (v .size) (f .size)
       where
         go : (z : Option ℕ) → orElse 0 z < 65535
-            → (if eqb (orNone z) 65535 then sizeOfLocal s t (temporariesIn marks tail ts) (kindNumber (v .kind)) (v .number) else orNone z)
+            → (if eqb (orNone z) 65535 then sizeOfLocal s t (temporariesIn tail ts) (kindNumber (v .kind)) (v .number) else orNone z)
             ≡ orNone (z or d.sizeOfLocal sec ts (v .kind) (v .number))
         go none h = local-is (v .kind) (v .number) (f .number)
         go (some n) h = rw (ne-eqb n 65535 (λ e. omega arith))
@@ -154,19 +143,19 @@ module _ (s t : List ℕ) (sec : Section) (holds : SizesHold s t sec) (marks tai
   -- setting one
   module _ (z : Sizing) (fit : Each SoundTmp (z .temporaries)) where
     abbrev done : Sizing → Listed WordSizing
-    done y = listed (encZ y) (temporariesIn marks tail (y .temporaries))
+    done y = listed (encZ y) (temporariesIn tail (y .temporaries))
 
     tmp-is : (i n : ℕ) → i < length (z .temporaries) → n < 65535
-        → listed (encZ z) (set (temporariesIn marks tail (z .temporaries)) i
-        (resized n (getD (temporariesIn marks tail (z .temporaries)) i 0))) ≡ done (setTmpSize sec i (getElem? (z .temporaries) i) n z)
+        → listed (encZ z) (set (temporariesIn tail (z .temporaries)) i
+        (resized n (getD (temporariesIn tail (z .temporaries)) i 0))) ≡ done (setTmpSize sec i (getElem? (z .temporaries) i) n z)
     unfolding setTmpSize
     tmp-is i n h j =
         let q = get-inside (z .temporaries) i h in
         rw (q .1, length-set (z .temporaries) i (record { name = q .0 .name; size = some n }))
-        (ap (listed (encZ z)) (tmp-set marks (drop (length (z .temporaries)) tail) (z .temporaries) i n (q .0) (q .1) fit j))
+        (ap (listed (encZ z)) (tmp-set (drop (length (z .temporaries)) tail) (z .temporaries) i n (q .0) (q .1) fit j))
 
     unknown-is : (k : Kind) (number offset : ℕ) (own : Option ℕ) (n : ℕ) → Within sec (length (z .temporaries)) k number → n < 65535
-        → listed (encZ z) (sizeTemporary (temporariesIn marks tail (z .temporaries))
+        → listed (encZ z) (sizeTemporary (temporariesIn tail (z .temporaries))
         (encV (record { kind = k; number = number; offset = offset; size = own })) n)
         ≡ done (d.sizeTemporary sec n (record { kind = k; number = number; offset = offset; size = own }) z)
     unfolding sizeTemporary if_then_else_ kindNumber d.sizeTemporary isKind base-opens
@@ -181,7 +170,7 @@ module _ (s t : List ℕ) (sec : Section) (holds : SizesHold s t sec) (marks tai
 
     module _ (room : length (z .errors) + 1 < 2 ^ 64) where
       differ-is : (k : Kind) (number offset : ℕ) (own : Option ℕ) →
-          (if eqb (kindNumber k) 4 then done z else listed (error (encZ z)) (temporariesIn marks tail (z .temporaries)))
+          (if eqb (kindNumber k) 4 then done z else listed (error (encZ z)) (temporariesIn tail (z .temporaries)))
           ≡ done (definition.if_then_else_ (isKind Kind.Subtable (record { kind = k; number = number; offset = offset; size = own })) z
           (d.error z))
       unfolding if_then_else_ kindNumber isKind base-opens
@@ -195,21 +184,21 @@ module _ (s t : List ℕ) (sec : Section) (holds : SizesHold s t sec) (marks tai
       differ-is Kind.Constant number offset own = rw (error-is z room)
 
       pub settled-is : (known : Option ℕ) (v : Value) (n : ℕ) → orElse 0 known < 65535 → Sound sec (length (z .temporaries)) v → n < 65535
-          → settled (temporariesIn marks tail (z .temporaries)) (encV v) (orNone known) n (encZ z) ≡ done (d.settled sec known n v z)
+          → settled (temporariesIn tail (z .temporaries)) (encV v) (orNone known) n (encZ z) ≡ done (d.settled sec known n v z)
       unfolding settled if_then_else_ d.settled orNone orElse
       settled-is none v n h f j = unknown-is (v .kind) (v .number) (v .offset) (v .size) n (f .number) j
       settled-is (some m) v n h f j = rw (ne-eqb m 65535 (λ e. omega arith)) (go (eqb m n))
         where
           go : (b : Bool) → (if b then done z else if eqb (kindNumber (v .kind)) 4 then done z else listed (error (encZ z))
-              (temporariesIn marks tail (z .temporaries)))
+              (temporariesIn tail (z .temporaries)))
               ≡ done (definition.if_then_else_ (b || isKind Kind.Subtable v) z (d.error z))
           go true = unfold base-opens in refl
           go false = differ-is (v .kind) (v .number) (v .offset) (v .size)
 
       -- a value that is no operand yet
       pub set-value-is : (v : Value) (n : ℕ) → Sound sec (length (z .temporaries)) v → n < 65535
-          → settled (temporariesIn marks tail (z .temporaries)) (encV v) (sizeOf s t (temporariesIn marks tail (z .temporaries)) (encV v)) n (encZ z)
-          ≡ listed (encZ ((setSize sec n v z) .1)) (temporariesIn marks tail ((setSize sec n v z) .1 .temporaries))
+          → settled (temporariesIn tail (z .temporaries)) (encV v) (sizeOf s t (temporariesIn tail (z .temporaries)) (encV v)) n (encZ z)
+          ≡ listed (encZ ((setSize sec n v z) .1)) (temporariesIn tail ((setSize sec n v z) .1 .temporaries))
       unfolding setSize
       set-value-is v n f h =
           rw (size-is (z .temporaries) fit v f)

@@ -62,37 +62,37 @@ equal-test n (some m) (some k) l lb lc = go (eqb n m) refl
     go true e = let q : n ≡ m = eqb-true n m e in rw q
     go false e = refl
 
-module _ (s t : List ℕ) (sec : Section) (holds : SizesHold s t sec) (marks tail : List ℕ) (pre post : List ℕ) (place : ℕ)
+module _ (s t : List ℕ) (sec : Section) (holds : SizesHold s t sec) (tail : List ℕ) (pre post : List ℕ) (place : ℕ)
     (begins : length pre ≡ place) where
   -- several operands
   module _ (n : ℕ) (small : n < 65535) (p q : Operand) (x : SemanticAction) (z : Sizing) where
     pub one-is : (room : ℕ) → Ready sec (suc room) x z → has p x ≡ true
-        → setOperand s t (wordsOf pre post x) (temporariesOf marks tail z) place (operandAt p) n (encZ z)
-        ≡ held pre post marks tail (setOperands sec n (p ∷ []) x z)
+        → setOperand s t (wordsOf pre post x) (temporariesOf tail z) place (operandAt p) n (encZ z)
+        ≡ held pre post tail (setOperands sec n (p ∷ []) x z)
     unfolding setOperands
-    one-is room r h = set-is s t sec holds marks tail pre post place begins n small p x z room r h
+    one-is room r h = set-is s t sec holds tail pre post place begins n small p x z room r h
 
     pub two-is : (room : ℕ) → Ready sec (suc (suc room)) x z → has p x ≡ true → has q x ≡ true
-        → setTwo s t (wordsOf pre post x) (temporariesOf marks tail z) place (operandAt p) (operandAt q) n (encZ z)
-        ≡ held pre post marks tail (setOperands sec n (p ∷ q ∷ []) x z)
+        → setTwo s t (wordsOf pre post x) (temporariesOf tail z) place (operandAt p) (operandAt q) n (encZ z)
+        ≡ held pre post tail (setOperands sec n (p ∷ q ∷ []) x z)
     unfolding setTwo thenS setOperands
     two-is room r h j =
-        rw (set-is s t sec holds marks tail pre post place begins n small p x z (suc room) r h)
-        (set-is s t sec holds marks tail pre post place begins n small q _ _ room (set-ready sec n small p x z (suc room) r)
+        rw (set-is s t sec holds tail pre post place begins n small p x z (suc room) r h)
+        (set-is s t sec holds tail pre post place begins n small q _ _ room (set-ready sec n small p x z (suc room) r)
         (set-has sec n small p x z q ∙ j))
 
   pub three-is : (n : ℕ) (small : n < 65535) (x : SemanticAction) (z : Sizing) (room : ℕ) → Ready sec (suc (suc (suc room))) x z → has in0 x
       ≡ true → has in1 x ≡ true → has out x ≡ true
-      → setThree s t (wordsOf pre post x) (temporariesOf marks tail z) place n (encZ z)
-      ≡ held pre post marks tail (setOperands sec n (in0 ∷ in1 ∷ out ∷ []) x z)
+      → setThree s t (wordsOf pre post x) (temporariesOf tail z) place n (encZ z)
+      ≡ held pre post tail (setOperands sec n (in0 ∷ in1 ∷ out ∷ []) x z)
   unfolding setThree setTwo thenS setOperands
   three-is n small x z room r h j k =
       rw (
-        set-is s t sec holds marks tail pre post place begins n small in0 x z (suc (suc room)) r h,
-        set-is s t sec holds marks tail pre post place begins n small in1 _ _ (suc room) (set-ready sec n small in0 x z (suc (suc room)) r)
+        set-is s t sec holds tail pre post place begins n small in0 x z (suc (suc room)) r h,
+        set-is s t sec holds tail pre post place begins n small in1 _ _ (suc room) (set-ready sec n small in0 x z (suc (suc room)) r)
             (set-has sec n small in0 x z in1 ∙ j),
       )
-      (set-is s t sec holds marks tail pre post place begins n small out _ _ room
+      (set-is s t sec holds tail pre post place begins n small out _ _ room
       (set-ready sec n small in1 _ _ (suc room) (set-ready sec n small in0 x z (suc (suc room)) r))
       (set-has sec n small in1 _ _ out ∙ set-has sec n small in0 x z out ∙ k))
 
@@ -104,16 +104,16 @@ module _ (s t : List ℕ) (sec : Section) (holds : SizesHold s t sec) (marks tai
       where
         go : (v : Value) → at p x ≡ some v → andThen (at p x) (fallbackSize sec)
             ≡ definition.if_then_else_ (fallsBack (valueAt (wordsOf pre post x) place (operandAt p))) (some (pointerSize sec)) none
-        go v e = rw (e, value-of s t sec holds marks tail pre post place begins p x z (suc (suc (suc room))) r v e) (falls-is sec v)
+        go v e = rw (e, value-of s t sec holds tail pre post place begins p x z (suc (suc (suc room))) r v e) (falls-is sec v)
 
     module _ (p q : Operand) (h : has p x ≡ true) (j : has q x ≡ true) where
       setBoth : ℕ → Sized
-      setBoth n = setTwo s t (wordsOf pre post x) (temporariesOf marks tail z) place (operandAt p) (operandAt q) n (encZ z)
+      setBoth n = setTwo s t (wordsOf pre post x) (temporariesOf tail z) place (operandAt p) (operandAt q) n (encZ z)
 
       neither-is : (late b c : Bool)
-          → (if late then (if b then setBoth (pointerSize sec) else if c then setBoth (pointerSize sec) else held pre post marks tail
-          (x, z)) else held pre post marks tail (x, z))
-          ≡ held pre post marks tail (d.shareSize sec none
+          → (if late then (if b then setBoth (pointerSize sec) else if c then setBoth (pointerSize sec) else held pre post tail
+          (x, z)) else held pre post tail (x, z))
+          ≡ held pre post tail (d.shareSize sec none
           (definition.if_then_else_ late (definition.if_then_else_ b (some (pointerSize sec)) none or
           (definition.if_then_else_ c (some (pointerSize sec)) none or none)) none) (p ∷ q ∷ []) x z)
       unfolding if_then_else_ base-opens d.shareSize setBoth
@@ -122,57 +122,57 @@ module _ (s t : List ℕ) (sec : Section) (holds : SizesHold s t sec) (marks tai
       neither-is true false true = two-is (pointerSize sec) (holds .pointerSmall) p q x z (suc room) r h j
       neither-is true false false = refl
 
-      pair-none : (late : Bool) → pairFallback s t late (wordsOf pre post x) (temporariesOf marks tail z) place (operandAt p) (operandAt q)
+      pair-none : (late : Bool) → pairFallback s t late (wordsOf pre post x) (temporariesOf tail z) place (operandAt p) (operandAt q)
           (pointerSize sec) (encZ z)
-          ≡ held pre post marks tail (d.shareSize sec none
+          ≡ held pre post tail (d.shareSize sec none
           (definition.if_then_else_ late (first (λ y. andThen (at y x) (fallbackSize sec)) (p ∷ q ∷ [])) none) (p ∷ q ∷ []) x z)
       unfolding pairFallback first setBoth
       pair-none late = rw (falls-at p h, falls-at q j) (neither-is late (fallsBack (valueAt (wordsOf pre post x) place (operandAt p)))
           (fallsBack (valueAt (wordsOf pre post x) place (operandAt q))))
 
       pair-shares : (late : Bool) (a b : Option ℕ) → knownAt sec x z p ≡ a → knownAt sec x z q ≡ b → orElse 0 a < 65535 → orElse 0 b < 65535
-          → sharePair s t late (wordsOf pre post x) (temporariesOf marks tail z) place (operandAt p) (operandAt q) (orNone a) (orNone b)
+          → sharePair s t late (wordsOf pre post x) (temporariesOf tail z) place (operandAt p) (operandAt q) (orNone a) (orNone b)
           (pointerSize sec) (encZ z)
-          ≡ held pre post marks tail (d.shareSize sec (a or (b or none))
+          ≡ held pre post tail (d.shareSize sec (a or (b or none))
           (definition.if_then_else_ late (first (λ y. andThen (at y x) (fallbackSize sec)) (p ∷ q ∷ [])) none) (p ∷ q ∷ []) x z)
       unfolding sharePair if_then_else_ orNone orElse _or_
       pair-shares late none none e f k l = pair-none late
       pair-shares late none (some n) e f k l = rw (small-test n l) (part e f)
         where
           part : knownAt sec x z p ≡ none → knownAt sec x z q ≡ some n
-              → setOperand s t (wordsOf pre post x) (temporariesOf marks tail z) place (operandAt p) n (encZ z)
-              ≡ held pre post marks tail (d.shareSize sec (some n)
+              → setOperand s t (wordsOf pre post x) (temporariesOf tail z) place (operandAt p) n (encZ z)
+              ≡ held pre post tail (d.shareSize sec (some n)
               (definition.if_then_else_ late (first (λ y. andThen (at y x) (fallbackSize sec)) (p ∷ q ∷ [])) none) (p ∷ q ∷ []) x z)
           part e f = unfold base-opens d.shareSize contains butFirst in rw (e, f) (one-is n l p q x z (suc (suc room)) r h)
       pair-shares late (some m) none e f k l = rw (small-test m k) (part e f)
         where
           part : knownAt sec x z p ≡ some m → knownAt sec x z q ≡ none
-              → setOperand s t (wordsOf pre post x) (temporariesOf marks tail z) place (operandAt q) m (encZ z)
-              ≡ held pre post marks tail (d.shareSize sec (some m)
+              → setOperand s t (wordsOf pre post x) (temporariesOf tail z) place (operandAt q) m (encZ z)
+              ≡ held pre post tail (d.shareSize sec (some m)
               (definition.if_then_else_ late (first (λ y. andThen (at y x) (fallbackSize sec)) (p ∷ q ∷ [])) none) (p ∷ q ∷ []) x z)
           part e f = unfold base-opens d.shareSize contains butFirst in rw (e, f, same-test m) (one-is m k q p x z (suc (suc room)) r j)
       pair-shares late (some m) (some n) e f k l = rw (small-test m k) (part (eqb m n) refl)
         where
-          part : (c : Bool) → eqb m n ≡ c → (if c then held pre post marks tail (x, z) else setOperand s t (wordsOf pre post x)
-              (temporariesOf marks tail z) place (operandAt q) m (encZ z))
-              ≡ held pre post marks tail (d.shareSize sec (some m)
+          part : (c : Bool) → eqb m n ≡ c → (if c then held pre post tail (x, z) else setOperand s t (wordsOf pre post x)
+              (temporariesOf tail z) place (operandAt q) m (encZ z))
+              ≡ held pre post tail (d.shareSize sec (some m)
               (definition.if_then_else_ late (first (λ y. andThen (at y x) (fallbackSize sec)) (p ∷ q ∷ [])) none) (p ∷ q ∷ []) x z)
           part true g = unfold base-opens d.shareSize contains butFirst in rw (e, f, same-test m, g)
           part false g = unfold base-opens d.shareSize contains butFirst in rw (e, f, same-test m, g)
               (one-is m k q p x z (suc (suc room)) r j)
 
-      pub pair-is : (late : Bool) → setSizeOfPair s t late (wordsOf pre post x) (temporariesOf marks tail z) place (operandAt p)
-          (operandAt q) (pointerSize sec) (encZ z) ≡ held pre post marks tail (setSizeOfAll sec late (p ∷ q ∷ []) x z)
+      pub pair-is : (late : Bool) → setSizeOfPair s t late (wordsOf pre post x) (temporariesOf tail z) place (operandAt p)
+          (operandAt q) (pointerSize sec) (encZ z) ≡ held pre post tail (setSizeOfAll sec late (p ∷ q ∷ []) x z)
       unfolding setSizeOfPair setSizeOfAll first
       pair-is late =
           rw (
-            known-is s t sec holds marks tail pre post place begins p x z (suc (suc (suc room))) r h,
-            known-is s t sec holds marks tail
+            known-is s t sec holds tail pre post place begins p x z (suc (suc (suc room))) r h,
+            known-is s t sec holds tail
                 pre post place begins q x z (suc (suc (suc room))) r j,
           )
           (pair-shares late (knownAt sec x z p) (knownAt sec x z q) refl refl
-          (known-fits s t sec holds marks tail pre post place begins p x z (suc (suc (suc room))) r)
-          (known-fits s t sec holds marks tail pre post place begins q x z (suc (suc (suc room))) r))
+          (known-fits s t sec holds tail pre post place begins p x z (suc (suc (suc room))) r)
+          (known-fits s t sec holds tail pre post place begins q x z (suc (suc (suc room))) r))
 
     -- both inputs and the output
     module _ (h : has in0 x ≡ true) (j : has in1 x ≡ true) (k : has out x ≡ true) where
@@ -180,13 +180,12 @@ module _ (s t : List ℕ) (sec : Section) (holds : SizesHold s t sec) (marks tai
       fallbacks late = definition.if_then_else_ late (first (λ y. andThen (at y x) (fallbackSize sec)) (in0 ∷ in1 ∷ out ∷ [])) none
 
       abbrev Shared : Option ℕ → Bool → Sized
-      Shared known late = held pre post marks tail (d.shareSize sec known (fallbacks late) (in0 ∷ in1 ∷ out ∷ []) x z)
+      Shared known late = held pre post tail (d.shareSize sec known (fallbacks late) (in0 ∷ in1 ∷ out ∷ []) x z)
 
       none-three : (late b c e : Bool)
           → (if late then (if (if b then true else if c then true else e) then setThree s t (wordsOf pre post x)
-          (temporariesOf marks tail z) place (pointerSize sec) (encZ z) else held pre post marks tail (x, z)) else held pre post marks
-          tail (x, z))
-          ≡ held pre post marks tail (d.shareSize sec none
+          (temporariesOf tail z) place (pointerSize sec) (encZ z) else held pre post tail (x, z)) else held pre post tail (x, z))
+          ≡ held pre post tail (d.shareSize sec none
           (definition.if_then_else_ late (definition.if_then_else_ b (some (pointerSize sec)) none or
           (definition.if_then_else_ c (some (pointerSize sec)) none or
           (definition.if_then_else_ e (some (pointerSize sec)) none or none))) none) (in0 ∷ in1 ∷ out ∷ []) x z)
@@ -197,7 +196,7 @@ module _ (s t : List ℕ) (sec : Section) (holds : SizesHold s t sec) (marks tai
       none-three true false false true = three-is (pointerSize sec) (holds .pointerSmall) x z room r h j k
       none-three true false false false = refl
 
-      triple-none : (late : Bool) → tripleFallback s t late (wordsOf pre post x) (temporariesOf marks tail z) place (pointerSize sec)
+      triple-none : (late : Bool) → tripleFallback s t late (wordsOf pre post x) (temporariesOf tail z) place (pointerSize sec)
           (encZ z) ≡ Shared none late
       unfolding tripleFallback tripleFallsBack first
       triple-none late = rw (falls-at in0 h, falls-at in1 j, falls-at out k)
@@ -210,18 +209,18 @@ module _ (s t : List ℕ) (sec : Section) (holds : SizesHold s t sec) (marks tai
 
         -- the first known one is the output, the second input or the first
         by-out : (n : ℕ) → n < 65535 → Known none none (some n)
-            → setTwo s t (wordsOf pre post x) (temporariesOf marks tail z) place 6 8 n (encZ z) ≡ Shared (some n) late
+            → setTwo s t (wordsOf pre post x) (temporariesOf tail z) place 6 8 n (encZ z) ≡ Shared (some n) late
         unfolding base-opens d.shareSize contains butFirst
         by-out n l e = rw (e .0, e .1, e .2) (two-is n l in0 in1 x z (suc room) r h j)
 
         by-second : (n : ℕ) (c : Option ℕ) → n < 65535 → Known none (some n) c
-            → setTwo s t (wordsOf pre post x) (temporariesOf marks tail z) place 6 4 n (encZ z) ≡ Shared (some n) late
+            → setTwo s t (wordsOf pre post x) (temporariesOf tail z) place 6 4 n (encZ z) ≡ Shared (some n) late
         unfolding base-opens d.shareSize contains butFirst
         by-second n c l e = rw (e .0, e .1) (two-is n l in0 out x z (suc room) r h k)
 
         by-first : (n : ℕ) (b c : Option ℕ) (u v : Bool) → n < 65535 → Known (some n) b c → contains n b ≡ u → contains n c ≡ v
-            → (if (if u then v else false) then held pre post marks tail (x, z) else setTwo s t (wordsOf pre post x)
-            (temporariesOf marks tail z) place 8 4 n (encZ z)) ≡ Shared (some n) late
+            → (if (if u then v else false) then held pre post tail (x, z) else setTwo s t (wordsOf pre post x)
+            (temporariesOf tail z) place 8 4 n (encZ z)) ≡ Shared (some n) late
         unfolding if_then_else_ base-opens d.shareSize butFirst
         by-first n b c true true l e f g = let i : contains n (some n) ≡ true = unfold contains in same-test n in rw (e .0, i, e .1, f, e .2, g)
         by-first n b c true false l e f g = let i : contains n (some n)
@@ -230,7 +229,7 @@ module _ (s t : List ℕ) (sec : Section) (holds : SizesHold s t sec) (marks tai
             ≡ true = unfold contains in same-test n in rw (e .0, i, e .1, f) (two-is n l in1 out x z (suc room) r j k)
 
         triple-shares : (a b c : Option ℕ) → orElse 0 a < 65535 → orElse 0 b < 65535 → orElse 0 c < 65535 → Known a b c
-            → shareTriple s t late (wordsOf pre post x) (temporariesOf marks tail z) place (orNone a) (orNone b) (orNone c)
+            → shareTriple s t late (wordsOf pre post x) (temporariesOf tail z) place (orNone a) (orNone b) (orNone c)
             (pointerSize sec) (encZ z) ≡ Shared (a or (b or (c or none))) late
         unfolding shareTriple shareSize allEqual if_then_else_ orNone orElse _or_
         triple-shares none none none la lb lc e = triple-none late
@@ -239,33 +238,33 @@ module _ (s t : List ℕ) (sec : Section) (holds : SizesHold s t sec) (marks tai
         triple-shares (some n) b c la lb lc e = rw (small-test n la, equal-test n b c la lb lc)
             (by-first n b c (contains n b) (contains n c) la e refl refl)
 
-      pub triple-is : (late : Bool) → setSizeOfTriple s t late (wordsOf pre post x) (temporariesOf marks tail z) place (pointerSize sec)
-          (encZ z) ≡ held pre post marks tail (setSizeOfAll sec late (in0 ∷ in1 ∷ out ∷ []) x z)
+      pub triple-is : (late : Bool) → setSizeOfTriple s t late (wordsOf pre post x) (temporariesOf tail z) place (pointerSize sec)
+          (encZ z) ≡ held pre post tail (setSizeOfAll sec late (in0 ∷ in1 ∷ out ∷ []) x z)
       unfolding setSizeOfTriple setSizeOfAll first
       triple-is late =
           rw (
-            known-is s t sec holds marks tail pre post place begins in0 x z (suc (suc (suc room))) r h,
-            known-is s t sec holds marks tail
+            known-is s t sec holds tail pre post place begins in0 x z (suc (suc (suc room))) r h,
+            known-is s t sec holds tail
                 pre post place begins in1 x z (suc (suc (suc room))) r j,
-            known-is s t sec holds marks tail pre post place begins out x z
+            known-is s t sec holds tail pre post place begins out x z
                 (suc (suc (suc room))) r k,
           )
           (triple-shares late (knownAt sec x z in0) (knownAt sec x z in1) (knownAt sec x z out)
-          (known-fits s t sec holds marks tail pre post place begins in0 x z (suc (suc (suc room))) r)
-          (known-fits s t sec holds marks tail pre post place begins in1 x z (suc (suc (suc room))) r)
-          (known-fits s t sec holds marks tail pre post place begins out x z (suc (suc (suc room))) r) (refl, refl, refl))
+          (known-fits s t sec holds tail pre post place begins in0 x z (suc (suc (suc room))) r)
+          (known-fits s t sec holds tail pre post place begins in1 x z (suc (suc (suc room))) r)
+          (known-fits s t sec holds tail pre post place begins out x z (suc (suc (suc room))) r) (refl, refl, refl))
 
   pub unsized-is : (n : ℕ) → n < 65535 → (p : Operand) (x : SemanticAction) (z : Sizing) (room : ℕ) → Ready sec (suc room) x z → has p x
       ≡ true
-      → setUnsized s t (wordsOf pre post x) (temporariesOf marks tail z) place (operandAt p) n (encZ z)
-      ≡ held pre post marks tail (d.setUnsized sec (knownAt sec x z p) n p x z)
+      → setUnsized s t (wordsOf pre post x) (temporariesOf tail z) place (operandAt p) n (encZ z)
+      ≡ held pre post tail (d.setUnsized sec (knownAt sec x z p) n p x z)
   unfolding setUnsized
-  unsized-is n small p x z room r h = rw (known-is s t sec holds marks tail pre post place begins p x z (suc room) r h)
-      (go (knownAt sec x z p) (known-fits s t sec holds marks tail pre post place begins p x z (suc room) r))
+  unsized-is n small p x z room r h = rw (known-is s t sec holds tail pre post place begins p x z (suc room) r h)
+      (go (knownAt sec x z p) (known-fits s t sec holds tail pre post place begins p x z (suc room) r))
     where
       go : (a : Option ℕ) → orElse 0 a < 65535 → (if eqb (orNone a) 65535 then setOperand s t (wordsOf pre post x)
-          (temporariesOf marks tail z) place (operandAt p) n (encZ z) else held pre post marks tail (x, z))
-          ≡ held pre post marks tail (d.setUnsized sec a n p x z)
-      go none l = unfold if_then_else_ orNone orElse d.setUnsized in set-is s t sec holds marks tail pre post place begins n small p x z
+          (temporariesOf tail z) place (operandAt p) n (encZ z) else held pre post tail (x, z))
+          ≡ held pre post tail (d.setUnsized sec a n p x z)
+      go none l = unfold if_then_else_ orNone orElse d.setUnsized in set-is s t sec holds tail pre post place begins n small p x z
           room r h
       go (some m) l = unfold if_then_else_ orNone orElse d.setUnsized in rw (small-test m l)

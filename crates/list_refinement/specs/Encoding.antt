@@ -2,16 +2,16 @@
 -- true of values, actions and temporaries for that: numbers within their lists, offsets and sizes within their words.
 use Prim.Native.Nat.{ℕ, _+_, _*_, _^_, _≤_, _<_}
 use mathlib.Core.Path.{_≡_}
-use mathlib.Core.List.{List, [], _∷_, _++_}
+use mathlib.Core.List.{List, [], _∷_, _++_, map}
 use mathlib.Core.Option.{Option, none, some}
-use lib.ListN.{length, getD, drop, getElem?}
+use lib.ListN.{length, drop, getElem?}
 use Rattle.prelude.specs.Base.{orElse, andThen}
 use Rattle.definition.specs.Value.{Kind, kindNumber, Value, SemanticAction, Temporary}
 use Rattle.definition.specs.Ast.{Register, Field, Section}
 use Rattle.definition.specs.Sizes as d
 use Rattle.definition.specs.Sizes.{Sizing, pointerSize}
 use Rattle.definition.specs.Walk.{State}
-use Rattle.definition.specs.ActionList.{orNone, listWords}
+use Rattle.definition.specs.ActionList.{orNone, listWords, temporaryWord}
 use Rattle.list_values.specs.declared.value.Value.{Value as WordValue}
 use Rattle.list_values.specs.declared.sizes.Sizing.{Sizing as WordSizing}
 use Rattle.list_pushes.specs.declared.push.State.{State as WordState}
@@ -28,17 +28,9 @@ packed v = kindNumber (v .kind) + 256 * v .offset + 2 ^ 24 * orNone (v .size)
 abbrev pub actionsIn : List ℕ → List ℕ → List SemanticAction → List ℕ
 actionsIn front tail xs = front ++ (listWords xs ++ drop (24 * length xs) tail)
 
--- a temporary's word, whose upper half is its mark: two links, then the number of its scope
-abbrev pub markedWord : ℕ → Temporary → ℕ
-markedWord mark t = orNone (t .name) + 65536 * orNone (t .size) + 2 ^ 32 * mark
-
-unfoldable pub temporaryWords : List ℕ → List Temporary → List ℕ
-temporaryWords marks [] = []
-temporaryWords marks (t ∷ ts) = markedWord (getD marks 0 0) t ∷ temporaryWords (drop 1 marks) ts
-
--- Temporaries, each with its mark or 0, in front of what is left of the lent words.
-abbrev pub temporariesIn : List ℕ → List ℕ → List Temporary → List ℕ
-temporariesIn marks tail ts = temporaryWords marks ts ++ drop (length ts) tail
+-- Temporaries stand in front of what is left of the lent words.
+abbrev pub temporariesIn : List ℕ → List Temporary → List ℕ
+temporariesIn tail ts = map temporaryWord ts ++ drop (length ts) tail
 
 unfoldable pub firstError : List (Option ℕ) → ℕ
 firstError [] = 65535

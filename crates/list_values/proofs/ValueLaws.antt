@@ -1,22 +1,31 @@
 -- One law for each way out of the functions over a value's words.
 use mathlib.Core.Path.{_≡_}
 use mathlib.Core.List.{List}
-use Prim.Native.Nat.{ℕ, _+_, _*_, _/_, _%_, _≤_, _<_}
+use Prim.Native.Nat.{ℕ, _+_, _-_, _*_, _/_, _%_, _≤_, _<_}
 use native.Mathlib.Omega.{arith}
 use lib.ListN.{getD, set}
-use borrow.Author.Tests.{lt-ltb, le-ltb}
+use borrow.Author.Tests.{lt-ltb, le-ltb, le-leb, lt-leb}
 use Rattle.list_values.specs.declared.value.Value.{Value}
+use Rattle.list_values.specs.declared.value.Slice.{Slice}
 use Rattle.prelude.specs.Base.{if_then_else_}
-use Rattle.list_values.specs.Values.{word, valueOf, valueAt, putValue, putSize, place}
+use Rattle.list_values.specs.Values.{sliceBytes, word, valueOf, valueAt, putValue, putSize, place}
 
 pub value-at-law : (l : List ℕ) (at i w n : ℕ) → w ≡ getD l (at + (i + 1)) 0 → n ≡ getD l (at + i) 0 → record { kind = w % 256; number = n; offset = w / 256 % 65536; size = w / 16777216 % 65536 } ≡ valueAt l at i
 unfolding valueAt valueOf
 value-at-law l at i w n p q = rw (p, q)
 
--- an offset that is read from a list has 16 bits
-pub offset-small : (l : List ℕ) (at i : ℕ) (v : Value) → v ≡ valueAt l at i → v .offset < 65536
-unfolding valueAt valueOf
-offset-small l at i v e = rw e (omega arith)
+module _ (v : Value) (more size : ℕ) where
+  pub slice-is : v .offset ≤ 65535 → more ≤ 65535 - v .offset → Slice.Is (record { kind = v .kind; number = v .number; offset = v .offset + more; size = size }) ≡ sliceBytes v more size
+  unfolding sliceBytes if_then_else_
+  slice-is h k = rw (le-leb (v .offset + more) 65535 (omega arith))
+
+  pub slice-more : v .offset ≤ 65535 → 65535 - v .offset < more → Slice.No 42 ≡ sliceBytes v more size
+  unfolding sliceBytes if_then_else_
+  slice-more h k = rw (lt-leb (v .offset + more) 65535 (omega arith))
+
+  pub slice-far : 65535 < v .offset → Slice.No 42 ≡ sliceBytes v more size
+  unfolding sliceBytes if_then_else_
+  slice-far h = rw (lt-leb (v .offset + more) 65535 (omega arith))
 
 pub put-value-law : (l l1 l2 : List ℕ) (at i k : ℕ) (v : Value) → l1 ≡ set l (at + i) (v .number) → k ≡ word v → l2 ≡ set l1 (at + (i + 1)) k → l2 ≡ putValue l at i v
 unfolding putValue
@@ -38,4 +47,4 @@ pub place-off : (base i : ℕ) → 4096 ≤ base → 0 ≡ place base i
 unfolding place if_then_else_
 place-off base i h = rw (le-ltb base 4096 h)
 
-pub ruleset value-laws = (value-at-law, put-value-law, put-size-law)
+pub ruleset value-laws = (slice-is, slice-more, slice-far, value-at-law, put-value-law, put-size-law)

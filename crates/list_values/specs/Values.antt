@@ -2,8 +2,9 @@
 use Prim.Native.Nat.{ℕ, _+_, _*_, _/_, _%_}
 use mathlib.Core.List.{List}
 use lib.ListN.{getD, set}
-use lib.Dec.{ltb}
+use lib.Dec.{ltb, leb}
 use Rattle.list_values.specs.declared.value.Value.{Value}
+use Rattle.list_values.specs.declared.value.Slice.{Slice}
 use Rattle.prelude.specs.Base.{if_then_else_}
 
 -- a value at offset 0 with no size of its own
@@ -20,6 +21,13 @@ absent = record { kind = 0; number = 0; offset = 0; size = 0 }
 -- the output of an Op that has none
 abbrev pub noOutput : Value
 noOutput = record { kind = 255; number = 0; offset = 0; size = 0 }
+
+-- so many bytes of a value, from a byte on, unless their offset passes 65,535
+unfoldable pub sliceBytes : Value → ℕ → ℕ → Slice
+sliceBytes v more size =
+    if leb (v .offset + more) 65535
+    then Slice.Is (record { kind = v .kind; number = v .number; offset = v .offset + more; size = size })
+    else Slice.No 42
 
 -- the second word
 unfoldable pub word : Value → ℕ

@@ -2,16 +2,20 @@
 // writes there change nothing.
 use codes::NONE;
 use codes::action;
+use codes::refusal;
 ghost use mathlib.Core.Path.{_≡_};
 ghost use Prim.Native.Nat.{_+_, _<_};
 ghost use lib.ListN.{getD, set};
-ghost use Rattle.list_values.specs.Values.{local, withSize, absent, noOutput, word, valueAt, putValue, putSize, place};
+ghost use Rattle.list_values.specs.Values.{local, withSize, absent, noOutput, sliceBytes, word, valueAt, putValue, putSize, place};
 
 // The size stands in a value's second word from bit 24 on.
 pub const SIZE_PLACE: u64 = 16777216;
 
 // The second word of an output that is not there.
 pub const NO_OUTPUT: u64 = 255;
+
+// The greatest offset that a value's second word holds.
+const LAST_OFFSET: u64 = 65535;
 
 // Kinds are 0 to 7 in the order of `Local`; a size of 65,535 is none.
 pub struct Value {
@@ -66,6 +70,28 @@ pub fn no_output() -> Value
         offset: 0,
         size: 0,
     }
+}
+
+pub enum Slice {
+    Is(Value),
+    No(u64),
+}
+
+// So many bytes of a value, from a byte on, unless their offset passes 65,535.
+pub fn slice_bytes(value: Value, more: u64, size: u64) -> Slice
+    ensures { λ r. ⌜ r ≡ sliceBytes value more size ⌝ }
+{
+    if value.offset <= LAST_OFFSET {
+        if more <= LAST_OFFSET - value.offset {
+            return Slice::Is(Value {
+                kind: value.kind,
+                number: value.number,
+                offset: value.offset + more,
+                size,
+            });
+        }
+    }
+    Slice::No(refusal::OFFSET_TOO_FAR)
 }
 
 // The second word.

@@ -1,19 +1,17 @@
 -- One law for each way out of the functions that make the answer.
 use mathlib.Core.Path.{_≡_}
 use mathlib.Core.List.{List, _++_}
-use Prim.Native.Nat.{ℕ, _+_, _-_, _*_, _/_, _%_, _≤_, _<_}
-use lib.ListN.{length, getD, set, take, replicate}
+use Prim.Native.Nat.{ℕ, _+_, _-_, _*_, _/_, _≤_, _<_}
+use lib.ListN.{length, take, replicate}
 use borrow.Author.Tests.{eq-eqb, ne-eqb, lt-ltb, le-ltb}
 use Rattle.list_values.specs.Base.{listed, thenL}
 use Rattle.prelude.specs.Base.{if_then_else_}
-use Rattle.access.specs.Loops.{run}
 use Rattle.list_values.specs.Values.{word}
 use Rattle.list_end.specs.End.{zeroFrom, assemble}
-use Rattle.access.proofs.LoopLaws.{run-end}
 use Rattle.stmt_walk.specs.declared.walk.Walk.{Walk}
 use Rattle.stmt_walk.specs.declared.walk.Export.{Export}
 use Rattle.resolve_answer.specs.declared.answer.Words.{Words}
-use Rattle.resolve_answer.specs.Answers.{resolvedTo, refusedAnswer, refused, pointsOf, clearMark, clearMarks, words, exportWords, accepted}
+use Rattle.resolve_answer.specs.Answers.{resolvedTo, refusedAnswer, refused, pointsOf, words, exportWords, accepted}
 
 pub refused-law : (a m a1 m1 : List ℕ) (refusal ordinal errors : ℕ) → a1 ≡ take 0 a ++ replicate (length a - 0) 0 → m1 ≡ take 0 m ++ replicate (length m - 0) 0 → resolvedTo (refusedAnswer refusal ordinal errors) a1 m1 ≡ refused a m refusal ordinal errors
 unfolding refused zeroFrom
@@ -31,14 +29,6 @@ pub points-wide : (k n : ℕ) → k < 4611686018427387904 → 461168601842738790
 unfolding pointsOf if_then_else_
 points-wide k n p q = rw (lt-ltb k 4611686018427387904 p, le-ltb n 4611686018427387904 q)
 
-pub mark-law : (m m1 : List ℕ) (i w : ℕ) → w ≡ getD m i 0 → m1 ≡ set m i (w % 4294967296) → m1 ≡ clearMark i m
-unfolding clearMark
-mark-law m m1 i w p e = rw (← p) e
-
-pub marks-law : (m₀ m : List ℕ) (n i : ℕ) → n ≤ i → run (n - i) i clearMark m ≡ run n 0 clearMark m₀ → m ≡ clearMarks n m₀
-unfolding clearMarks
-marks-law m₀ m n i h e = run-end n i clearMark m _ h e
-
 pub words-none : (x : Export) → x .kind ≡ 0 → words 0 0 ≡ exportWords x
 unfolding exportWords if_then_else_
 words-none x h = rw (eq-eqb (x .kind) 0 h)
@@ -47,10 +37,10 @@ pub words-some : (x : Export) (k : ℕ) → (x .kind ≡ 0 → ⊥) → k ≡ wo
 unfolding exportWords if_then_else_
 words-some x k h e = rw (ne-eqb (x .kind) 0 h, e)
 
-pub accepted-law : (a m a1 m1 m2 : List ℕ) (subtables n k p : ℕ) (w : Walk) (x : Export) (e : Words) → listed k a1 ≡ assemble a subtables n → m1 ≡ clearMarks (w .st .temporaries) m → m2 ≡ take (w .st .temporaries) m1 ++ replicate (length m1 - w .st .temporaries) 0 →
+pub accepted-law : (a m a1 m1 : List ℕ) (subtables n k p : ℕ) (w : Walk) (x : Export) (e : Words) → listed k a1 ≡ assemble a subtables n → m1 ≡ take (w .st .temporaries) m ++ replicate (length m - w .st .temporaries) 0 →
     e ≡ exportWords x → p ≡ pointsOf k (w .st .temporaries) →
-    resolvedTo (record { refusal = 0; ordinal = 65535; statements = w .statements; actions = k; temporaries = w .st .temporaries; labels = w .placed; points = p; errors = 0; kind = x .kind; number = e .number; word = e .second; size = x .size }) a1 m2 ≡ accepted a m subtables n w x
+    resolvedTo (record { refusal = 0; ordinal = 65535; statements = w .statements; actions = k; temporaries = w .st .temporaries; labels = w .placed; points = p; errors = 0; kind = x .kind; number = e .number; word = e .second; size = x .size }) a1 m1 ≡ accepted a m subtables n w x
 unfolding accepted thenL zeroFrom
-accepted-law a m a1 m1 m2 subtables n k p w x e f g h i j = rw (← f, ← i, ← j, ← g, h)
+accepted-law a m a1 m1 subtables n k p w x e f h i j = rw (← f, ← i, ← j, h)
 
-pub ruleset answer-laws = (refused-law, mark-law, words-none, words-some, accepted-law)
+pub ruleset answer-laws = (refused-law, words-none, words-some, accepted-law)

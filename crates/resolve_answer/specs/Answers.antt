@@ -1,11 +1,9 @@
 -- The answer with the two lists that were lent, after a refusal and after acceptance.
-use Prim.Native.Nat.{ℕ, _+_, _*_, _/_, _%_}
+use Prim.Native.Nat.{ℕ, _+_, _*_, _/_}
 use mathlib.Core.List.{List}
-use lib.ListN.{getD, set}
 use lib.Dec.{eqb, ltb}
 use Rattle.list_values.specs.Base.{thenL}
 use Rattle.prelude.specs.Base.{if_then_else_}
-use Rattle.access.specs.Loops.{run}
 use Rattle.list_values.specs.Values.{word}
 use Rattle.list_end.specs.End.{zeroFrom, assemble}
 use Rattle.stmt_walk.specs.declared.walk.Walk.{Walk}
@@ -44,13 +42,6 @@ pointsOf actions temporaries =
     then (if ltb temporaries 4611686018427387904 then (2 * actions + temporaries + 5) / 10 else 0)
     else 0
 
-unfoldable pub clearMark : ℕ → List ℕ → List ℕ
-clearMark i m = set m i (getD m i 0 % 4294967296)
-
--- the marks of the scopes taken out of the first n words
-unfoldable pub clearMarks : ℕ → List ℕ → List ℕ
-clearMarks n m = run n 0 clearMark m
-
 abbrev pub words : ℕ → ℕ → Words
 words number second = record { number = number; second = second }
 
@@ -78,4 +69,4 @@ acceptedAnswer k w x e = record {
 unfoldable pub accepted : List ℕ → List ℕ → ℕ → ℕ → Walk → Export → Resolved
 accepted a m subtables n w x =
     thenL (assemble a subtables n) λ k b.
-    resolvedTo (acceptedAnswer k w x (exportWords x)) b (zeroFrom (clearMarks (w .st .temporaries) m) (w .st .temporaries))
+    resolvedTo (acceptedAnswer k w x (exportWords x)) b (zeroFrom m (w .st .temporaries))

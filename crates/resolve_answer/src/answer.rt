@@ -1,11 +1,11 @@
 // The answer, its twelve numbers, and what the two lent lists hold with it: zeros after a refusal, else the actions in their
-// final order and the temporaries without the marks of their scopes.
+// final order and the temporaries.
 use codes::NONE;
 use list_values::value::word;
 use stmt_walk::walk::Export;
 use stmt_walk::walk::Walk;
 ghost use mathlib.Core.Path.{_≡_};
-ghost use Rattle.resolve_answer.specs.Answers.{resolvedTo, refused, pointsOf, clearMark, clearMarks, exportWords, accepted};
+ghost use Rattle.resolve_answer.specs.Answers.{resolvedTo, refused, pointsOf, exportWords, accepted};
 
 // The last four are the export's: 0 none, 1 value, 2 RAM, 3 register; its two value words; its access size.
 pub struct Answer {
@@ -61,22 +61,6 @@ fn points(actions: u64, temporaries: u64) -> u64
     0
 }
 
-fn clear_mark(temporaries: &mut [u64], index: usize)
-    ensures { λ _. ⌜ now (temporaries .exit) ≡ clearMark index (now (temporaries .entry)) ⌝ }
-{
-    let w = access::get(temporaries, index);
-    access::put(temporaries, index, w % 4294967296);
-}
-
-// The marks of the scopes are taken out of the first n temporaries' words.
-fn clear_marks(temporaries: &mut [u64], count: usize)
-    ensures { λ _. ⌜ now (temporaries .exit) ≡ clearMarks count (now (temporaries .entry)) ⌝ }
-{
-    for i in 0..count {
-        clear_mark(temporaries, i);
-    }
-}
-
 // The export's two value words, 0 and 0 where there is none.
 pub struct Words {
     pub number: u64,
@@ -111,7 +95,6 @@ pub fn accepted(
 {
     let k = list_end::end::assemble(actions, subtables, count);
     let nt = walk.st.temporaries;
-    clear_marks(temporaries, nt);
     access::zero_from(temporaries, nt);
     let e = export_words(export);
     Answer {

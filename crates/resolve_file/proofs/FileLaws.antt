@@ -16,12 +16,12 @@ use Rattle.list_values.specs.Values.{absent, place}
 use Rattle.list_values.specs.Sizes.{entry}
 use Rattle.stmt_walk.specs.declared.walk.Walk.{Walk}
 use Rattle.stmt_walk.specs.declared.walk.Step.{Step}
-use Rattle.stmt_walk.specs.Walks.{stepped, walked}
+use Rattle.stmt_walk.specs.Walks.{stepped, walked, withoutP}
 use Rattle.stmt_bodies.specs.Statements.{resolveBody}
 use Rattle.resolve_answer.specs.declared.answer.Answer.{Answer}
 use Rattle.resolve_answer.specs.Answers.{resolvedTo, refused}
 use Rattle.resolve_answer.specs.Ends.{finish}
-use Rattle.resolve_file.specs.Files.{pointerSize, atStart, startEnv, withoutL, walkSection, resolveWalked, resolveSection, resolveRead, resolveStream, resolveFile}
+use Rattle.resolve_file.specs.Files.{pointerSize, atStart, startEnv, walkSection, resolveWalked, resolveSection, resolveRead, resolveStream, resolveFile}
 
 module _ (s t : List ℕ) (i : ℕ) (p : (i ≡ le16 s 24) × (i < 65536)) where
   pub pointer-none : i ≡ 65535 → 8 ≡ pointerSize s t
@@ -33,13 +33,13 @@ module _ (s t : List ℕ) (i : ℕ) (p : (i ≡ le16 s 24) × (i < 65536)) where
   pointer-some at r h q e = rw (← p .0, ne-eqb i 65535 h, ← q) (e .0)
 
 pub start-law : (subtables end : ℕ) (v : Value) → end ≡ place 0 subtables → v ≡ absent →
-    _≡_ {A = Walk} (record { st = record { end = end; temporaries = 0; sizing = record { begun = 65535; errors = 0; first = 65535 } }; labels = 0; placed = 0; statements = 0; scopes = 0; export = record { kind = 0; v = v; size = 0 } }) (atStart subtables)
+    _≡_ {A = Walk} (record { st = record { end = end; temporaries = 0; sizing = record { begun = 65535; errors = 0; first = 65535 } }; labels = 0; placed = 0; statements = 0; export = record { kind = 0; v = v; size = 0 } }) (atStart subtables)
 start-law subtables end v p q = rw (p, q)
 
-pub walk-law : (s t a m l1 a1 m1 : List ℕ) (subtables ptr pos n ordinal : ℕ) (e : Env) (w : Walk) (r : Step) → pos ≡ getD t 3337 0 → (n ≡ le16 s 22) × (n < 65536) → ordinal ≡ getD t 3338 0 → e ≡ startEnv ptr → w ≡ atStart subtables →
-    walked r l1 a1 m1 ≡ resolveBody 16 s t (replicate 1 0) (replicate 256 0) a m e pos n ordinal w → stepped r a1 m1 ≡ walkSection s t a m subtables ptr
-unfolding walkSection withoutL
-walk-law s t a m l1 a1 m1 subtables ptr pos n ordinal e w r h i j k l f = rw (← h, ← i .0, ← j, ← k, ← l, ← f)
+pub walk-law : (s t a m p1 a1 m1 : List ℕ) (subtables ptr pos n ordinal : ℕ) (e : Env) (w : Walk) (r : Step) → pos ≡ getD t 3337 0 → (n ≡ le16 s 22) × (n < 65536) → ordinal ≡ getD t 3338 0 → e ≡ startEnv ptr → w ≡ atStart subtables →
+    walked r p1 a1 m1 ≡ resolveBody 16 s t (replicate 406 0) a m e pos n ordinal w → stepped r a1 m1 ≡ walkSection s t a m subtables ptr
+unfolding walkSection withoutP
+walk-law s t a m p1 a1 m1 subtables ptr pos n ordinal e w r h i j k l f = rw (← h, ← i .0, ← j, ← k, ← l, ← f)
 
 module _ (s t a m : List ℕ) (subtables : ℕ) (p : (subtables ≡ le16 s 20) × (subtables < 65536)) (r : Answer) (a2 m2 : List ℕ) where
   pub section-small : length a / 24 < subtables → resolvedTo r a2 m2 ≡ refused a m 12 65535 0 → resolvedTo r a2 m2 ≡ resolveSection s t a m

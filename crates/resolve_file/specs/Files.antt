@@ -1,5 +1,6 @@
 -- A stream and a file resolved. In all of these s is the stream, t the section's table, a the actions, m the temporaries.
 use Prim.Native.Nat.{ℕ, _+_, _*_, _/_}
+use mathlib.Core.Bool.{true}
 use mathlib.Core.List.{List}
 use lib.ListN.{length, getD, replicate}
 use lib.Dec.{eqb, ltb}
@@ -13,7 +14,7 @@ use Rattle.list_values.specs.Values.{absent, place}
 use Rattle.list_values.specs.Sizes.{entry}
 use Rattle.stmt_walk.specs.declared.walk.Walk.{Walk}
 use Rattle.stmt_walk.specs.declared.walk.Step.{Step}
-use Rattle.stmt_walk.specs.Walks.{Stepped, stepped, Walked, walked}
+use Rattle.stmt_walk.specs.Walks.{Stepped, stepped, withoutP}
 use Rattle.stmt_bodies.specs.Statements.{resolveBody}
 use Rattle.resolve_answer.specs.Answers.{Resolved, refused}
 use Rattle.resolve_answer.specs.Ends.{finish}
@@ -29,21 +30,16 @@ atStart subtables = record {
   labels = 0;
   placed = 0;
   statements = 0;
-  scopes = 0;
   export = record { kind = 0; v = absent; size = 0 };
 }
 
 abbrev pub startEnv : ℕ → Env
-startEnv ptr = record { pointer = ptr; scope = 0; count = 0 }
-
--- without the labels
-unfoldable pub withoutL : Walked → Stepped
-withoutL (walked r l a m) = stepped r a m
+startEnv ptr = record { pointer = ptr; own = true; count = 0 }
 
 -- the section's own statements, which have no parameters, with macro calls 16 deep at most
 unfoldable pub walkSection : List ℕ → List ℕ → List ℕ → List ℕ → ℕ → ℕ → Stepped
 walkSection s t a m subtables ptr =
-    withoutL (resolveBody 16 s t (replicate 1 0) (replicate 256 0) a m (startEnv ptr) (getD t 3337 0) (le16 s 22) (getD t 3338 0) (atStart subtables))
+    withoutP (resolveBody 16 s t (replicate 406 0) a m (startEnv ptr) (getD t 3337 0) (le16 s 22) (getD t 3338 0) (atStart subtables))
 
 -- the end, or the walk's refusal
 unfoldable pub resolveWalked : List ℕ → List ℕ → ℕ → Stepped → Resolved

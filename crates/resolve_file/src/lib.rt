@@ -5,6 +5,7 @@ use codes::action;
 use codes::header;
 use codes::refusal;
 use codes::table;
+use expr_scope::smalls::SCOPE_WORDS;
 use list_pushes::push::Env;
 use list_pushes::push::State;
 use list_values::sizes::Sizing;
@@ -58,7 +59,6 @@ fn at_start(subtables: usize) -> Walk
         labels: 0,
         placed: 0,
         statements: 0,
-        scopes: 0,
         export: Export {
             kind: 0,
             v: absent(),
@@ -72,7 +72,7 @@ fn start_env(pointer: u64) -> Env
 {
     Env {
         pointer: pointer,
-        scope: 0,
+        own: true,
         count: 0,
     }
 }
@@ -88,8 +88,7 @@ fn walk_section(
 ) -> Step
     ensures { λ r. ⌜ stepped r (now (actions .exit)) (now (temporaries .exit)) ≡ walkSection (now (stream .entry)) (now (table .entry)) (now (actions .entry)) (now (temporaries .entry)) subtables pointer ⌝ }
 {
-    let p = [0u64; 1];
-    let mut l = [0u64; 256];
+    let mut scope = [0u64; SCOPE_WORDS];
     let pos = access::get_u16(table, table::STATEMENTS) as usize;
     let n = access::u16_at(stream, header::STATEMENTS);
     let ordinal = access::get_u16(table, table::FIRST_ORDINAL) as u64;
@@ -99,8 +98,7 @@ fn walk_section(
         DEPTH,
         stream,
         table,
-        &p,
-        &mut l,
+        &mut scope,
         actions,
         temporaries,
         e,

@@ -20,7 +20,7 @@ use Rattle.stmt_walk.specs.declared.walk.Walk.{Walk}
 use Rattle.stmt_walk.specs.declared.walk.Export.{Export as WordExport}
 use Rattle.resolve_answer.specs.declared.answer.Words.{Words}
 use Rattle.resolve_answer.specs.Answers.{pointsOf, words, exportWords, accepted}
-use Rattle.list_refinement.specs.Encoding.{encV, packed, actionsIn, temporariesIn, SoundTmp, Each, EachOption}
+use Rattle.list_refinement.specs.Encoding.{encV, packed, actionsIn, temporariesIn, EachOption}
 use Rattle.list_refinement.proofs.Operands.{word-is}
 use Rattle.list_refinement.proofs.Assembling.{implicit-few, assembled-is}
 use Rattle.expr_refinement.proofs.Encodings.{tmps, count}
@@ -92,20 +92,20 @@ semantics sec X ys q x = record {
   export = x;
 }
 
-module _ (sec : Section) (front tail marks rest : List ℕ) (few : length (sec .subtables) ≤ 32) (begins : length front ≡ 24 * length (sec .subtables)) (short : length tail < 2 ^ 60) (small : length rest < 2 ^ 60) where
+module _ (sec : Section) (front tail rest : List ℕ) (few : length (sec .subtables) ≤ 32) (begins : length front ≡ 24 * length (sec .subtables)) (short : length tail < 2 ^ 60) (small : length rest < 2 ^ 60) where
   -- from the list X before its end
   pub accepted-is : (X ys : List SemanticAction) (q : State) (w : Walk) (x : Option Export) (y : WordExport) → 24 * length ys ≤ length tail → ((i : ℕ) → any (builds i) ys ≡ any (builds i) X)
-      → Each SoundTmp (tmps q) → count q ≤ length rest → w .st .temporaries ≡ count q → w .statements ≡ q .statements
+      → count q ≤ length rest → w .st .temporaries ≡ count q → w .statements ≡ q .statements
       → w .placed ≡ labelsPlaced (implicitBuilds X 0 (length (sec .subtables)) ++ ys) → ExportHeld sec (count q) x y
-      → asAnswer (accepted (actionsIn front tail ys) (temporariesIn marks rest (tmps q)) (length (sec .subtables)) (length ys) w y)
+      → asAnswer (accepted (actionsIn front tail ys) (temporariesIn rest (tmps q)) (length (sec .subtables)) (length ys) w y)
       ≡ d.accepted (length front + length tail) (length rest) (semantics sec X ys q x)
   unfolding accepted asAnswer thenL d.accepted d.acceptedResult
-  accepted-is X ys q w x y fits built sizes enough temporaries statements placed export =
+  accepted-is X ys q w x y fits built enough temporaries statements placed export =
       let n = implicit-few X (length (sec .subtables)) 0 in
       let all : List SemanticAction = implicitBuilds X 0 (length (sec .subtables)) ++ ys in
       let l : length all ≡ length (implicitBuilds X 0 (length (sec .subtables))) + length ys = length-append (implicitBuilds X 0 (length (sec .subtables))) ys in
       let p : pointsOf (length all) (w .st .temporaries) ≡ points (length all) (count q) = points-are (length all) (w .st .temporaries) (omega arith) (omega arith) ∙ ap (points (length all)) temporaries in
       let x = export-is sec (count q) x y export in
-      let m = exit-temporaries marks rest (tmps q) (w .st .temporaries) temporaries sizes enough in
+      let m = exit-temporaries rest (tmps q) (w .st .temporaries) temporaries enough in
       rw (assembled-is front tail (length (sec .subtables)) few begins ys (omega arith) fits X built)
       (λ i. answerOf (statements i) (length all) (temporaries i) (placed i) (p i) (x .0 i) (x .1 i) (x .2 i) (filled (length front + length tail) (listWords all)) (m i))

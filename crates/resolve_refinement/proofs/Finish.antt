@@ -72,9 +72,9 @@ pub record Leaves (sec : Section) (b : Beside) (st : State) : Type 0 where
   pub placed : b .placed ≡ labelsPlaced (st .actions)
   pub statements : b .statements ≡ st .statements
 
-module _ (s t : List ℕ) (e : Env) (front tail marks rest : List ℕ) (holds : SizesHold s t (e .section)) (small : SmallSection (e .section))
+module _ (s t : List ℕ) (e : Env) (front tail rest : List ℕ) (holds : SizesHold s t (e .section)) (small : SmallSection (e .section))
     (few : length (e .section .subtables) ≤ 32) (begins : length front ≡ 24 * length (e .section .subtables)) (short : length tail < 2 ^ 60) (shorter : length rest < 2 ^ 60)
-    (spare : ℕ) (room : Spare spare tail) (b : Beside) (st : State) (stood : Stood (e .section) tail marks rest spare st) (kept : Kept e st) (leaves : Leaves (e .section) b st) where
+    (spare : ℕ) (room : Spare spare tail) (b : Beside) (st : State) (stood : Stood (e .section) tail rest spare st) (kept : Kept e st) (leaves : Leaves (e .section) b st) where
   abbrev sub : ℕ
   sub = length (e .section .subtables)
 
@@ -123,10 +123,10 @@ module _ (s t : List ℕ) (e : Env) (front tail marks rest : List ℕ) (holds : 
       }
 
   abbrev M : List ℕ
-  M = temporariesIn marks rest (tmps from)
+  M = temporariesIn rest (tmps from)
 
   M-length : length M ≡ length rest
-  M-length = tmps-length marks rest (tmps from) (let c = inferred-is .counted in let r = stood .temporaries in omega arith)
+  M-length = tmps-length rest (tmps from) (let c = inferred-is .counted in let r = stood .temporaries in omega arith)
 
   abbrev made : List SemanticAction → State → Option Export → Semantics
   made ys r x = semantics (e .section) (inferred .0) ys r x
@@ -137,7 +137,7 @@ module _ (s t : List ℕ) (e : Env) (front tail marks rest : List ℕ) (holds : 
 
   module _ (ys : List SemanticAction) (q : State) (finished : d.finishActions (inferred .0) e from ≡ done ys q) where
     after : AfterFinish (inferred .0) from ys q
-    after = finish-done e s t holds marks rest (tmps from) (inferred-is .temporaries) (inferred .0) from refl (inferred-is .actions) ys q finished
+    after = finish-done e s t holds rest (tmps from) (inferred-is .temporaries) (inferred .0) from refl (inferred-is .actions) ys q finished
 
     many : length ys ≡ length (st .actions)
     many = after .length-same ∙ inferred-is .many
@@ -159,7 +159,7 @@ module _ (s t : List ℕ) (e : Env) (front tail marks rest : List ℕ) (holds : 
         let f = ends.finished e (inferred .0) ys from q finished (ap (λ (u : State). u .sizing .errors) (sym rq) ∙ none-recorded) in
         let c : r ≡ from = rq ∙ f .0 in
         ap (λ (n : ℕ). asAnswer (accepted (actionsIn front tail ys) M sub n w y)) (sym many)
-        ∙ accepted-is (e .section) front tail marks rest few begins short shorter (inferred .0) ys from w x y fits (after .built) (i .temporaries) (omega (arith, i .counted, stood .temporaries)) (sym (i .counted)) (leaves .statements) (leaves .placed ∙ sym (labels (f .1))) export
+        ∙ accepted-is (e .section) front tail rest few begins short shorter (inferred .0) ys from w x y fits (after .built) (omega (arith, i .counted, stood .temporaries)) (sym (i .counted)) (leaves .statements) (leaves .placed ∙ sym (labels (f .1))) export
         ∙ ap (λ (u : State). answered la (length rest) (done (made ys u x) u)) (sym c)
 
     judgement : (r : State) → (r .sizing .errors ≡ [] → r ≡ q) → (x : Option Export) (y : WordExport) → ExportHeld (e .section) (count from) x y → Judgement ys r x y
@@ -203,8 +203,8 @@ module _ (s t : List ℕ) (e : Env) (front tail marks rest : List ℕ) (holds : 
     exports (some x) y h =
         ap (λ (y : WordExport). asAnswer (if eqb (y .kind) 0 then judged (actionsIn front tail ys) M sub (length (st .actions)) w y (encZ (q .sizing))
         else judged (actionsIn front tail ys) M sub (length (st .actions)) w (exportFixed y (fixSize s t M (y .v) (pointerSize (e .section)) (encZ (q .sizing)))) (fixSize s t M (y .v) (pointerSize (e .section)) (encZ (q .sizing)) .z))) (h .0)
-        ∙ rw (some-kind (x .kind), fix-is s t (e .section) holds marks rest (tmps from) (inferred-is .temporaries) (q .sizing) (after .sizing .temporaries) (x .value) (h .1 .value) errors)
-        (unfold if_then_else_ d.finishExport on in judgement (withSizing ((sizes.fixSize (e .section) (x .value) (q .sizing)) .1) q) (size-same (x .value)) (some fixedExport) (encE fixedExport) (refl, record { value = fix-sound s t (e .section) holds marks rest (tmps from) (inferred-is .temporaries) (q .sizing) (after .sizing .temporaries) (x .value) (h .1 .value); size = h .1 .size }))
+        ∙ rw (some-kind (x .kind), fix-is s t (e .section) holds rest (tmps from) (inferred-is .temporaries) (q .sizing) (after .sizing .temporaries) (x .value) (h .1 .value) errors)
+        (unfold if_then_else_ d.finishExport on in judgement (withSizing ((sizes.fixSize (e .section) (x .value) (q .sizing)) .1) q) (size-same (x .value)) (some fixedExport) (encE fixedExport) (refl, record { value = fix-sound s t (e .section) holds rest (tmps from) (inferred-is .temporaries) (q .sizing) (after .sizing .temporaries) (x .value) (h .1 .value); size = h .1 .size }))
       where
         fixedExport : Export
         fixedExport = record { kind = x .kind; value = (sizes.fixSize (e .section) (x .value) (q .sizing)) .0; accessSize = x .accessSize }
@@ -266,18 +266,18 @@ module _ (s t : List ℕ) (e : Env) (front tail marks rest : List ℕ) (holds : 
   few-actions : length (st .actions) < 600000000000000000
   few-actions = let k = stood .actions in omega arith
 
-  inference : thenS (bothPasses s t (actionsIn front tail (st .actions)) (temporariesIn marks rest (tmps st)) (24 * sub) (length (st .actions)) (pointerSize (e .section)) (encZ (st .sizing)))
+  inference : thenS (bothPasses s t (actionsIn front tail (st .actions)) (temporariesIn rest (tmps st)) (24 * sub) (length (st .actions)) (pointerSize (e .section)) (encZ (st .sizing)))
       (λ z a m. finishSized s t a m sub (length (st .actions)) (pointerSize (e .section)) w z) ≡ finishSized s t (actionsIn front tail (inferred .0)) M sub (length (st .actions)) (pointerSize (e .section)) w (encZ (inferred .1))
   unfolding bothPasses thenS applySizeInference
   inference =
       let n = few-actions in let k = stood .errors in let l = stood .actions in
-      rw (inference-is s t (e .section) holds front tail marks rest (24 * sub) begins (omega arith) (st .actions) (st .sizing) (omega arith) ruled (stood .sizes) (omega arith))
+      rw (inference-is s t (e .section) holds front tail rest (24 * sub) begins (omega arith) (st .actions) (st .sizing) (omega arith) ruled (stood .sizes) (omega arith))
 
   seen : seenEnd (finishActions s t (actionsIn front tail (inferred .0)) M (24 * sub) (length (st .actions)) (pointerSize (e .section)) (encZ (inferred .1))) ≡ ending (actionsIn front tail) (d.finishActions (inferred .0) e from)
   seen =
       let i = inferred-is in let n = few-actions in let c = i .many in let m = i .errors in let k = stood .errors in let l = stood .actions in
       subst (λ (n : ℕ). seenEnd (finishActions s t (actionsIn front tail (inferred .0)) M (24 * sub) n (pointerSize (e .section)) (encZ (inferred .1))) ≡ ending (actionsIn front tail) (d.finishActions (inferred .0) e from)) (i .many)
-      (finish-is e s t holds marks rest (tmps from) (i .temporaries) front tail (24 * sub) begins (omega arith) (inferred .0) from (omega arith) refl (i .actions) (omega arith))
+      (finish-is e s t holds rest (tmps from) (i .temporaries) front tail (24 * sub) begins (omega arith) (inferred .0) from (omega arith) refl (i .actions) (omega arith))
 
   sized-ends : asAnswer (finishSized s t (actionsIn front tail (inferred .0)) M sub (length (st .actions)) (pointerSize (e .section)) w (encZ (inferred .1))) ≡ answered la (length rest) (on e (d.finishActions (inferred .0) e from) concluded)
   unfolding finishSized
@@ -290,6 +290,6 @@ module _ (s t : List ℕ) (e : Env) (front tail marks rest : List ℕ) (holds : 
 
   -- The end's answer is the definition's.
   pub end-is : le16 s 20 ≡ length (e .section .subtables)
-      → asAnswer (finish s t (actionsIn front tail (st .actions)) (temporariesIn marks rest (tmps st)) (pointerSize (e .section)) (walkOf b (encS (length front) st))) ≡ answered (length front + length tail) (length rest) (d.finish e st)
+      → asAnswer (finish s t (actionsIn front tail (st .actions)) (temporariesIn rest (tmps st)) (pointerSize (e .section)) (walkOf b (encS (length front) st))) ≡ answered (length front + length tail) (length rest) (d.finish e st)
   unfolding finish finishAll d.finish applySizeInference on
   end-is same = rw (same, base-is, between) (ap asAnswer inference ∙ sized-ends)

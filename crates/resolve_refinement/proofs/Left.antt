@@ -6,7 +6,7 @@ use mathlib.Core.Bool.{Bool, true, false}
 use mathlib.Core.List.{List, [], _∷_}
 use mathlib.Core.Option.{Option, none, some}
 use lib.ListN.{length, getD, length-set}
-use lib.Dec.{eqb, leb, ltb}
+use lib.Dec.{eqb, leb}
 use Rattle.prelude.specs.Base as definition
 use Rattle.prelude.specs.Base.{andThen, if_then_else_}
 use Rattle.definition.specs.Refusals.{Refusal, subpieceSize, offsetTooFar}
@@ -17,12 +17,13 @@ use Rattle.definition.specs.Walk.{State, Env, Outcome, done, stopped, on, Walk,
 use Rattle.definition.specs.End as d
 use Rattle.definition.proofs.Openers.{base-opens}
 use Rattle.list_values.specs.declared.value.Value.{Value as WordValue}
+use Rattle.list_values.specs.declared.value.Slice.{Slice}
 use Rattle.list_values.specs.declared.sizes.Sizing.{Sizing as WordSizing}
 use Rattle.list_end.specs.declared.end.Fixed.{Fixed}
 use Rattle.list_end.specs.declared.end.Finished.{Finished}
 use Rattle.list_values.specs.Base.{Listed, listed, thenL}
 use Rattle.access.specs.Loops.{run}
-use Rattle.list_values.specs.Values.{withSize, valueAt, putValue, place}
+use Rattle.list_values.specs.Values.{withSize, sliceBytes, valueAt, putValue, place}
 use Rattle.list_values.specs.Sizes.{sizeOf, recorded, error, fallsBack}
 use Rattle.list_end.specs.End.{fixed, finished, fixSize, putFixed, fixOperand, fixInput, fixInputs, fixOutput, fixOperands, writeCopy, copyOf, subpieceCopy, finishFixed, finishOp, thenF, finishFrom, finishActions}
 
@@ -83,21 +84,28 @@ module _ (s t m : List ℕ) (n begun : ℕ) where
       go : (x : Listed WordSizing) → Left n begun x → Left n begun (thenL x λ y b. fixOutput s t b m at ptr y)
       go (listed y b) h = output-left b at ptr y h
 
-  copy-left : (a : List ℕ) (at : ℕ) (v : WordValue) (offset size : ℕ) (z : WordSizing) → Left n begun (listed z a) → LeftAs n begun (thenL (copyOf a at v offset size) λ r b. listed (finished r z) b)
-  unfolding copyOf writeCopy thenL if_then_else_
-  copy-left a at v offset size z h = go (eqb size 65535) (ltb 65535 offset)
+  copy-left : (a : List ℕ) (at : ℕ) (x : Slice) (z : WordSizing) → Left n begun (listed z a) → LeftAs n begun (thenL (copyOf a at x) λ r b. listed (finished r z) b)
+  unfolding copyOf writeCopy thenL
+  copy-left a at (Slice.Is part) z h = (rw (put-length, length-set, length-set) (h .0), h .1)
+  copy-left a at (Slice.No k) z h = h
+
+  subpiece-left : (a : List ℕ) (at : ℕ) (z : WordSizing) → Left n begun (listed z a) → LeftAs n begun (thenL (subpieceCopy a at) λ r b. listed (finished r z) b)
+  unfolding subpieceCopy thenL if_then_else_
+  subpiece-left a at z h = go (eqb (valueAt a at 4 .size) 65535)
     where
-      go : (b c : Bool) → LeftAs n begun (thenL (if b then listed 50 a else if c then listed 42 a else listed 0 (writeCopy a at v offset size)) λ r b. listed (finished r z) b)
-      go true c = h
-      go false true = h
-      go false false = (rw (put-length, length-set, length-set) (h .0), h .1)
+      part : Slice
+      part = sliceBytes (valueAt a at 6) (getD a (at + 2) 0 % 65536) (valueAt a at 4 .size)
+
+      go : (b : Bool) → LeftAs n begun (thenL (if b then listed 50 a else copyOf a at part) λ r b. listed (finished r z) b)
+      go true = h
+      go false = copy-left a at part z h
 
   fixed-left : (a : List ℕ) (at : ℕ) (z : WordSizing) → Left n begun (listed z a) → LeftAs n begun (finishFixed a at z)
-  unfolding finishFixed subpieceCopy if_then_else_
+  unfolding finishFixed if_then_else_
   fixed-left a at z h = go (eqb (getD a (at + 1) 0) 66)
     where
       go : (b : Bool) → LeftAs n begun (if b then thenL (subpieceCopy a at) (λ r b. listed (finished r z) b) else listed (finished 0 z) a)
-      go true = copy-left a at (valueAt a at 6) (valueAt a at 6 .offset + getD a (at + 2) 0 % 65536) (valueAt a at 4 .size) z h
+      go true = subpiece-left a at z h
       go false = h
 
   op-left : (a : List ℕ) (at ptr : ℕ) (z : WordSizing) → Left n begun (listed z a) → LeftAs n begun (finishOp s t a m at ptr z)

@@ -2,7 +2,7 @@
 use Prim.Native.Nat.{ℕ, _-_, _*_, _/_, _^_, _≤_, _<_}
 use mathlib.Core.Path.{_≡_, refl, sym, _∙_, ap, subst}
 use mathlib.Core.Bool.{Bool, true, false}
-use mathlib.Core.List.{List, []}
+use mathlib.Core.List.{List}
 use mathlib.Core.Option.{none, some}
 use native.Mathlib.Omega.{arith}
 use lib.ListN.{length, getD, replicate, length-replicate}
@@ -21,17 +21,16 @@ use Rattle.definition_guarantee.specs.Limits.{WithinLimits}
 use Rattle.definition_guarantee.proofs.Kept.{Kept, small-section}
 use Rattle.list_values.specs.Values.{place}
 use Rattle.list_end.specs.End.{zeroFrom}
-use Rattle.stmt_walk.specs.Walks.{Stepped, Walked}
+use Rattle.stmt_walk.specs.Walks.{Stepped, Walked, withoutP}
 use Rattle.stmt_bodies.specs.Statements.{resolveBody}
 use Rattle.file_refinement.specs.Holds.{Holds}
-use Rattle.list_refinement.specs.Encoding.{temporaryWords}
 use Rattle.list_refinement.proofs.FromSection.{TablesNamed, sizes-hold}
 use Rattle.list_refinement.proofs.Passes.{place-is}
-use Rattle.list_refinement.proofs.Marks.{start-actions, start-state}
+use Rattle.list_refinement.proofs.AtStart.{start-actions, start-temporaries, start-state}
 use Rattle.resolve_answer.specs.Answers.{Resolved, resolvedTo, refused}
 use Rattle.resolve_answer.specs.Ends.{finish}
 use Rattle.resolve_file.specs.Files as w
-use Rattle.resolve_file.specs.Files.{startEnv, withoutL, walkSection, resolveWalked}
+use Rattle.resolve_file.specs.Files.{startEnv, walkSection, resolveWalked}
 use Rattle.expr_refinement.proofs.Encodings.{count}
 use Rattle.expr_refinement.proofs.Answers.{acts, temps, word}
 use Rattle.stmt_refinement.proofs.Views.{Beside}
@@ -40,7 +39,7 @@ use Rattle.stmt_refinement.proofs.Standing.{Standing, Follows}
 use Rattle.resolve_refinement.specs.Answers.{asAnswer}
 use Rattle.resolve_refinement.proofs.Answers.{refused-is}
 use Rattle.resolve_refinement.proofs.Finish.{end-is}
-use Rattle.resolve_refinement.proofs.Start.{pointer-is, noParams, noLabels, roomOf, startBeside, frontOf, tailOf, front-length, lent-length}
+use Rattle.resolve_refinement.proofs.Start.{pointer-is, startScope, roomOf, startBeside, frontOf, tailOf, front-length, lent-length}
 
 -- A lent list keeps its length: the contract of a function that is lent one knows it.
 abbrev pub Lengths : ℕ → ℕ → Resolved → Type 0
@@ -58,8 +57,8 @@ module _ (s t : List ℕ) (sec : Section) (a m : List ℕ) where
   -- The walk over the section's own statements follows the definition.
   pub record Walks : Type 0 where
     pub next : ℕ
-    pub follows : Follows s t (roomOf sec a m) (frontOf sec a) (tailOf sec a) m (startEnv (w.pointerSize s t)) 0 noParams noLabels [] (startBeside sec) (atStart sec) next
-        (resolveBody 16 s t noParams noLabels (acts sec (frontOf sec a) (tailOf sec a) [] m (atStart sec)) (temps sec (frontOf sec a) (tailOf sec a) [] m (atStart sec)) (startEnv (w.pointerSize s t)) (getD t 3337 0) (le16 s 22) (getD t 3338 0) (walkOf (startBeside sec) (word sec (frontOf sec a) (tailOf sec a) [] m (atStart sec))))
+    pub follows : Follows t (roomOf sec a m) (frontOf sec a) (tailOf sec a) m (startEnv (w.pointerSize s t)) 0 (startBeside sec) (atStart sec) next
+        (resolveBody 16 s t startScope (acts sec (frontOf sec a) (tailOf sec a) m (atStart sec)) (temps sec (frontOf sec a) (tailOf sec a) m (atStart sec)) (startEnv (w.pointerSize s t)) (getD t 3337 0) (le16 s 22) (getD t 3338 0) (walkOf (startBeside sec) (word sec (frontOf sec a) (tailOf sec a) m (atStart sec))))
         (statements.resolveBody 16 (statements.ordinalAfter (sec .macros)) (sec .statements) (roomOf sec a m) (atStart sec))
 
 module _ (s t : List ℕ) (sec : Section) (holds : Holds s t sec) (within : WithinLimits sec) (tables : TablesNamed sec) (a m : List ℕ) (short : length a < 2 ^ 60) (shorter : length m < 2 ^ 60) where
@@ -77,39 +76,39 @@ module _ (s t : List ℕ) (sec : Section) (holds : Holds s t sec) (within : With
     tail-short = omega (arith, lent-length sec a room)
 
     -- at the start the lists are as they were lent
-    start-walk : walkOf (startBeside sec) (word sec (frontOf sec a) (tailOf sec a) [] m (atStart sec)) ≡ w.atStart (length (sec .subtables))
+    start-walk : walkOf (startBeside sec) (word sec (frontOf sec a) (tailOf sec a) m (atStart sec)) ≡ w.atStart (length (sec .subtables))
     start-walk =
         let base : place 0 (length (sec .subtables)) ≡ 24 * length (sec .subtables) = place-is 0 (length (sec .subtables)) (omega arith) (omega (arith, few)) ∙ omega arith in
         ap (walkOf (startBeside sec)) (start-state (length (frontOf sec a)) sec)
         ∙ ap (λ (n : ℕ). walkOf (startBeside sec) (record { end = n; temporaries = 0; sizing = record { begun = 65535; errors = 0; first = 65535 } })) (front-length sec a room ∙ sym base)
 
-    start-temporaries : temps sec (frontOf sec a) (tailOf sec a) [] m (atStart sec) ≡ m
-    unfolding atStart temporaryWords
-    start-temporaries = refl
+    start-temporaries-are : temps sec (frontOf sec a) (tailOf sec a) m (atStart sec) ≡ m
+    unfolding atStart
+    start-temporaries-are = start-temporaries m
 
-    start-actions-are : acts sec (frontOf sec a) (tailOf sec a) [] m (atStart sec) ≡ a
+    start-actions-are : acts sec (frontOf sec a) (tailOf sec a) m (atStart sec) ≡ a
     unfolding atStart
     start-actions-are = start-actions (24 * length (sec .subtables)) a
 
     begins : walkSection s t a m (length (sec .subtables)) (w.pointerSize s t)
-        ≡ withoutL (resolveBody 16 s t noParams noLabels (acts sec (frontOf sec a) (tailOf sec a) [] m (atStart sec)) (temps sec (frontOf sec a) (tailOf sec a) [] m (atStart sec)) (startEnv (w.pointerSize s t)) (getD t 3337 0) (le16 s 22) (getD t 3338 0) (walkOf (startBeside sec) (word sec (frontOf sec a) (tailOf sec a) [] m (atStart sec))))
-    unfolding walkSection noParams noLabels
-    begins = λ i. withoutL (resolveBody 16 s t (replicate 1 0) (replicate 256 0) (sym start-actions-are i) (sym start-temporaries i) (startEnv (w.pointerSize s t)) (getD t 3337 0) (le16 s 22) (getD t 3338 0) (sym start-walk i))
+        ≡ withoutP (resolveBody 16 s t startScope (acts sec (frontOf sec a) (tailOf sec a) m (atStart sec)) (temps sec (frontOf sec a) (tailOf sec a) m (atStart sec)) (startEnv (w.pointerSize s t)) (getD t 3337 0) (le16 s 22) (getD t 3338 0) (walkOf (startBeside sec) (word sec (frontOf sec a) (tailOf sec a) m (atStart sec))))
+    unfolding walkSection startScope
+    begins = λ i. withoutP (resolveBody 16 s t (replicate 406 0) (sym start-actions-are i) (sym start-temporaries-are i) (startEnv (w.pointerSize s t)) (getD t 3337 0) (le16 s 22) (getD t 3338 0) (sym start-walk i))
 
-    finishes : (more : List ℕ) (c : Beside) (u : State) (q : List ℕ) → Standing s t e (frontOf sec a) (tailOf sec a) m (startEnv (w.pointerSize s t)) 0 noParams q more c u → Kept e u → c .placed ≡ labelsPlaced (u .actions)
-        → asAnswer (finish s t (acts sec (frontOf sec a) (tailOf sec a) more m u) (temps sec (frontOf sec a) (tailOf sec a) more m u) (w.pointerSize s t) (walkOf c (word sec (frontOf sec a) (tailOf sec a) more m u))) ≡ answered (length a) (length m) (d.finish e u)
-    finishes more c u q standing kept placed =
+    finishes : (c : Beside) (u : State) (q : List ℕ) → Standing t e (tailOf sec a) m (startEnv (w.pointerSize s t)) 0 q c u → Kept e u → c .placed ≡ labelsPlaced (u .actions)
+        → asAnswer (finish s t (acts sec (frontOf sec a) (tailOf sec a) m u) (temps sec (frontOf sec a) (tailOf sec a) m u) (w.pointerSize s t) (walkOf c (word sec (frontOf sec a) (tailOf sec a) m u))) ≡ answered (length a) (length m) (d.finish e u)
+    finishes c u q standing kept placed =
         let front = frontOf sec a in let tail = tailOf sec a in
-        let x = end-is s t e front tail more m (sizes-hold s t sec holds (small-section sec within) tables) (small-section sec within) few (front-length sec a room) tail-short shorter 0 (omega (arith, tail-short)) c u (standing .stood) kept
+        let x = end-is s t e front tail m (sizes-hold s t sec holds (small-section sec within) tables) (small-section sec within) few (front-length sec a room) tail-short shorter 0 (omega (arith, tail-short)) c u (standing .stood) kept
         (record { export = (standing .export, standing .exportSound); placed = placed; statements = standing .statements }) subtables-are in
-        (λ i. asAnswer (finish s t (acts sec front tail more m u) (temps sec front tail more m u) (pointer-is s t sec holds i) (walkOf c (word sec front tail more m u)))) ∙ x ∙ ap (λ (n : ℕ). answered n (length m) (d.finish e u)) (lent-length sec a room)
+        (λ i. asAnswer (finish s t (acts sec front tail m u) (temps sec front tail m u) (pointer-is s t sec holds i) (walkOf c (word sec front tail m u)))) ∙ x ∙ ap (λ (n : ℕ). answered n (length m) (d.finish e u)) (lent-length sec a room)
 
-    ends : {next : ℕ} (x : Walked) (o : Outcome (Unit {0})) → Follows s t e (frontOf sec a) (tailOf sec a) m (startEnv (w.pointerSize s t)) 0 noParams noLabels [] (startBeside sec) (atStart sec) next x o
-        → Lengths (length a) (length m) (resolveWalked s t (w.pointerSize s t) (withoutL x)) → asAnswer (resolveWalked s t (w.pointerSize s t) (withoutL x)) ≡ answered (length a) (length m) (on e o (λ _. d.finish))
-    unfolding resolveWalked withoutL on answered orNone orElse
-    ends x o (Follows.goes u q more c i j standing kept placed framed) l = rw (i, j) (finishes more c u q standing kept placed)
+    ends : {next : ℕ} (x : Walked) (o : Outcome (Unit {0})) → Follows t e (frontOf sec a) (tailOf sec a) m (startEnv (w.pointerSize s t)) 0 (startBeside sec) (atStart sec) next x o
+        → Lengths (length a) (length m) (resolveWalked s t (w.pointerSize s t) (withoutP x)) → asAnswer (resolveWalked s t (w.pointerSize s t) (withoutP x)) ≡ answered (length a) (length m) (on e o (λ _. d.finish))
+    unfolding resolveWalked withoutP on answered orNone orElse
+    ends x o (Follows.goes u q c i j standing kept placed framed) l = rw (i, j) (finishes c u q standing kept placed)
     ends x o (Follows.stops r ordinal q b n i j) l =
-        let k = refused-lengths b n (length a) (length m) (refusalNumber r) ordinal 0 (subst (λ (x : Walked). Lengths (length a) (length m) (resolveWalked s t (w.pointerSize s t) (withoutL x))) j l) in
+        let k = refused-lengths b n (length a) (length m) (refusalNumber r) ordinal 0 (subst (λ (x : Walked). Lengths (length a) (length m) (resolveWalked s t (w.pointerSize s t) (withoutP x))) j l) in
         rw (i, j) (refused-is b n (length a) (length m) r (some ordinal) 0 (k .0) (k .1))
 
   abbrev body : Env → State → Outcome (Unit {0})

@@ -23,16 +23,16 @@ use Rattle.definition_guarantee.proofs.Kept.{small-section}
 use Rattle.definition_guarantee.proofs.KeptLabels.{no-label}
 use Rattle.list_values.specs.Sizes.{entry}
 use Rattle.file_refinement.specs.Holds.{absentAt, spaceAt, Holds}
-use Rattle.list_refinement.specs.Encoding.{temporaryWords, Sound, Each}
+use Rattle.list_refinement.specs.Encoding.{Sound, Each}
 use Rattle.list_refinement.proofs.FromSection.{TablesNamed, sizes-hold}
 use Rattle.resolve_file.specs.Files as w
 use Rattle.resolve_file.specs.Files.{startEnv}
 use Rattle.expr_refinement.proofs.Scopes.{BitRangesFit}
-use Rattle.expr_refinement.proofs.Start.{start-locals}
-use Rattle.stmt_branches.specs.Labels.{findLabel}
+use Rattle.expr_refinement.proofs.Start.{none-small, start-locals}
+use Rattle.stmt_branches.specs.Labels.{labelPlace}
 use Rattle.stmt_refinement.proofs.Views.{Beside, beside}
 use Rattle.stmt_refinement.proofs.Given.{Given}
-use Rattle.stmt_refinement.proofs.Labels.{LabelsIn, idOr}
+use Rattle.stmt_refinement.proofs.Labels.{labelNumber, LabelsIn}
 use Rattle.stmt_refinement.proofs.Standing.{Standing}
 
 -- the pointer size that the words read
@@ -70,12 +70,9 @@ scope-sound sec = each-both (λ (p : ℕ × Value). Sound sec 0 (p .1)) (locals 
     (locals-sound sec Kind.Field 0 (map (λ (x : Field). x .name) (sec .fields)) (λ n h. record { number = omega (arith, length-map (sec .fields) (λ (x : Field). x .name)); offset = omega arith; size = omega arith }))
     (locals-sound sec Kind.Subtable 0 (map (λ (x : Subtable). x .name) (sec .subtables)) (λ n h. record { number = omega (arith, length-map (sec .subtables) (λ (x : Subtable). x .name)); offset = omega arith; size = omega arith }))
 
--- the words of parameters, of which the section's own statements have none, and those of labels before any is made
-unfoldable pub noParams : List ℕ
-noParams = replicate 1 0
-
-unfoldable pub noLabels : List ℕ
-noLabels = replicate 256 0
+-- the words of the section's own scope: it has no parameters, and before its statements no local and no label
+unfoldable pub startScope : List ℕ
+startScope = replicate 406 0
 
 abbrev pub roomOf : Section → List ℕ → List ℕ → Env
 roomOf sec a m = record { section = sec; actionRoom = length a / 24; temporaryRoom = min (length m) 512 }
@@ -108,25 +105,20 @@ module _ (s t : List ℕ) (sec : Section) (holds : Holds s t sec) (within : With
     pointer = pointer-is s t sec holds;
   }
 
-  no-labels : LabelsIn noLabels 0 0 []
-  unfolding findLabel find first
-  no-labels = record { found = λ name known. unfold idOr in refl; below = λ name l e. no-label l name e; placed = λ name l known e. no-label l name e }
+  no-labels : LabelsIn startScope 0 []
+  unfolding startScope find first
+  no-labels = record { same = λ name known. unfold labelNumber in none-small 406 (labelPlace name); below = λ name l e. no-label l name e }
 
-  pub start-standing : Standing s t (roomOf sec a m) (frontOf sec a) (tailOf sec a) m (startEnv (w.pointerSize s t)) 0 noParams noLabels [] (startBeside sec) (atStart sec)
-  unfolding atStart sectionScope temporaryWords noLabels
+  pub start-standing : Standing t (roomOf sec a m) (tailOf sec a) m (startEnv (w.pointerSize s t)) 0 startScope (startBeside sec) (atStart sec)
+  unfolding atStart sectionScope startScope
   start-standing = record {
-    stood = record { actions = omega arith; temporaries = omega arith; marked = omega arith; sizes = tt; errors = omega arith; sound = tt; params = tt; mapping = scope-sound sec };
-    scoped = record { params = tt; counted = refl; locals = λ name known. start-locals s t sec holds name known m };
+    stood = record { actions = omega arith; temporaries = omega arith; sizes = tt; errors = omega arith; sound = tt; params = tt; mapping = scope-sound sec };
+    scoped = record { params = tt; counted = refl; locals = λ name known. start-locals s t sec holds name known };
     labelled = no-labels;
     labels = refl;
     few = omega arith;
     statements = refl;
     export = (refl, refl);
     exportSound = tt;
-    long = length-replicate {A = ℕ} 256 0;
-    counted = omega arith;
-    scopes = omega arith;
-    own = omega arith;
-    marked = λ i. omega arith;
-    opened = λ j h. absurd (omega arith);
+    long = length-replicate {A = ℕ} 406 0;
   }

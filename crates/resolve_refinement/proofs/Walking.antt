@@ -23,7 +23,7 @@ use Rattle.stmt_refinement.proofs.Given.{walkOf}
 use Rattle.stmt_refinement.proofs.Standing.{Follows}
 use Rattle.stmt_refinement.proofs.MacroPlaces.{ordinal-is, ordinal-small}
 use Rattle.stmt_refinement.proofs.Bodies.{Between, EnterFollows, StatementFollows, body-follows}
-use Rattle.resolve_refinement.proofs.Start.{noParams, noLabels, roomOf, startBeside, frontOf, tailOf, start-given, start-standing}
+use Rattle.resolve_refinement.proofs.Start.{startScope, roomOf, startBeside, frontOf, tailOf, start-given, start-standing}
 use Rattle.resolve_refinement.proofs.Sections.{Walks}
 
 all-taken : {A : Type 0} (xs : List A) → take (length xs) xs ≡ xs
@@ -31,7 +31,7 @@ all-taken [] = refl
 all-taken (x ∷ xs) = rw (all-taken xs)
 
 module _ (s t : List ℕ) (sec : Section) (holds : Holds s t sec) (within : WithinLimits sec) (tables : TablesNamed sec) (ranges : BitRangesFit sec) (short : length s ≤ 65280) (a m : List ℕ) (room : length (sec .subtables) ≤ length a / 24) where
-  start-between : Between s t (roomOf sec a m) (frontOf sec a) (tailOf sec a) m 0 (startEnv (w.pointerSize s t)) noParams noLabels [] (startBeside sec) (atStart sec)
+  start-between : Between s t (roomOf sec a m) (frontOf sec a) (tailOf sec a) m 0 (startEnv (w.pointerSize s t)) startScope (startBeside sec) (atStart sec)
   unfolding atStart labelsPlaced sum
   start-between = record {
     given = start-given s t sec holds within tables ranges short a m room;
@@ -49,10 +49,10 @@ module _ (s t : List ℕ) (sec : Section) (holds : Holds s t sec) (within : With
   pub section-walks : ((deep : ℕ) → EnterFollows s t (roomOf sec a m) (frontOf sec a) (tailOf sec a) m 0 deep → StatementFollows s t (roomOf sec a m) (frontOf sec a) (tailOf sec a) m 0 deep) → Walks s t sec a m
   section-walks statements =
       let x = body-follows s t (roomOf sec a m) (frontOf sec a) (tailOf sec a) m 0 within statements (startEnv (w.pointerSize s t)) (le16 s 22) (d.ordinalAfter (sec .macros)) (getD t 3337 0) (sec .statements) (drop (holds .statements .after) s)
-      (holds .statements .reads) (holds .statements .inside) (within .statements) (let l = holds .limits .statements in omega (arith, few-ordinals)) noParams noLabels [] (startBeside sec) (atStart sec) start-between in
+      (holds .statements .reads) (holds .statements .inside) (within .statements) (let l = holds .limits .statements in omega (arith, few-ordinals)) startScope (startBeside sec) (atStart sec) start-between in
       record {
         next = x .0;
-        follows = subst (λ (n : ℕ). Follows s t (roomOf sec a m) (frontOf sec a) (tailOf sec a) m (startEnv (w.pointerSize s t)) 0 noParams noLabels [] (startBeside sec) (atStart sec) (x .0)
-            (resolveBody 16 s t noParams noLabels (acts sec (frontOf sec a) (tailOf sec a) [] m (atStart sec)) (temps sec (frontOf sec a) (tailOf sec a) [] m (atStart sec)) (startEnv (w.pointerSize s t)) (getD t 3337 0) (le16 s 22) n (walkOf (startBeside sec) (word sec (frontOf sec a) (tailOf sec a) [] m (atStart sec))))
+        follows = subst (λ (n : ℕ). Follows t (roomOf sec a m) (frontOf sec a) (tailOf sec a) m (startEnv (w.pointerSize s t)) 0 (startBeside sec) (atStart sec) (x .0)
+            (resolveBody 16 s t startScope (acts sec (frontOf sec a) (tailOf sec a) m (atStart sec)) (temps sec (frontOf sec a) (tailOf sec a) m (atStart sec)) (startEnv (w.pointerSize s t)) (getD t 3337 0) (le16 s 22) n (walkOf (startBeside sec) (word sec (frontOf sec a) (tailOf sec a) m (atStart sec))))
             (d.resolveBody 16 (d.ordinalAfter (sec .macros)) (sec .statements) (roomOf sec a m) (atStart sec))) ordinals (x .1);
       }

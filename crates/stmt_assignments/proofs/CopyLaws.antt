@@ -15,7 +15,7 @@ use Rattle.list_values.specs.declared.value.Value.{Value}
 use Rattle.list_pushes.specs.declared.push.State.{State}
 use Rattle.list_pushes.specs.declared.push.Env.{Env}
 use Rattle.list_pushes.specs.declared.push.Read.{Read}
-use Rattle.list_values.specs.Base.{listed, thenL}
+use Rattle.list_values.specs.Base.{listed}
 use Rattle.prelude.specs.Base.{if_then_else_}
 use Rattle.list_values.specs.Values.{absent, local}
 use Rattle.list_values.specs.Sizes.{sizeOf}
@@ -32,9 +32,9 @@ use Rattle.expr_resolver.specs.Expressions.{exprValue, atom, resolveExpr}
 use Rattle.expr_resolver.proofs.ExprLaws.{name-plain, expr-atom}
 use Rattle.stmt_walk.specs.declared.walk.Walk.{Walk}
 use Rattle.stmt_walk.specs.declared.walk.Step.{Step}
-use Rattle.stmt_walk.specs.Walks.{stepped, stepRead, stop, readThen}
+use Rattle.stmt_walk.specs.Walks.{stepped, walked, stepRead, besideP, stop, readThen}
 use Rattle.stmt_assignments.specs.Stores.{store}
-use Rattle.stmt_assignments.specs.Copies.{maskBut, mergeBits, extendBits, insertIn, insertBits, keepBits, writeBits, copyBits, readSliced, copyBytes, copyRange, copyRam, copyInto, targetName, targetSize, afterTarget, newTarget, isWrong, isNew, plainTarget, resolveDst, copyTarget, copyStatement}
+use Rattle.stmt_assignments.specs.Copies.{maskBut, mergeBits, extendBits, insertIn, insertBits, keepBits, writeBits, copyBits, readSliced, copyBytes, copyRange, copyRam, copyInto, targetName, targetSize, afterTarget, newTarget, isWrong, isNew, plainTarget, targeted, onTarget, besideA, inScope, resolveDst, copyTarget, copyStatement}
 
 -- ---- bit writes
 pub mask-but-law : (from bits k : ℕ) → k ≡ maskOf bits → 18446744073709551615 - k * 2 ^ from % 2 ^ 64 ≡ maskBut from bits
@@ -62,7 +62,7 @@ module _ (s t a m : List ℕ) (e : Env) (v tmp : Value) (bits : ℕ) (st : State
   unfolding extendBits onRead
   extend-yes x st1 k u r2 a2 m2 q ek eu h = rw (← extended, q, ← ek, ← eu) h
 
-module _ (s t a m : List ℕ) (e : Env) (v to prev : Value) (from bits : ℕ) (st : State) (size : ℕ) (es : size ≡ sizeOf s t m to) (r : Read) (m1 : List ℕ) (f : listed r m1 ≡ addTmp m 65535 size 0 st) where
+module _ (s t a m : List ℕ) (e : Env) (v to prev : Value) (from bits : ℕ) (st : State) (size : ℕ) (es : size ≡ sizeOf s t m to) (r : Read) (m1 : List ℕ) (f : listed r m1 ≡ addTmp m 65535 size st) where
   pub insert-none : (n : ℕ) → r ≡ Read.No n → read (Read.No n) a m1 ≡ insertBits s t a m e v to prev from bits st
   unfolding insertBits onTmp
   insert-none n q = rw (← es, ← f, q)
@@ -94,7 +94,7 @@ module _ (s t a m : List ℕ) (e : Env) (v to : Value) (from bits : ℕ) (st : S
   unfolding writeBits if_then_else_
   write-far h = rw (le-leb 64 from h)
 
-  module _ (h : from < 64) (size : ℕ) (es : size ≡ sizeOf s t m to) (r : Read) (m1 : List ℕ) (f : listed r m1 ≡ addTmp m 65535 size 0 st) where
+  module _ (h : from < 64) (size : ℕ) (es : size ≡ sizeOf s t m to) (r : Read) (m1 : List ℕ) (f : listed r m1 ≡ addTmp m 65535 size st) where
     pub write-none : (n : ℕ) → r ≡ Read.No n → read (Read.No n) a m1 ≡ writeBits s t a m e v to from bits st
     unfolding writeBits if_then_else_ onTmp
     write-none n q = rw (lt-leb 64 from h, ← es, ← f, q)
@@ -198,13 +198,13 @@ module _ (s : List ℕ) (pos code : ℕ) (ec : (code ≡ getD s (pos + 0) 0) × 
   unfolding afterTarget if_then_else_
   after-cut r z h = rw (← ec .0, ne-eqb code 0 z) h
 
-module _ (s t m : List ℕ) (e : Env) (pos name : ℕ) (st : State) (size next : ℕ) (es : size ≡ targetSize s pos) (en : next ≡ afterTarget s pos) (r : Read) (m1 : List ℕ) (f : listed r m1 ≡ namedTmp t m e name size st) where
-  pub target-no : (n : ℕ) → r ≡ Read.No n → listed (Expr.No n) m1 ≡ newTarget s t m e pos name st
-  unfolding newTarget onTmp
+module _ (s t p m : List ℕ) (e : Env) (pos name : ℕ) (st : State) (size next : ℕ) (es : size ≡ targetSize s pos) (en : next ≡ afterTarget s pos) (r : Read) (p1 m1 : List ℕ) (f : read r p1 m1 ≡ namedTmp t p m e name size st) where
+  pub target-no : (n : ℕ) → r ≡ Read.No n → resolved (Expr.No n) p1 m1 ≡ newTarget s t p m e pos name st
+  unfolding newTarget onRead
   target-no n q = rw (← es, ← f, q)
 
-  pub target-yes : (v : Value) (st1 : State) → r ≡ Read.Value v st1 → listed (Expr.Value next (ExprValue.Local v) st1) m1 ≡ newTarget s t m e pos name st
-  unfolding newTarget onTmp
+  pub target-yes : (v : Value) (st1 : State) → r ≡ Read.Value v st1 → resolved (Expr.Value next (ExprValue.Local v) st1) p1 m1 ≡ newTarget s t p m e pos name st
+  unfolding newTarget onRead
   target-yes v st1 q = rw (← es, ← f, q, ← en)
 
 pub wrong-yes : (r : Meaning) (n : ℕ) → r ≡ Meaning.Wrong n → true ≡ isWrong r
@@ -215,89 +215,89 @@ pub wrong-no : (r : Meaning) (x : ExprValue) → r ≡ Meaning.Means x → false
 unfolding isWrong
 wrong-no r x q = rw q
 
-pub new-none : (s t p m : List ℕ) (e : Env) (st : State) (name : ℕ) → name ≡ 65535 → false ≡ isNew s t p m e st name
+pub new-none : (s t p : List ℕ) (e : Env) (name : ℕ) → name ≡ 65535 → false ≡ isNew s t p e name
 unfolding isNew if_then_else_
-new-none s t p m e st name h = rw (eq-eqb name 65535 h)
+new-none s t p e name h = rw (eq-eqb name 65535 h)
 
-pub new-named : (s t p m : List ℕ) (e : Env) (st : State) (name : ℕ) (r : Meaning) (b : Bool) → (name ≡ 65535 → ⊥) → r ≡ resolveIdent s t p m e st name → b ≡ isWrong r → b ≡ isNew s t p m e st name
+pub new-named : (s t p : List ℕ) (e : Env) (name : ℕ) (r : Meaning) (b : Bool) → (name ≡ 65535 → ⊥) → r ≡ resolveIdent s t p e name → b ≡ isWrong r → b ≡ isNew s t p e name
 unfolding isNew if_then_else_
-new-named s t p m e st name r b h q k = rw (ne-eqb name 65535 h, ← q) k
+new-named s t p e name r b h q k = rw (ne-eqb name 65535 h, ← q) k
 
-module _ (s t p a m : List ℕ) (e : Env) (pos : ℕ) (st : State) (name : ℕ) (b : Bool) (en : name ≡ targetName s pos) (f : b ≡ isNew s t p m e st name) (r : Expr) where
-  pub dst-new : (m1 : List ℕ) → b ≡ true → listed r m1 ≡ newTarget s t m e pos name st → resolved r a m1 ≡ resolveDst s t p a m e pos st
-  unfolding resolveDst if_then_else_ thenL
-  dst-new m1 q h = rw (← en, ← f, q, ← h)
+module _ (s t p a m : List ℕ) (e : Env) (pos : ℕ) (st : State) (name : ℕ) (b : Bool) (en : name ≡ targetName s pos) (f : b ≡ isNew s t p e name) (r : Expr) where
+  pub dst-new : (p1 m1 : List ℕ) → b ≡ true → resolved r p1 m1 ≡ newTarget s t p m e pos name st → targeted r p1 a m1 ≡ resolveDst s t p a m e pos st
+  unfolding resolveDst if_then_else_ besideA
+  dst-new p1 m1 q h = rw (← en, ← f, q, ← h)
 
-  pub dst-known : (a1 m1 : List ℕ) → b ≡ false → resolved r a1 m1 ≡ resolveExpr 32 s t p e pos a m st → resolved r a1 m1 ≡ resolveDst s t p a m e pos st
-  unfolding resolveDst if_then_else_
-  dst-known a1 m1 q h = rw (← en, ← f, q) h
+  pub dst-known : (a1 m1 : List ℕ) → b ≡ false → resolved r a1 m1 ≡ resolveExpr 32 s t p e pos a m st → targeted r p a1 m1 ≡ resolveDst s t p a m e pos st
+  unfolding resolveDst if_then_else_ inScope
+  dst-known a1 m1 q h = rw (← en, ← f, q, ← h)
 
 -- ---- a bare name as target, by its number
-module _ (s t p m : List ℕ) (e : Env) (pos name : ℕ) (st : State) (code : ℕ) (ec : code ≡ getD s (pos + 0) 0) where
-  pub plain-part : (code ≡ 0 → ⊥) → 0 ≡ plainTarget s t p m e pos name st
+module _ (s t p : List ℕ) (e : Env) (pos name : ℕ) (code : ℕ) (ec : code ≡ getD s (pos + 0) 0) where
+  pub plain-part : (code ≡ 0 → ⊥) → 0 ≡ plainTarget s t p e pos name
   unfolding plainTarget if_then_else_
   plain-part z = rw (← ec, ne-eqb code 0 z)
 
-  pub plain-unnamed : code ≡ 0 → name ≡ 65535 → 0 ≡ plainTarget s t p m e pos name st
+  pub plain-unnamed : code ≡ 0 → name ≡ 65535 → 0 ≡ plainTarget s t p e pos name
   unfolding plainTarget if_then_else_
   plain-unnamed z h = rw (← ec, eq-eqb code 0 z, eq-eqb name 65535 h)
 
-  pub plain-bare : (q : ℕ) → code ≡ 0 → (name ≡ 65535 → ⊥) → q ≡ plainLocal s t p m e st name → q ≡ plainTarget s t p m e pos name st
+  pub plain-bare : (q : ℕ) → code ≡ 0 → (name ≡ 65535 → ⊥) → q ≡ plainLocal s t p e name → q ≡ plainTarget s t p e pos name
   unfolding plainTarget if_then_else_
   plain-bare q z h f = rw (← ec, eq-eqb code 0 z, ne-eqb name 65535 h) f
 
 -- what a number that is not 0 tells
-record Bare (s t p m : List ℕ) (e : Env) (pos name : ℕ) (st : State) (q : ℕ) : Type 0 where
+record Bare (s t p : List ℕ) (e : Env) (pos name : ℕ) (q : ℕ) : Type 0 where
   bare : getD s (pos + 0) 0 ≡ 0
   named : name ≡ 65535 → ⊥
-  same : q ≡ plainLocal s t p m e st name
+  same : q ≡ plainLocal s t p e name
 
-bare-target : (s t p m : List ℕ) (e : Env) (pos name : ℕ) (st : State) (q : ℕ) → q ≡ plainTarget s t p m e pos name st → 1 ≤ q → Bare s t p m e pos name st q
+bare-target : (s t p : List ℕ) (e : Env) (pos name : ℕ) (q : ℕ) → q ≡ plainTarget s t p e pos name → 1 ≤ q → Bare s t p e pos name q
 unfolding plainTarget if_then_else_
-bare-target s t p m e pos name st q f h = go (eqb (getD s (pos + 0) 0) 0) refl (eqb name 65535) refl f
+bare-target s t p e pos name q f h = go (eqb (getD s (pos + 0) 0) 0) refl (eqb name 65535) refl f
   where
-    go : (x : Bool) → eqb (getD s (pos + 0) 0) 0 ≡ x → (y : Bool) → eqb name 65535 ≡ y → q ≡ (if x then (if y then 0 else plainLocal s t p m e st name) else 0) →
-        Bare s t p m e pos name st q
+    go : (x : Bool) → eqb (getD s (pos + 0) 0) 0 ≡ x → (y : Bool) → eqb name 65535 ≡ y → q ≡ (if x then (if y then 0 else plainLocal s t p e name) else 0) →
+        Bare s t p e pos name q
     go true ex true ey f = absurd (omega arith)
     go true ex false ey f = record { bare = eqb-true (getD s (pos + 0) 0) 0 ex; named = eqb-false name 65535 ey; same = f }
     go false ex y ey f = absurd (omega arith)
 
-module _ (s t p a m : List ℕ) (e : Env) (pos : ℕ) (st : State) (name q : ℕ) (en : name ≡ targetName s pos) (f : q ≡ plainTarget s t p m e pos name st) where
-  pub dst-plain : (v : Value) (next : ℕ) → 8 ≤ q → v ≡ local (q % 8) (q / 8 - 1) → next ≡ after pos 3 → resolved (Expr.Value next (ExprValue.Local v) st) a m ≡ resolveDst s t p a m e pos st
+module _ (s t p a m : List ℕ) (e : Env) (pos : ℕ) (st : State) (name q : ℕ) (en : name ≡ targetName s pos) (f : q ≡ plainTarget s t p e pos name) where
+  pub dst-plain : (v : Value) (next : ℕ) → 8 ≤ q → v ≡ local (q % 8) (q / 8 - 1) → next ≡ after pos 3 → targeted (Expr.Value next (ExprValue.Local v) st) p a m ≡ resolveDst s t p a m e pos st
   unfolding targetName if_then_else_
   dst-plain v next h ev ex =
-      let b = bare-target s t p m e pos name st q f (omega arith) in
-      let i = plain-means s t p m e st name q (b .same) h in
+      let b = bare-target s t p e pos name q f (omega arith) in
+      let i = plain-means s t p e name q (b .same) h in
       let k : name ≡ le16 s (pos + 1) = rw (eq-eqb (getD s (pos + 0) 0) 0 (b .bare)) at en in
-      let d : Expr.Value next (ExprValue.Local v) st ≡ atom (getD s (pos + 0) 0) s t p m pos e st = rw (b .bare) (name-plain s t p m pos e st name k next ex q v (b .same) h ev) in
-      dst-known s t p a m e pos st name false en (new-named s t p m e st name (resolveIdent s t p m e st name) false (b .named) refl (wrong-no (resolveIdent s t p m e st name) _ i))
+      let d : Expr.Value next (ExprValue.Local v) st ≡ atom (getD s (pos + 0) 0) s t p pos e st = rw (b .bare) (name-plain s t p pos e st name k next ex q v (b .same) h ev) in
+      dst-known s t p a m e pos st name false en (new-named s t p e name (resolveIdent s t p e name) false (b .named) refl (wrong-no (resolveIdent s t p e name) _ i))
       (Expr.Value next (ExprValue.Local v) st) a m refl
       (expr-atom 32 s t p e pos a m st (λ z. omega arith) (getD s (pos + 0) 0) refl (Expr.Value next (ExprValue.Local v) st) (let g = b .bare in omega arith) d)
 
-  pub dst-wrong : (r : Expr) (m1 : List ℕ) → q ≡ 1 → listed r m1 ≡ newTarget s t m e pos name st → resolved r a m1 ≡ resolveDst s t p a m e pos st
-  dst-wrong r m1 h g =
-      let b = bare-target s t p m e pos name st q f (omega arith) in
-      let i = plain-wrong s t p m e st name q (b .same) h in
-      dst-new s t p a m e pos st name true en (new-named s t p m e st name (resolveIdent s t p m e st name) true (b .named) refl (wrong-yes (resolveIdent s t p m e st name) (i .number) (i .same)))
-      r m1 refl g
+  pub dst-wrong : (r : Expr) (p1 m1 : List ℕ) → q ≡ 1 → resolved r p1 m1 ≡ newTarget s t p m e pos name st → targeted r p1 a m1 ≡ resolveDst s t p a m e pos st
+  dst-wrong r p1 m1 h g =
+      let b = bare-target s t p e pos name q f (omega arith) in
+      let i = plain-wrong s t p e name q (b .same) h in
+      dst-new s t p a m e pos st name true en (new-named s t p e name (resolveIdent s t p e name) true (b .named) refl (wrong-yes (resolveIdent s t p e name) (i .number) (i .same)))
+      r p1 m1 refl g
 
-module _ (s t p a m : List ℕ) (e : Env) (x : ExprValue) (pos : ℕ) (st : State) (w : Walk) (r : Expr) (a1 m1 : List ℕ) (f : resolved r a1 m1 ≡ resolveDst s t p a m e pos st) where
-  pub to-no : (n : ℕ) (z : Step) → r ≡ Expr.No n → z ≡ stop n w → stepped z a1 m1 ≡ copyTarget s t p a m e x pos st w
-  unfolding copyTarget onExpr
+module _ (s t p a m : List ℕ) (e : Env) (x : ExprValue) (pos : ℕ) (st : State) (w : Walk) (r : Expr) (p1 a1 m1 : List ℕ) (f : targeted r p1 a1 m1 ≡ resolveDst s t p a m e pos st) where
+  pub to-no : (n : ℕ) (z : Step) → r ≡ Expr.No n → z ≡ stop n w → walked z p1 a1 m1 ≡ copyTarget s t p a m e x pos st w
+  unfolding copyTarget onTarget
   to-no n z q h = rw (← f, q, h)
 
-  pub to-yes : (d : ExprValue) (next : ℕ) (st1 : State) (z : Step) (a2 m2 : List ℕ) → r ≡ Expr.Value next d st1 → stepped z a2 m2 ≡ copyInto s t a1 m1 e x d next st1 w → stepped z a2 m2 ≡ copyTarget s t p a m e x pos st w
-  unfolding copyTarget onExpr
-  to-yes d next st1 z a2 m2 q h = rw (← f, q) h
+  pub to-yes : (d : ExprValue) (next : ℕ) (st1 : State) (z : Step) (a2 m2 : List ℕ) → r ≡ Expr.Value next d st1 → stepped z a2 m2 ≡ copyInto s t a1 m1 e x d next st1 w → walked z p1 a2 m2 ≡ copyTarget s t p a m e x pos st w
+  unfolding copyTarget onTarget besideP
+  to-yes d next st1 z a2 m2 q h = rw (← f, q, ← h)
 
 module _ (s t p a m : List ℕ) (e : Env) (pos : ℕ) (w : Walk) (at : ℕ) (ea : at ≡ after pos 1) (r : Expr) (a1 m1 : List ℕ) (f : resolved r a1 m1 ≡ resolveExpr 32 s t p e at a m (w .st)) where
-  pub copy-no : (n : ℕ) (z : Step) → r ≡ Expr.No n → z ≡ stop n w → stepped z a1 m1 ≡ copyStatement s t p a m e pos w
+  pub copy-no : (n : ℕ) (z : Step) → r ≡ Expr.No n → z ≡ stop n w → walked z p a1 m1 ≡ copyStatement s t p a m e pos w
   unfolding copyStatement onExpr
   copy-no n z q h = rw (← ea, ← f, q, h)
 
-  pub copy-yes : (x : ExprValue) (next : ℕ) (st : State) (z : Step) (a2 m2 : List ℕ) → r ≡ Expr.Value next x st → stepped z a2 m2 ≡ copyTarget s t p a1 m1 e x next st w → stepped z a2 m2 ≡ copyStatement s t p a m e pos w
+  pub copy-yes : (x : ExprValue) (next : ℕ) (st : State) (z : Step) (p2 a2 m2 : List ℕ) → r ≡ Expr.Value next x st → walked z p2 a2 m2 ≡ copyTarget s t p a1 m1 e x next st w → walked z p2 a2 m2 ≡ copyStatement s t p a m e pos w
   unfolding copyStatement onExpr
-  copy-yes x next st z a2 m2 q h = rw (← ea, ← f, q) h
+  copy-yes x next st z p2 a2 m2 q h = rw (← ea, ← f, q) h
 
 pub ruleset bit-laws = (merge-no, merge-yes, extend-no, extend-yes, insert-none, insert-tmp, insert-no, insert-yes, keep-no, keep-yes, write-far, write-none, write-kept, bits-no, bits-yes, bytes-no, bytes-yes, range-bytes, range-bits)
 

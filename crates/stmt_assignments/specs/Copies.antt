@@ -10,7 +10,6 @@ use Rattle.list_values.specs.declared.value.Value.{Value}
 use Rattle.list_pushes.specs.declared.push.State.{State}
 use Rattle.list_pushes.specs.declared.push.Env.{Env}
 use Rattle.list_pushes.specs.declared.push.Read.{Read}
-use Rattle.list_values.specs.Base.{Listed, listed, thenL}
 use Rattle.prelude.specs.Base.{if_then_else_}
 use Rattle.list_values.specs.Values.{absent}
 use Rattle.list_values.specs.Sizes.{sizeOf}
@@ -23,7 +22,7 @@ use Rattle.expr_reading.specs.Reading.{constant, byteAligned, sliced, readValue
 use Rattle.expr_terms.specs.Answers.{ExprOut, resolved, onExpr, after}
 use Rattle.expr_resolver.specs.Expressions.{resolveExpr}
 use Rattle.stmt_walk.specs.declared.walk.Walk.{Walk}
-use Rattle.stmt_walk.specs.Walks.{Stepped, stepped, stepRead, stop, readThen}
+use Rattle.stmt_walk.specs.Walks.{Stepped, stepped, Walked, walked, stepRead, besideP, stop, readThen}
 use Rattle.stmt_assignments.specs.Stores.{store}
 
 -- all 64 bits but those of a bit write
@@ -52,7 +51,7 @@ insertIn s t a m e v to prev tmp from bits st =
 
 unfoldable pub insertBits : List ℕ → List ℕ → List ℕ → List ℕ → Env → Value → Value → Value → ℕ → ℕ → State → ReadOut
 insertBits s t a m e v to prev from bits st =
-    onTmp (addTmp m 65535 (sizeOf s t m to) 0 st)
+    onTmp (addTmp m 65535 (sizeOf s t m to) st)
     (λ tmp st1 u. insertIn s t a u e v to prev tmp from bits st1)
     (λ n u. read (Read.No n) a u)
 
@@ -66,7 +65,7 @@ keepBits s t a m e v to prev from bits st =
 unfoldable pub writeBits : List ℕ → List ℕ → List ℕ → List ℕ → Env → Value → Value → ℕ → ℕ → State → ReadOut
 writeBits s t a m e v to from bits st =
     if leb 64 from then read (Read.No 41) a m
-    else onTmp (addTmp m 65535 (sizeOf s t m to) 0 st)
+    else onTmp (addTmp m 65535 (sizeOf s t m to) st)
     (λ prev st1 u. keepBits s t a u e v to prev from bits st1)
     (λ n u. read (Read.No n) a u)
 
@@ -117,39 +116,56 @@ targetSize s pos = if eqb (getD s (pos + 0) 0) 0 then 65535 else le16 s (pos + 4
 unfoldable pub afterTarget : List ℕ → ℕ → ℕ
 afterTarget s pos = if eqb (getD s (pos + 0) 0) 0 then after pos 3 else after pos 6
 
-unfoldable pub newTarget : List ℕ → List ℕ → List ℕ → Env → ℕ → ℕ → State → Listed Expr
-newTarget s t m e pos name st =
-    onTmp (namedTmp t m e name (targetSize s pos) st)
-    (λ v st1 u. listed (Expr.Value (afterTarget s pos) (ExprValue.Local v) st1) u)
-    (λ n u. listed (Expr.No n) u)
+-- the scope and the temporaries
+unfoldable pub newTarget : List ℕ → List ℕ → List ℕ → List ℕ → Env → ℕ → ℕ → State → ExprOut
+newTarget s t p m e pos name st =
+    onRead (namedTmp t p m e name (targetSize s pos) st)
+    (λ v st1 q u. resolved (Expr.Value (afterTarget s pos) (ExprValue.Local v) st1) q u)
+    (λ n q u. resolved (Expr.No n) q u)
 
 unfoldable pub isWrong : Meaning → Bool
 isWrong (Meaning.Wrong n) = true
 isWrong (Meaning.Means x) = false
 
-unfoldable pub isNew : List ℕ → List ℕ → List ℕ → List ℕ → Env → State → ℕ → Bool
-isNew s t p m e st name = if eqb name 65535 then false else isWrong (resolveIdent s t p m e st name)
+unfoldable pub isNew : List ℕ → List ℕ → List ℕ → Env → ℕ → Bool
+isNew s t p e name = if eqb name 65535 then false else isWrong (resolveIdent s t p e name)
 
 -- a bare name as target: its number as a plain local, 1 where it means nothing or a wrong thing, else 0
-unfoldable pub plainTarget : List ℕ → List ℕ → List ℕ → List ℕ → Env → ℕ → ℕ → State → ℕ
-plainTarget s t p m e pos name st =
-    if eqb (getD s (pos + 0) 0) 0 then (if eqb name 65535 then 0 else plainLocal s t p m e st name) else 0
+unfoldable pub plainTarget : List ℕ → List ℕ → List ℕ → Env → ℕ → ℕ → ℕ
+plainTarget s t p e pos name =
+    if eqb (getD s (pos + 0) 0) 0 then (if eqb name 65535 then 0 else plainLocal s t p e name) else 0
+
+-- an answer, the scope, the actions and the temporaries
+pub data Targeted : Type 0 where
+  targeted : Expr → List ℕ → List ℕ → List ℕ → Targeted
+
+unfoldable pub onTarget : {A : Type 0} → Targeted → (ExprValue → ℕ → State → List ℕ → List ℕ → List ℕ → A) → (ℕ → List ℕ → List ℕ → List ℕ → A) → A
+onTarget (targeted (Expr.Value next x st) p a m) f g = f x next st p a m
+onTarget (targeted (Expr.No n) p a m) f g = g n p a m
+
+-- where the actions stay
+unfoldable pub besideA : List ℕ → ExprOut → Targeted
+besideA a (resolved r p m) = targeted r p a m
+
+-- where the scope stays
+unfoldable pub inScope : List ℕ → ExprOut → Targeted
+inScope p (resolved r a m) = targeted r p a m
 
 -- an unknown or disallowed name as target becomes a temporary
-unfoldable pub resolveDst : List ℕ → List ℕ → List ℕ → List ℕ → List ℕ → Env → ℕ → State → ExprOut
+unfoldable pub resolveDst : List ℕ → List ℕ → List ℕ → List ℕ → List ℕ → Env → ℕ → State → Targeted
 resolveDst s t p a m e pos st =
-    if isNew s t p m e st (targetName s pos)
-    then thenL (newTarget s t m e pos (targetName s pos) st) (λ r u. resolved r a u)
-    else resolveExpr 32 s t p e pos a m st
+    if isNew s t p e (targetName s pos)
+    then besideA a (newTarget s t p m e pos (targetName s pos) st)
+    else inScope p (resolveExpr 32 s t p e pos a m st)
 
-unfoldable pub copyTarget : List ℕ → List ℕ → List ℕ → List ℕ → List ℕ → Env → ExprValue → ℕ → State → Walk → Stepped
+unfoldable pub copyTarget : List ℕ → List ℕ → List ℕ → List ℕ → List ℕ → Env → ExprValue → ℕ → State → Walk → Walked
 copyTarget s t p a m e x pos st w =
-    onExpr (resolveDst s t p a m e pos st)
-    (λ d next st1 b u. copyInto s t b u e x d next st1 w)
-    (λ n b u. stepped (stop n w) b u)
+    onTarget (resolveDst s t p a m e pos st)
+    (λ d next st1 q b u. besideP q (copyInto s t b u e x d next st1 w))
+    (λ n q b u. walked (stop n w) q b u)
 
-unfoldable pub copyStatement : List ℕ → List ℕ → List ℕ → List ℕ → List ℕ → Env → ℕ → Walk → Stepped
+unfoldable pub copyStatement : List ℕ → List ℕ → List ℕ → List ℕ → List ℕ → Env → ℕ → Walk → Walked
 copyStatement s t p a m e pos w =
     onExpr (resolveExpr 32 s t p e (after pos 1) a m (w .st))
     (λ x next st b u. copyTarget s t p b u e x next st w)
-    (λ n b u. stepped (stop n w) b u)
+    (λ n b u. walked (stop n w) p b u)

@@ -34,11 +34,10 @@ use stmt_walk::walk::read_then;
 use stmt_walk::walk::stop;
 ghost use mathlib.Core.Path.{_≡_};
 ghost use Prim.Native.Nat.{_<_};
-ghost use Rattle.list_values.specs.Base.{listed};
 ghost use Rattle.list_pushes.specs.Pushes.{read};
 ghost use Rattle.expr_terms.specs.Answers.{resolved};
-ghost use Rattle.stmt_walk.specs.Walks.{stepped};
-ghost use Rattle.stmt_assignments.specs.Copies.{maskBut, mergeBits, extendBits, insertIn, insertBits, keepBits, writeBits, copyBits, copyBytes, copyRange, copyRam, copyInto, targetName, targetSize, afterTarget, newTarget, isWrong, isNew, plainTarget, resolveDst, copyTarget, copyStatement};
+ghost use Rattle.stmt_walk.specs.Walks.{stepped, walked};
+ghost use Rattle.stmt_assignments.specs.Copies.{targeted, maskBut, mergeBits, extendBits, insertIn, insertBits, keepBits, writeBits, copyBits, copyBytes, copyRange, copyRam, copyInto, targetName, targetSize, afterTarget, newTarget, isWrong, isNew, plainTarget, resolveDst, copyTarget, copyStatement};
 
 const ALL_BITS: u64 = 18446744073709551615;
 
@@ -201,7 +200,7 @@ fn insert_bits(
     ensures { λ r. ⌜ read r (now (actions .exit)) (now (temporaries .exit)) ≡ insertBits (now (stream .entry)) (now (table .entry)) (now (actions .entry)) (now (temporaries .entry)) env value to prev from bits state ⌝ }
 {
     let size = size_of(stream, table, temporaries, to);
-    match add_tmp(temporaries, NONE, size, 0, state) {
+    match add_tmp(temporaries, NONE, size, state) {
         Read::No(n) => Read::No(n),
         Read::Value { v: tmp, st: st1 } => insert_in(
             stream,
@@ -286,7 +285,7 @@ fn write_bits(
         return Read::No(refusal::SHIFT_TOO_FAR);
     }
     let size = size_of(stream, table, temporaries, to);
-    match add_tmp(temporaries, NONE, size, 0, state) {
+    match add_tmp(temporaries, NONE, size, state) {
         Read::No(n) => Read::No(n),
         Read::Value { v: prev, st: st1 } => keep_bits(
             stream,
@@ -540,17 +539,18 @@ fn after_target(stream: &[u8], pos: usize) -> usize
 fn new_target(
     stream: &[u8],
     table: &[u16; table::LENGTH],
+    scope: &mut [u64],
     temporaries: &mut [u64],
     env: Env,
     pos: usize,
     name: u64,
     state: State,
 ) -> Expr
-    ensures { λ r. ⌜ listed r (now (temporaries .exit)) ≡ newTarget (now (stream .entry)) (now (table .entry)) (now (temporaries .entry)) env pos name state ⌝ }
+    ensures { λ r. ⌜ resolved r (now (scope .exit)) (now (temporaries .exit)) ≡ newTarget (now (stream .entry)) (now (table .entry)) (now (scope .entry)) (now (temporaries .entry)) env pos name state ⌝ }
 {
     let size = target_size(stream, pos);
     let next = after_target(stream, pos);
-    match named_tmp(table, temporaries, env, name, size, state) {
+    match named_tmp(table, scope, temporaries, env, name, size, state) {
         Read::No(n) => Expr::No(n),
         Read::Value { v, st: st1 } => Expr::Value {
             x: ExprValue::Local(v),
@@ -569,35 +569,25 @@ fn is_wrong(answer: Meaning) -> bool
     }
 }
 
-fn is_new(
-    stream: &[u8],
-    table: &[u16; table::LENGTH],
-    params: &[u64],
-    temporaries: &[u64],
-    env: Env,
-    state: State,
-    name: u64,
-) -> bool
-    ensures { λ r. ⌜ r ≡ isNew (now (stream .entry)) (now (table .entry)) (now (params .entry)) (now (temporaries .entry)) env state name ⌝ }
+fn is_new(stream: &[u8], table: &[u16; table::LENGTH], scope: &[u64], env: Env, name: u64) -> bool
+    ensures { λ r. ⌜ r ≡ isNew (now (stream .entry)) (now (table .entry)) (now (scope .entry)) env name ⌝ }
 {
     if name == NONE {
         return false;
     }
-    is_wrong(resolve_ident(stream, table, params, temporaries, env, state, name))
+    is_wrong(resolve_ident(stream, table, scope, env, name))
 }
 
 // A bare name as target: its number as a plain local, 1 where it means nothing or a wrong thing, else 0.
 fn plain_target(
     stream: &[u8],
     table: &[u16; table::LENGTH],
-    params: &[u64],
-    temporaries: &[u64],
+    scope: &[u64],
     env: Env,
     pos: usize,
     name: u64,
-    state: State,
 ) -> u64
-    ensures { λ r. ⌜ r ≡ plainTarget (now (stream .entry)) (now (table .entry)) (now (params .entry)) (now (temporaries .entry)) env pos name state ⌝ }
+    ensures { λ r. ⌜ r ≡ plainTarget (now (stream .entry)) (now (table .entry)) (now (scope .entry)) env pos name ⌝ }
 {
     if access::byte(stream, pos, 0) != codes::expression::IDENT {
         return 0;
@@ -605,24 +595,24 @@ fn plain_target(
     if name == NONE {
         return 0;
     }
-    plain_local(stream, table, params, temporaries, env, state, name)
+    plain_local(stream, table, scope, env, name)
 }
 
 // An unknown or disallowed name as target becomes a temporary.
 fn resolve_dst(
     stream: &[u8],
     table: &[u16; table::LENGTH],
-    params: &[u64],
+    scope: &mut [u64],
     actions: &mut [u64],
     temporaries: &mut [u64],
     env: Env,
     pos: usize,
     state: State,
 ) -> Expr
-    ensures { λ r. ⌜ resolved r (now (actions .exit)) (now (temporaries .exit)) ≡ resolveDst (now (stream .entry)) (now (table .entry)) (now (params .entry)) (now (actions .entry)) (now (temporaries .entry)) env pos state ⌝ }
+    ensures { λ r. ⌜ targeted r (now (scope .exit)) (now (actions .exit)) (now (temporaries .exit)) ≡ resolveDst (now (stream .entry)) (now (table .entry)) (now (scope .entry)) (now (actions .entry)) (now (temporaries .entry)) env pos state ⌝ }
 {
     let name = target_name(stream, pos);
-    let q = plain_target(stream, table, params, temporaries, env, pos, name, state);
+    let q = plain_target(stream, table, scope, env, pos, name);
     if 8 <= q {
         return Expr::Value {
             x: ExprValue::Local(local(q % 8, q / 8 - 1)),
@@ -631,16 +621,16 @@ fn resolve_dst(
         };
     }
     if q == 1 {
-        return new_target(stream, table, temporaries, env, pos, name, state);
+        return new_target(stream, table, scope, temporaries, env, pos, name, state);
     }
-    if is_new(stream, table, params, temporaries, env, state, name) {
-        return new_target(stream, table, temporaries, env, pos, name, state);
+    if is_new(stream, table, scope, env, name) {
+        return new_target(stream, table, scope, temporaries, env, pos, name, state);
     }
     resolve_expr(
         DEPTH,
         stream,
         table,
-        params,
+        scope,
         pos,
         env,
         actions,
@@ -652,7 +642,7 @@ fn resolve_dst(
 fn copy_target(
     stream: &[u8],
     table: &[u16; table::LENGTH],
-    params: &[u64],
+    scope: &mut [u64],
     actions: &mut [u64],
     temporaries: &mut [u64],
     env: Env,
@@ -661,9 +651,9 @@ fn copy_target(
     state: State,
     walk: Walk,
 ) -> Step
-    ensures { λ r. ⌜ stepped r (now (actions .exit)) (now (temporaries .exit)) ≡ copyTarget (now (stream .entry)) (now (table .entry)) (now (params .entry)) (now (actions .entry)) (now (temporaries .entry)) env expr pos state walk ⌝ }
+    ensures { λ r. ⌜ walked r (now (scope .exit)) (now (actions .exit)) (now (temporaries .exit)) ≡ copyTarget (now (stream .entry)) (now (table .entry)) (now (scope .entry)) (now (actions .entry)) (now (temporaries .entry)) env expr pos state walk ⌝ }
 {
-    match resolve_dst(stream, table, params, actions, temporaries, env, pos, state) {
+    match resolve_dst(stream, table, scope, actions, temporaries, env, pos, state) {
         Expr::No(n) => stop(walk, n),
         Expr::Value {
             x: d,
@@ -687,20 +677,20 @@ fn copy_target(
 pub fn copy_statement(
     stream: &[u8],
     table: &[u16; table::LENGTH],
-    params: &[u64],
+    scope: &mut [u64],
     actions: &mut [u64],
     temporaries: &mut [u64],
     env: Env,
     pos: usize,
     walk: Walk,
 ) -> Step
-    ensures { λ r. ⌜ stepped r (now (actions .exit)) (now (temporaries .exit)) ≡ copyStatement (now (stream .entry)) (now (table .entry)) (now (params .entry)) (now (actions .entry)) (now (temporaries .entry)) env pos walk ⌝ }
+    ensures { λ r. ⌜ walked r (now (scope .exit)) (now (actions .exit)) (now (temporaries .exit)) ≡ copyStatement (now (stream .entry)) (now (table .entry)) (now (scope .entry)) (now (actions .entry)) (now (temporaries .entry)) env pos walk ⌝ }
 {
     match resolve_expr(
         DEPTH,
         stream,
         table,
-        params,
+        scope,
         after(pos, 1),
         env,
         actions,
@@ -711,7 +701,7 @@ pub fn copy_statement(
         Expr::Value { x, next, st } => copy_target(
             stream,
             table,
-            params,
+            scope,
             actions,
             temporaries,
             env,

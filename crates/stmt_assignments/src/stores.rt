@@ -194,7 +194,7 @@ fn store_in(
 fn store_pointer(
     stream: &[u8],
     table: &[u16; table::LENGTH],
-    params: &[u64],
+    scope: &[u64],
     actions: &mut [u64],
     temporaries: &mut [u64],
     env: Env,
@@ -204,13 +204,13 @@ fn store_pointer(
     state: State,
     walk: Walk,
 ) -> Step
-    ensures { λ r. ⌜ stepped r (now (actions .exit)) (now (temporaries .exit)) ≡ storePointer (now (stream .entry)) (now (table .entry)) (now (params .entry)) (now (actions .entry)) (now (temporaries .entry)) env pos value end state walk ⌝ }
+    ensures { λ r. ⌜ stepped r (now (actions .exit)) (now (temporaries .exit)) ≡ storePointer (now (stream .entry)) (now (table .entry)) (now (scope .entry)) (now (actions .entry)) (now (temporaries .entry)) env pos value end state walk ⌝ }
 {
     match resolve_expr(
         DEPTH,
         stream,
         table,
-        params,
+        scope,
         after(pos, 5),
         env,
         actions,
@@ -241,14 +241,14 @@ fn store_pointer(
 pub fn store_statement(
     stream: &[u8],
     table: &[u16; table::LENGTH],
-    params: &[u64],
+    scope: &[u64],
     actions: &mut [u64],
     temporaries: &mut [u64],
     env: Env,
     pos: usize,
     walk: Walk,
 ) -> Step
-    ensures { λ r. ⌜ stepped r (now (actions .exit)) (now (temporaries .exit)) ≡ storeStatement (now (stream .entry)) (now (table .entry)) (now (params .entry)) (now (actions .entry)) (now (temporaries .entry)) env pos walk ⌝ }
+    ensures { λ r. ⌜ stepped r (now (actions .exit)) (now (temporaries .exit)) ≡ storeStatement (now (stream .entry)) (now (table .entry)) (now (scope .entry)) (now (actions .entry)) (now (temporaries .entry)) env pos walk ⌝ }
 {
     let pointer = after(pos, 5);
     let value_at = skip_expr(stream, pointer);
@@ -256,7 +256,7 @@ pub fn store_statement(
         DEPTH,
         stream,
         table,
-        params,
+        scope,
         value_at,
         env,
         actions,
@@ -267,7 +267,7 @@ pub fn store_statement(
         Operand::Value { v, next, st } => store_pointer(
             stream,
             table,
-            params,
+            scope,
             actions,
             temporaries,
             env,

@@ -4,6 +4,7 @@ use codes::refusal;
 use codes::statement;
 use codes::table;
 use expr_scope::args::Args;
+use expr_scope::smalls::SCOPE_WORDS;
 use expr_terms::answers::after;
 use list_pushes::push::Env;
 use list_pushes::push::State;
@@ -13,11 +14,12 @@ use stmt_assignments::stores::store_statement;
 use stmt_branches::branches::branch;
 use stmt_branches::branches::cond_branch;
 use stmt_branches::branches::label_statement;
-use stmt_simple::calls::MACRO;
+use stmt_simple::calls::Called;
 use stmt_simple::calls::called_of;
+use stmt_simple::calls::delay_slot;
 use stmt_simple::calls::macro_args;
 use stmt_simple::calls::macro_at;
-use stmt_simple::calls::other_call;
+use stmt_simple::calls::user_op_statement;
 use stmt_simple::simple::build;
 use stmt_simple::simple::export_statement;
 use stmt_simple::simple::local_assignment;
@@ -26,9 +28,10 @@ use stmt_simple::simple::unimplemented;
 use stmt_walk::walk::Step;
 use stmt_walk::walk::Walk;
 use stmt_walk::walk::stop;
+use stmt_walk::walk::with_state;
 ghost use mathlib.Core.Path.{_≡_};
 ghost use Rattle.stmt_walk.specs.Walks.{stepped, walked};
-ghost use Rattle.stmt_bodies.specs.Statements.{simple, otherStatement, begun, begin, entered, returned, macroEnv, bodyAt, firstOrdinal, callStatement, macroStatement, enterMacro, resolveStatement, forward, resolveBody};
+ghost use Rattle.stmt_bodies.specs.Statements.{simple, otherStatement, begun, begin, returned, macroEnv, bodyAt, firstOrdinal, callStatement, macroStatement, enterMacro, resolveStatement, forward, resolveBody};
 
 const MOST_STATEMENTS: u64 = 4096;
 
@@ -36,14 +39,14 @@ fn simple(
     code: u64,
     stream: &[u8],
     table: &[u16; table::LENGTH],
-    params: &[u64],
+    scope: &mut [u64],
     actions: &mut [u64],
     temporaries: &mut [u64],
     env: Env,
     pos: usize,
     walk: Walk,
 ) -> Step
-    ensures { λ r. ⌜ stepped r (now (actions .exit)) (now (temporaries .exit)) ≡ simple code (now (stream .entry)) (now (table .entry)) (now (params .entry)) (now (actions .entry)) (now (temporaries .entry)) env pos walk ⌝ }
+    ensures { λ r. ⌜ walked r (now (scope .exit)) (now (actions .exit)) (now (temporaries .exit)) ≡ simple code (now (stream .entry)) (now (table .entry)) (now (scope .entry)) (now (actions .entry)) (now (temporaries .entry)) env pos walk ⌝ }
 {
     match code {
         statement::UNIMPLEMENTED => unimplemented(
@@ -58,18 +61,18 @@ fn simple(
         statement::EXPORT => export_statement(
             stream,
             table,
-            params,
+            scope,
             actions,
             temporaries,
             env,
             pos,
             walk,
         ),
-        statement::LOCAL => local_statement(stream, table, temporaries, env, pos, walk),
+        statement::LOCAL => local_statement(stream, table, scope, temporaries, env, pos, walk),
         statement::LOCAL_ASSIGNMENT => local_assignment(
             stream,
             table,
-            params,
+            scope,
             actions,
             temporaries,
             env,
@@ -80,14 +83,14 @@ fn simple(
         statement::COPY => copy_statement(
             stream,
             table,
-            params,
+            scope,
             actions,
             temporaries,
             env,
             pos,
             walk,
         ),
-        _ => store_statement(stream, table, params, actions, temporaries, env, pos, walk),
+        _ => store_statement(stream, table, scope, actions, temporaries, env, pos, walk),
     }
 }
 
@@ -96,33 +99,21 @@ fn other_statement(
     code: u64,
     stream: &[u8],
     table: &[u16; table::LENGTH],
-    params: &[u64],
-    labels: &mut [u64],
+    scope: &mut [u64],
     actions: &mut [u64],
     temporaries: &mut [u64],
     env: Env,
     pos: usize,
     walk: Walk,
 ) -> Step
-    ensures { λ r. ⌜ walked r (now (labels .exit)) (now (actions .exit)) (now (temporaries .exit)) ≡ otherStatement code (now (stream .entry)) (now (table .entry)) (now (params .entry)) (now (labels .entry)) (now (actions .entry)) (now (temporaries .entry)) env pos walk ⌝ }
+    ensures { λ r. ⌜ walked r (now (scope .exit)) (now (actions .exit)) (now (temporaries .exit)) ≡ otherStatement code (now (stream .entry)) (now (table .entry)) (now (scope .entry)) (now (actions .entry)) (now (temporaries .entry)) env pos walk ⌝ }
 {
     match code {
-        statement::BRANCH => branch(
-            stream,
-            table,
-            params,
-            labels,
-            actions,
-            temporaries,
-            env,
-            pos,
-            walk,
-        ),
+        statement::BRANCH => branch(stream, table, scope, actions, temporaries, env, pos, walk),
         statement::COND_BRANCH => cond_branch(
             stream,
             table,
-            params,
-            labels,
+            scope,
             actions,
             temporaries,
             env,
@@ -132,7 +123,7 @@ fn other_statement(
         statement::LABEL => label_statement(
             stream,
             table,
-            labels,
+            scope,
             actions,
             temporaries,
             env,
@@ -143,7 +134,7 @@ fn other_statement(
             code,
             stream,
             table,
-            params,
+            scope,
             actions,
             temporaries,
             env,
@@ -172,7 +163,6 @@ fn begun(walk: Walk, ordinal: u64, statements: u64) -> Walk
         labels: walk.labels,
         placed: walk.placed,
         statements,
-        scopes: walk.scopes,
         export,
     }
 }
@@ -199,20 +189,6 @@ fn begin(walk: Walk, ordinal: u64) -> Step
     }
 }
 
-fn entered(walk: Walk, state: State, scopes: u64) -> Walk
-    ensures { λ r. ⌜ r ≡ entered state scopes walk ⌝ }
-{
-    let export = walk.export;
-    Walk {
-        st: state,
-        labels: walk.labels,
-        placed: walk.placed,
-        statements: walk.statements,
-        scopes,
-        export,
-    }
-}
-
 // Goes on behind the call after a macro's body.
 fn returned(answer: Step, next: usize) -> Step
     ensures { λ x. ⌜ x ≡ returned next answer ⌝ }
@@ -223,13 +199,13 @@ fn returned(answer: Step, next: usize) -> Step
     }
 }
 
-// A macro's parameters stand in the words of its own call.
-fn macro_env(env: Env, scope: u64, count: u64) -> Env
-    ensures { λ r. ⌜ r ≡ macroEnv scope count env ⌝ }
+// A macro's parameters, locals and labels stand in the words of its own call.
+fn macro_env(env: Env, count: u64) -> Env
+    ensures { λ r. ⌜ r ≡ macroEnv count env ⌝ }
 {
     Env {
         pointer: env.pointer,
-        scope,
+        own: false,
         count: count as usize,
     }
 }
@@ -248,41 +224,38 @@ fn first_ordinal(table: &[u16; table::LENGTH], id: u64) -> u64
     access::get_u16(table, table::MACRO_ORDINALS + (id % 128) as usize) as u64
 }
 
+// The body of a macro, whose parameters are bound in the words of its scope.
 fn enter(
     deep: u64,
     stream: &[u8],
     table: &[u16; table::LENGTH],
-    labels: &mut [u64],
+    scope: &mut [u64],
     actions: &mut [u64],
     temporaries: &mut [u64],
     env: Env,
     id: u64,
-    args: &[u64],
     arguments: u64,
     next: usize,
     state: State,
     walk: Walk,
 ) -> Step
-    ensures { λ r. ⌜ walked r (now (labels .exit)) (now (actions .exit)) (now (temporaries .exit)) ≡ enterMacro deep (now (stream .entry)) (now (table .entry)) (now (labels .entry)) (now (actions .entry)) (now (temporaries .entry)) env id (now (args .entry)) arguments next state walk ⌝ }
+    ensures { λ r. ⌜ walked r (now (scope .exit)) (now (actions .exit)) (now (temporaries .exit)) ≡ enterMacro deep (now (stream .entry)) (now (table .entry)) (now (scope .entry)) (now (actions .entry)) (now (temporaries .entry)) env id arguments next state walk ⌝ }
 {
     if deep == 0 {
         return stop(walk, refusal::MACRO_TOO_DEEP);
     }
-    let at = macro_at(table, id);
-    let scope = std::num::wrapping_add_u64(walk.scopes, 1);
-    let start = body_at(at, arguments);
+    let start = body_at(macro_at(table, id), arguments);
     let count = u16_in(stream, start, 0);
-    let inner = macro_env(env, scope, arguments);
+    let inner = macro_env(env, arguments);
     let first = first_ordinal(table, id);
     let below = deep - 1;
     let from = after(start, 2);
-    let walk = entered(walk, state, scope);
+    let walk = with_state(walk, state);
     let r = body(
         below,
         stream,
         table,
-        args,
-        labels,
+        scope,
         actions,
         temporaries,
         inner,
@@ -298,8 +271,7 @@ fn macro_statement(
     deep: u64,
     stream: &[u8],
     table: &[u16; table::LENGTH],
-    params: &[u64],
-    labels: &mut [u64],
+    scope: &[u64],
     actions: &mut [u64],
     temporaries: &mut [u64],
     env: Env,
@@ -308,16 +280,16 @@ fn macro_statement(
     arguments: u64,
     walk: Walk,
 ) -> Step
-    ensures { λ r. ⌜ walked r (now (labels .exit)) (now (actions .exit)) (now (temporaries .exit)) ≡ macroStatement (enterMacro deep (now (stream .entry)) (now (table .entry))) (now (stream .entry)) (now (table .entry)) (now (params .entry)) (now (labels .entry)) (now (actions .entry)) (now (temporaries .entry)) env pos id arguments walk ⌝ }
+    ensures { λ r. ⌜ stepped r (now (actions .exit)) (now (temporaries .exit)) ≡ macroStatement (enterMacro deep (now (stream .entry)) (now (table .entry))) (now (stream .entry)) (now (table .entry)) (now (scope .entry)) (now (actions .entry)) (now (temporaries .entry)) env pos id arguments walk ⌝ }
 {
-    let mut args = [0u64; 64];
+    let mut inner = [0u64; SCOPE_WORDS];
     match macro_args(
         stream,
         table,
-        params,
+        scope,
         actions,
         temporaries,
-        &mut args,
+        &mut inner,
         env,
         pos,
         id,
@@ -329,12 +301,11 @@ fn macro_statement(
             deep,
             stream,
             table,
-            labels,
+            &mut inner,
             actions,
             temporaries,
             env,
             id,
-            &args,
             arguments,
             next,
             st,
@@ -347,54 +318,52 @@ fn call_statement(
     deep: u64,
     stream: &[u8],
     table: &[u16; table::LENGTH],
-    params: &[u64],
-    labels: &mut [u64],
+    scope: &[u64],
     actions: &mut [u64],
     temporaries: &mut [u64],
     env: Env,
     pos: usize,
     walk: Walk,
 ) -> Step
-    ensures { λ r. ⌜ walked r (now (labels .exit)) (now (actions .exit)) (now (temporaries .exit)) ≡ callStatement (enterMacro deep (now (stream .entry)) (now (table .entry))) (now (stream .entry)) (now (table .entry)) (now (params .entry)) (now (labels .entry)) (now (actions .entry)) (now (temporaries .entry)) env pos walk ⌝ }
+    ensures { λ r. ⌜ stepped r (now (actions .exit)) (now (temporaries .exit)) ≡ callStatement (enterMacro deep (now (stream .entry)) (now (table .entry))) (now (stream .entry)) (now (table .entry)) (now (scope .entry)) (now (actions .entry)) (now (temporaries .entry)) env pos walk ⌝ }
 {
     let n = access::byte(stream, pos, 3);
-    let c = called_of(stream, table, u16_in(stream, pos, 1));
-    if c.kind == MACRO {
-        return macro_statement(
-            deep,
+    match called_of(stream, table, u16_in(stream, pos, 1)) {
+        Called::DelaySlot => delay_slot(stream, actions, pos, n, walk),
+        Called::UserOp(id) => user_op_statement(
             stream,
             table,
-            params,
-            labels,
+            scope,
             actions,
             temporaries,
             env,
             pos,
-            c.number,
+            id,
             n,
             walk,
-        );
+        ),
+        Called::Macro(id) => macro_statement(
+            deep,
+            stream,
+            table,
+            scope,
+            actions,
+            temporaries,
+            env,
+            pos,
+            id,
+            n,
+            walk,
+        ),
+        Called::No(k) => stop(walk, k),
     }
-    other_call(
-        c,
-        stream,
-        table,
-        params,
-        actions,
-        temporaries,
-        env,
-        pos,
-        n,
-        walk,
-    )
 }
 
 fn statement(
     deep: u64,
     stream: &[u8],
     table: &[u16; table::LENGTH],
-    params: &[u64],
-    labels: &mut [u64],
+    scope: &mut [u64],
     actions: &mut [u64],
     temporaries: &mut [u64],
     env: Env,
@@ -402,7 +371,7 @@ fn statement(
     ordinal: u64,
     walk: Walk,
 ) -> Step
-    ensures { λ r. ⌜ walked r (now (labels .exit)) (now (actions .exit)) (now (temporaries .exit)) ≡ resolveStatement (enterMacro deep (now (stream .entry)) (now (table .entry))) (now (stream .entry)) (now (table .entry)) (now (params .entry)) env pos ordinal (now (labels .entry)) (now (actions .entry)) (now (temporaries .entry)) walk ⌝ }
+    ensures { λ r. ⌜ walked r (now (scope .exit)) (now (actions .exit)) (now (temporaries .exit)) ≡ resolveStatement (enterMacro deep (now (stream .entry)) (now (table .entry))) (now (stream .entry)) (now (table .entry)) env pos ordinal (now (scope .entry)) (now (actions .entry)) (now (temporaries .entry)) walk ⌝ }
 {
     match begin(walk, ordinal) {
         Step::Stop {
@@ -419,8 +388,7 @@ fn statement(
                     deep,
                     stream,
                     table,
-                    params,
-                    labels,
+                    scope,
                     actions,
                     temporaries,
                     env,
@@ -432,8 +400,7 @@ fn statement(
                 code,
                 stream,
                 table,
-                params,
-                labels,
+                scope,
                 actions,
                 temporaries,
                 env,
@@ -457,8 +424,7 @@ pub fn body(
     deep: u64,
     stream: &[u8],
     table: &[u16; table::LENGTH],
-    params: &[u64],
-    labels: &mut [u64],
+    scope: &mut [u64],
     actions: &mut [u64],
     temporaries: &mut [u64],
     env: Env,
@@ -467,7 +433,7 @@ pub fn body(
     ordinal: u64,
     walk: Walk,
 ) -> Step
-    ensures { λ r. ⌜ walked r (now (labels .exit)) (now (actions .exit)) (now (temporaries .exit)) ≡ resolveBody deep (now (stream .entry)) (now (table .entry)) (now (params .entry)) (now (labels .entry)) (now (actions .entry)) (now (temporaries .entry)) env pos count ordinal walk ⌝ }
+    ensures { λ r. ⌜ walked r (now (scope .exit)) (now (actions .exit)) (now (temporaries .exit)) ≡ resolveBody deep (now (stream .entry)) (now (table .entry)) (now (scope .entry)) (now (actions .entry)) (now (temporaries .entry)) env pos count ordinal walk ⌝ }
 {
     let mut at = pos;
     let mut walk = walk;
@@ -478,8 +444,7 @@ pub fn body(
             deep,
             stream,
             table,
-            params,
-            labels,
+            scope,
             actions,
             temporaries,
             env,

@@ -17,7 +17,7 @@ use Rattle.expr_reading.specs.Reading.{constant, readOperand}
 use Rattle.expr_terms.specs.Answers.{onOperand, after}
 use Rattle.expr_resolver.specs.Expressions.{exprValue, resolveExpr}
 use Rattle.stmt_walk.specs.declared.walk.Walk.{Walk}
-use Rattle.stmt_walk.specs.Walks.{Stepped, stepped, Walked, walked, stepPushed, besideL, stop, pushedThen}
+use Rattle.stmt_walk.specs.Walks.{Stepped, stepped, Walked, walked, stepPushed, besideP, stop, pushedThen}
 use Rattle.stmt_branches.specs.Labels.{getOrInsertLabel, onLabel, resolveLabel, labelled}
 
 unfoldable pub pushLabel : List ℕ → List ℕ → List ℕ → List ℕ → Env → ℕ → ℕ → Walk → Stepped
@@ -25,9 +25,9 @@ pushLabel s t a m e id next w =
     stepPushed (pushOp s t a m e 62 id 0 noOutput absent absent (w .st)) (pushedThen next (labelled id 1 (w .st) w))
 
 unfoldable pub labelStatement : List ℕ → List ℕ → List ℕ → List ℕ → List ℕ → Env → ℕ → Walk → Walked
-labelStatement s t l a m e pos w =
-    onLabel (resolveLabel l (le16 s (pos + 1)) (e .scope) (w .labels))
-    (λ id q. besideL q (pushLabel s t a m e id (after pos 3) w))
+labelStatement s t p a m e pos w =
+    onLabel (resolveLabel p (le16 s (pos + 1)) (w .labels))
+    (λ id q. besideP q (pushLabel s t a m e id (after pos 3) w))
     (λ n q. walked (stop n w) q a m)
 
 -- the branch's hint stands at a position
@@ -40,15 +40,15 @@ branchLabel s t a m e id cond next st w =
     stepPushed (pushOp s t a m e 61 id 2 noOutput cond (constant 0) st) (pushedThen next (labelled id 0 st w))
 
 unfoldable pub labelBranch : List ℕ → List ℕ → List ℕ → List ℕ → List ℕ → Env → ℕ → Value → State → Walk → Walked
-labelBranch s t l a m e pos cond st w =
-    onLabel (getOrInsertLabel l (le16 s (pos + 1)) (e .scope) (w .labels))
-    (λ id q. besideL q (branchLabel s t a m e id cond (after pos 4) st w))
+labelBranch s t p a m e pos cond st w =
+    onLabel (getOrInsertLabel p (le16 s (pos + 1)) (w .labels))
+    (λ id q. besideP q (branchLabel s t a m e id cond (after pos 4) st w))
     (λ n q. walked (stop n w) q a m)
 
 -- a name, or an integer with a size
-unfoldable pub jumpValue : List ℕ → List ℕ → List ℕ → List ℕ → ℕ → Env → State → Meaning
-jumpValue s t p m pos e st =
-    if eqb (getD s (pos + 0) 0) 0 then resolveIdent s t p m e st (le16 s (pos + 1))
+unfoldable pub jumpValue : List ℕ → List ℕ → List ℕ → ℕ → Env → Meaning
+jumpValue s t p pos e =
+    if eqb (getD s (pos + 0) 0) 0 then resolveIdent s t p e (le16 s (pos + 1))
     else Meaning.Means (ExprValue.Const (le64 s (after pos 1)) (le16 s (pos + 9)))
 
 unfoldable pub afterJump : List ℕ → ℕ → ℕ
@@ -85,18 +85,18 @@ jumpMeant (Meaning.Wrong n) code s t a m e cond hint st w = stepped (stop n w) a
 
 unfoldable pub jump : List ℕ → List ℕ → List ℕ → List ℕ → List ℕ → Env → ℕ → Value → State → Walk → Stepped
 jump s t p a m e pos cond st w =
-    jumpMeant (jumpValue s t p m (after pos 1) e st) (getD s (pos + 0) 0) s t a m e cond (afterJump s (after pos 1)) st w
+    jumpMeant (jumpValue s t p (after pos 1) e) (getD s (pos + 0) 0) s t a m e cond (afterJump s (after pos 1)) st w
 
-unfoldable pub resolveBranch : List ℕ → List ℕ → List ℕ → List ℕ → List ℕ → List ℕ → Env → ℕ → Value → State → Walk → Walked
-resolveBranch s t p l a m e pos cond st w =
-    if eqb (getD s (pos + 0) 0) 2 then labelBranch s t l a m e pos cond st w
-    else besideL l (jump s t p a m e pos cond st w)
+unfoldable pub resolveBranch : List ℕ → List ℕ → List ℕ → List ℕ → List ℕ → Env → ℕ → Value → State → Walk → Walked
+resolveBranch s t p a m e pos cond st w =
+    if eqb (getD s (pos + 0) 0) 2 then labelBranch s t p a m e pos cond st w
+    else besideP p (jump s t p a m e pos cond st w)
 
-unfoldable pub branch : List ℕ → List ℕ → List ℕ → List ℕ → List ℕ → List ℕ → Env → ℕ → Walk → Walked
-branch s t p l a m e pos w = resolveBranch s t p l a m e (after pos 1) (constant 1) (w .st) w
+unfoldable pub branch : List ℕ → List ℕ → List ℕ → List ℕ → List ℕ → Env → ℕ → Walk → Walked
+branch s t p a m e pos w = resolveBranch s t p a m e (after pos 1) (constant 1) (w .st) w
 
-unfoldable pub condBranch : List ℕ → List ℕ → List ℕ → List ℕ → List ℕ → List ℕ → Env → ℕ → Walk → Walked
-condBranch s t p l a m e pos w =
+unfoldable pub condBranch : List ℕ → List ℕ → List ℕ → List ℕ → List ℕ → Env → ℕ → Walk → Walked
+condBranch s t p a m e pos w =
     onOperand (exprValue (resolveExpr 32 s t p e) s t e (after pos 1) a m (w .st))
-    (λ v next st b u. resolveBranch s t p l b u e next v st w)
-    (λ n b u. walked (stop n w) l b u)
+    (λ v next st b u. resolveBranch s t p b u e next v st w)
+    (λ n b u. walked (stop n w) p b u)

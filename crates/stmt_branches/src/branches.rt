@@ -69,16 +69,16 @@ fn push_label(
 pub fn label_statement(
     stream: &[u8],
     table: &[u16; table::LENGTH],
-    labels: &mut [u64],
+    scope: &mut [u64],
     actions: &mut [u64],
     temporaries: &mut [u64],
     env: Env,
     pos: usize,
     walk: Walk,
 ) -> Step
-    ensures { λ r. ⌜ walked r (now (labels .exit)) (now (actions .exit)) (now (temporaries .exit)) ≡ labelStatement (now (stream .entry)) (now (table .entry)) (now (labels .entry)) (now (actions .entry)) (now (temporaries .entry)) env pos walk ⌝ }
+    ensures { λ r. ⌜ walked r (now (scope .exit)) (now (actions .exit)) (now (temporaries .exit)) ≡ labelStatement (now (stream .entry)) (now (table .entry)) (now (scope .entry)) (now (actions .entry)) (now (temporaries .entry)) env pos walk ⌝ }
 {
-    match resolve_label(labels, u16_in(stream, pos, 1), env.scope, walk.labels) {
+    match resolve_label(scope, u16_in(stream, pos, 1), walk.labels) {
         Label::No(n) => stop(walk, n),
         Label::Is(id) => push_label(
             stream,
@@ -166,7 +166,7 @@ fn branch_label(
 fn label_branch(
     stream: &[u8],
     table: &[u16; table::LENGTH],
-    labels: &mut [u64],
+    scope: &mut [u64],
     actions: &mut [u64],
     temporaries: &mut [u64],
     env: Env,
@@ -175,9 +175,9 @@ fn label_branch(
     state: State,
     walk: Walk,
 ) -> Step
-    ensures { λ r. ⌜ walked r (now (labels .exit)) (now (actions .exit)) (now (temporaries .exit)) ≡ labelBranch (now (stream .entry)) (now (table .entry)) (now (labels .entry)) (now (actions .entry)) (now (temporaries .entry)) env pos cond state walk ⌝ }
+    ensures { λ r. ⌜ walked r (now (scope .exit)) (now (actions .exit)) (now (temporaries .exit)) ≡ labelBranch (now (stream .entry)) (now (table .entry)) (now (scope .entry)) (now (actions .entry)) (now (temporaries .entry)) env pos cond state walk ⌝ }
 {
-    match get_or_insert_label(labels, u16_in(stream, pos, 1), env.scope, walk.labels) {
+    match get_or_insert_label(scope, u16_in(stream, pos, 1), walk.labels) {
         Label::No(n) => stop(walk, n),
         Label::Is(id) => branch_label(
             stream,
@@ -198,24 +198,14 @@ fn label_branch(
 fn jump_value(
     stream: &[u8],
     table: &[u16; table::LENGTH],
-    params: &[u64],
-    temporaries: &[u64],
+    scope: &[u64],
     pos: usize,
     env: Env,
-    state: State,
 ) -> Meaning
-    ensures { λ r. ⌜ r ≡ jumpValue (now (stream .entry)) (now (table .entry)) (now (params .entry)) (now (temporaries .entry)) pos env state ⌝ }
+    ensures { λ r. ⌜ r ≡ jumpValue (now (stream .entry)) (now (table .entry)) (now (scope .entry)) pos env ⌝ }
 {
     if access::byte(stream, pos, 0) == statement::JUMP_IDENT {
-        return resolve_ident(
-            stream,
-            table,
-            params,
-            temporaries,
-            env,
-            state,
-            u16_in(stream, pos, 1),
-        );
+        return resolve_ident(stream, table, scope, env, u16_in(stream, pos, 1));
     }
     Meaning::Means(ExprValue::Const {
         value: access::u64_at(stream, after(pos, 1)),
@@ -355,7 +345,7 @@ fn jump_to(
 fn jump(
     stream: &[u8],
     table: &[u16; table::LENGTH],
-    params: &[u64],
+    scope: &[u64],
     actions: &mut [u64],
     temporaries: &mut [u64],
     env: Env,
@@ -364,11 +354,11 @@ fn jump(
     state: State,
     walk: Walk,
 ) -> Step
-    ensures { λ r. ⌜ stepped r (now (actions .exit)) (now (temporaries .exit)) ≡ jump (now (stream .entry)) (now (table .entry)) (now (params .entry)) (now (actions .entry)) (now (temporaries .entry)) env pos cond state walk ⌝ }
+    ensures { λ r. ⌜ stepped r (now (actions .exit)) (now (temporaries .exit)) ≡ jump (now (stream .entry)) (now (table .entry)) (now (scope .entry)) (now (actions .entry)) (now (temporaries .entry)) env pos cond state walk ⌝ }
 {
     let target = after(pos, 1);
     let code = access::byte(stream, pos, 0);
-    match jump_value(stream, table, params, temporaries, target, env, state) {
+    match jump_value(stream, table, scope, target, env) {
         Meaning::Wrong(n) => stop(walk, n),
         Meaning::Means(x) => jump_to(
             code,
@@ -389,8 +379,7 @@ fn jump(
 fn resolve_branch(
     stream: &[u8],
     table: &[u16; table::LENGTH],
-    params: &[u64],
-    labels: &mut [u64],
+    scope: &mut [u64],
     actions: &mut [u64],
     temporaries: &mut [u64],
     env: Env,
@@ -399,13 +388,13 @@ fn resolve_branch(
     state: State,
     walk: Walk,
 ) -> Step
-    ensures { λ r. ⌜ walked r (now (labels .exit)) (now (actions .exit)) (now (temporaries .exit)) ≡ resolveBranch (now (stream .entry)) (now (table .entry)) (now (params .entry)) (now (labels .entry)) (now (actions .entry)) (now (temporaries .entry)) env pos cond state walk ⌝ }
+    ensures { λ r. ⌜ walked r (now (scope .exit)) (now (actions .exit)) (now (temporaries .exit)) ≡ resolveBranch (now (stream .entry)) (now (table .entry)) (now (scope .entry)) (now (actions .entry)) (now (temporaries .entry)) env pos cond state walk ⌝ }
 {
     if access::byte(stream, pos, 0) == statement::DST_LABEL {
         return label_branch(
             stream,
             table,
-            labels,
+            scope,
             actions,
             temporaries,
             env,
@@ -418,7 +407,7 @@ fn resolve_branch(
     jump(
         stream,
         table,
-        params,
+        scope,
         actions,
         temporaries,
         env,
@@ -432,21 +421,19 @@ fn resolve_branch(
 pub fn branch(
     stream: &[u8],
     table: &[u16; table::LENGTH],
-    params: &[u64],
-    labels: &mut [u64],
+    scope: &mut [u64],
     actions: &mut [u64],
     temporaries: &mut [u64],
     env: Env,
     pos: usize,
     walk: Walk,
 ) -> Step
-    ensures { λ r. ⌜ walked r (now (labels .exit)) (now (actions .exit)) (now (temporaries .exit)) ≡ branch (now (stream .entry)) (now (table .entry)) (now (params .entry)) (now (labels .entry)) (now (actions .entry)) (now (temporaries .entry)) env pos walk ⌝ }
+    ensures { λ r. ⌜ walked r (now (scope .exit)) (now (actions .exit)) (now (temporaries .exit)) ≡ branch (now (stream .entry)) (now (table .entry)) (now (scope .entry)) (now (actions .entry)) (now (temporaries .entry)) env pos walk ⌝ }
 {
     resolve_branch(
         stream,
         table,
-        params,
-        labels,
+        scope,
         actions,
         temporaries,
         env,
@@ -460,21 +447,20 @@ pub fn branch(
 pub fn cond_branch(
     stream: &[u8],
     table: &[u16; table::LENGTH],
-    params: &[u64],
-    labels: &mut [u64],
+    scope: &mut [u64],
     actions: &mut [u64],
     temporaries: &mut [u64],
     env: Env,
     pos: usize,
     walk: Walk,
 ) -> Step
-    ensures { λ r. ⌜ walked r (now (labels .exit)) (now (actions .exit)) (now (temporaries .exit)) ≡ condBranch (now (stream .entry)) (now (table .entry)) (now (params .entry)) (now (labels .entry)) (now (actions .entry)) (now (temporaries .entry)) env pos walk ⌝ }
+    ensures { λ r. ⌜ walked r (now (scope .exit)) (now (actions .exit)) (now (temporaries .exit)) ≡ condBranch (now (stream .entry)) (now (table .entry)) (now (scope .entry)) (now (actions .entry)) (now (temporaries .entry)) env pos walk ⌝ }
 {
     match expr_value(
         DEPTH,
         stream,
         table,
-        params,
+        scope,
         after(pos, 1),
         env,
         actions,
@@ -485,8 +471,7 @@ pub fn cond_branch(
         Operand::Value { v, next, st } => resolve_branch(
             stream,
             table,
-            params,
-            labels,
+            scope,
             actions,
             temporaries,
             env,

@@ -1,75 +1,66 @@
-// Labels. Each has a word in a list of its own: its name, its scope, whether it is placed.
+// Labels. A scope has for each name one more than the number of its label, or 0; 512 more once the label is placed.
 use codes::refusal;
+use expr_scope::smalls::LABELS;
+use expr_scope::smalls::put_small;
+use expr_scope::smalls::small;
 use list_pushes::push::State;
 use stmt_walk::walk::Walk;
 ghost use mathlib.Core.Path.{_≡_};
-ghost use Prim.Native.Nat.{_<_};
 ghost use Rattle.list_values.specs.Base.{listed};
-ghost use Rattle.stmt_branches.specs.Labels.{findLabel, labelKey, getOrInsertLabel, placeLabel, resolveLabel, labelsAfter, labelled};
+ghost use Rattle.stmt_branches.specs.Labels.{labelPlace, getOrInsertLabel, placeLabel, resolveLabel, labelsAfter, labelled};
 
 const MOST_LABELS: u64 = 256;
 
-// A label that is placed has bit 32 in its word, above its name and scope.
-const PLACED: u64 = 4294967296;
+// What is added to the number of a label that is placed.
+const PLACED: u64 = 512;
 
 pub enum Label {
     Is(u64),
     No(u64),
 }
 
-// The first of n labels with this name and scope, or n.
-fn find_label(labels: &[u64], count: u64, key: u64) -> u64
-    ensures { λ r. ⌜ r ≡ findLabel count 0 (now (labels .entry)) key ⌝ }
+// Where the number of a name's label stands among the small numbers of a scope.
+fn label_place(name: u64) -> usize
+    ensures { λ r. ⌜ r ≡ labelPlace name ⌝ }
 {
-    let mut i = 0;
-    while i < count {
-        if access::get(labels, i as usize) % PLACED == key {
-            return i;
-        }
-        i += 1;
-    }
-    i
-}
-
-fn key(name: u64, scope: u64) -> u64
-    ensures { λ r. ⌜ (r ≡ labelKey name scope) × (r < 4294967296) ⌝ }
-{
-    name % 65536 + scope % 65536 * 65536
+    LABELS + (name % 1024) as usize
 }
 
 // The label of a name in a scope, else the next one, up to 256.
-pub fn get_or_insert_label(labels: &mut [u64], name: u64, scope: u64, count: u64) -> Label
-    ensures { λ r. ⌜ listed r (now (labels .exit)) ≡ getOrInsertLabel (now (labels .entry)) name scope count ⌝ }
+pub fn get_or_insert_label(scope: &mut [u64], name: u64, count: u64) -> Label
+    ensures { λ r. ⌜ listed r (now (scope .exit)) ≡ getOrInsertLabel (now (scope .entry)) name count ⌝ }
 {
-    let k = key(name, scope);
-    let i = find_label(labels, count, k);
-    if i < count {
-        return Label::Is(i);
+    let at = label_place(name);
+    let n = small(scope, at) % PLACED;
+    if n != 0 {
+        return Label::Is(n - 1);
     }
     if MOST_LABELS <= count {
         return Label::No(refusal::TOO_MANY_LABELS);
     }
-    access::put(labels, count as usize, k);
+    put_small(scope, at, count + 1);
     Label::Is(count)
 }
 
-fn place_label(labels: &mut [u64], id: u64, name: u64, scope: u64) -> Label
-    ensures { λ r. ⌜ listed r (now (labels .exit)) ≡ placeLabel (now (labels .entry)) id name scope ⌝ }
+fn place_label(scope: &mut [u64], id: u64, name: u64) -> Label
+    ensures { λ r. ⌜ listed r (now (scope .exit)) ≡ placeLabel (now (scope .entry)) id name ⌝ }
 {
-    if PLACED <= access::get(labels, id as usize) {
+    let at = label_place(name);
+    let n = small(scope, at);
+    if PLACED <= n {
         return Label::No(refusal::LABEL_TWICE);
     }
-    access::put(labels, id as usize, PLACED + key(name, scope));
+    put_small(scope, at, n + PLACED);
     Label::Is(id)
 }
 
 // A label is placed once.
-pub fn resolve_label(labels: &mut [u64], name: u64, scope: u64, count: u64) -> Label
-    ensures { λ r. ⌜ listed r (now (labels .exit)) ≡ resolveLabel (now (labels .entry)) name scope count ⌝ }
+pub fn resolve_label(scope: &mut [u64], name: u64, count: u64) -> Label
+    ensures { λ r. ⌜ listed r (now (scope .exit)) ≡ resolveLabel (now (scope .entry)) name count ⌝ }
 {
-    match get_or_insert_label(labels, name, scope, count) {
+    match get_or_insert_label(scope, name, count) {
         Label::No(k) => Label::No(k),
-        Label::Is(id) => place_label(labels, id, name, scope),
+        Label::Is(id) => place_label(scope, id, name),
     }
 }
 
@@ -94,7 +85,6 @@ pub fn labelled(walk: Walk, state: State, id: u64, more: u64) -> Walk
         labels,
         placed,
         statements: walk.statements,
-        scopes: walk.scopes,
         export,
     }
 }

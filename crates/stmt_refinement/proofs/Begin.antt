@@ -20,7 +20,7 @@ use Rattle.stmt_refinement.proofs.Given.{walkOf}
 
 -- what is beside a walk after one statement more
 abbrev pub oneMore : Beside → Beside
-oneMore b = record { labels = b .labels; placed = b .placed; statements = b .statements + 1; scopes = b .scopes; export = b .export }
+oneMore b = record { labels = b .labels; placed = b .placed; statements = b .statements + 1; export = b .export }
 
 -- the state of a statement that has begun
 abbrev pub started : ℕ → State → State

@@ -23,7 +23,7 @@ use Rattle.definition.proofs.Openers.{base-opens}
 use Rattle.list_pushes.specs.declared.push.Env.{Env as WordEnv}
 use Rattle.list_values.specs.Base.{Listed, listed, thenL}
 use Rattle.list_values.specs.Sizes.{entry}
-use Rattle.file_refinement.specs.Holds.{subtableAt, symbolWord}
+use Rattle.file_refinement.specs.Holds.{subtableAt}
 use Rattle.definition_guarantee.proofs.Tests.{some-same}
 use Rattle.definition_guarantee.proofs.Globals.{place-below}
 use Rattle.list_refinement.proofs.Lists.{firstOf, secondOf, outputOf}
@@ -35,7 +35,7 @@ use Rattle.stmt_simple.specs.Simple.{findSubtable, buildSubtable, buildTable, b
 use Rattle.expr_refinement.proofs.Encodings.{Stood, stood-more}
 use Rattle.expr_refinement.proofs.Answers.{acts, temps, word}
 use Rattle.expr_refinement.proofs.Below.{Spare}
-use Rattle.expr_refinement.proofs.Scopes.{eqb-swap, global-is, word-nonzero, word-kind, word-place}
+use Rattle.expr_refinement.proofs.Scopes.{eqb-swap, encSymbol, lookup-is}
 use Rattle.expr_refinement.proofs.Pushing.{no-operation}
 use Rattle.stmt_refinement.proofs.Views.{Beside, step-stops, Goes, step-push}
 use Rattle.stmt_refinement.proofs.Given.{Given, walkOf, below}
@@ -63,23 +63,23 @@ subtable-found s t table i (x ∷ xs) h =
     go true q = refl
     go false q = let k : suc i + length xs ≡ i + suc (length xs) = omega arith in rw k at q
 
-module _ (s t : List ℕ) (e : Env) (front tail marks rest : List ℕ) (we : WordEnv) (given : Given s t e front tail rest we) (spare : ℕ) (room : Spare spare tail) (b : Beside) (st : State) (stood : Stood (e .section) tail marks rest spare st) (pos : ℕ) where
+module _ (s t : List ℕ) (e : Env) (front tail rest : List ℕ) (we : WordEnv) (given : Given s t e front tail rest we) (spare : ℕ) (room : Spare spare tail) (b : Beside) (st : State) (stood : Stood (e .section) tail rest spare st) (pos : ℕ) where
   abbrev A : List ℕ
-  A = acts (e .section) front tail marks rest st
+  A = acts (e .section) front tail rest st
 
   abbrev M : List ℕ
-  M = temps (e .section) front tail marks rest st
+  M = temps (e .section) front tail rest st
 
   abbrev w : Walk
-  w = walkOf b (word (e .section) front tail marks rest st)
+  w = walkOf b (word (e .section) front tail rest st)
 
   -- where only the actions are lent
   abbrev Builds : Listed Step → Outcome (Unit {0}) → Type 0
-  Builds x o = Goes (e .section) front tail marks rest spare st (after pos 3) b (orNone (st .sizing .begun)) (thenL x (λ r c. stepped r c M)) o
+  Builds x o = Goes (e .section) front tail rest spare st (after pos 3) b (orNone (st .sizing .begun)) (thenL x (λ r c. stepped r c M)) o
 
   stops : (n : ℕ) (r : Refusal) → n ≡ refusalNumber r → Builds (listed (stop n w) A) (stopped r (st .sizing .begun) 0)
   unfolding thenL
-  stops n r h = step-stops (e .section) front tail marks rest spare st _ _ w A M n r h
+  stops n r h = step-stops (e .section) front tail rest spare st _ _ w A M n r h
 
   abbrev building : ℕ → SemanticAction
   building i = record { kind = ActionKind.Build; number = i; inputs = []; output = none }
@@ -90,9 +90,9 @@ module _ (s t : List ℕ) (e : Env) (front tail marks rest : List ℕ) (we : Wor
   build-found none h = rw (le-ltb (length (e .section .subtables)) (length (e .section .subtables)) (omega arith)) (stops 24 absentTable (unfold refusalNumber in refl))
   build-found (some i) h =
       rw (lt-ltb i (length (e .section .subtables)) (h i refl))
-      (step-push (e .section) front tail marks rest spare st _ M _ (after pos 3) w
+      (step-push (e .section) front tail rest spare st _ M _ (after pos 3) w
       (unfold actionKindNumber operationWord operationOf outputOf firstOf secondOf in
-      below s t e front tail marks rest we given .pushes spare st room (stood-more (4 + spare) (omega arith) stood) (building i) (omega arith) (record { inputs = tt; output = tt }) (no-operation _ refl)))
+      below s t e front tail rest we given .pushes spare st room (stood-more (4 + spare) (omega arith) stood) (building i) (omega arith) (record { inputs = tt; output = tt }) (no-operation _ refl)))
 
   placed : (j : ℕ) (x : Subtable) → getElem? (e .section .subtables) j ≡ some x → le16 s (entry t 8 ((0 + j) % 65536 * 4) + 2) ≡ x .table
   unfolding entry subtableAt
@@ -112,22 +112,18 @@ module _ (s t : List ℕ) (e : Env) (front tail marks rest : List ℕ) (we : Wor
       rw (← given .holds .subtables .count, subtable-found s t table 0 (e .section .subtables) placed, z)
       (build-found (subtableOf table) (λ j q. omega (arith, position-below (λ (x : Subtable). eqb table (x .table)) 0 (e .section .subtables) j q)))
 
-  other-kind : (k i : ℕ) → k < 8 → eqb k 3 ≡ false → Builds (buildSymbol (1 + k + 8 * i) s t A pos w) (stopped wrongKind (st .sizing .begun) 0)
-  unfolding buildSymbol if_then_else_
-  other-kind k i h l = rw (word-nonzero k i, word-kind k i h, l) (stops 23 wrongKind (unfold refusalNumber in refl))
-
   build-symbol : (y : Option Symbol)
-      → Builds (buildSymbol (symbolWord y) s t A pos w) (on e (asTable y e st) λ table. λ e st. on e (expect absentTable (position (λ (x : Subtable). eqb table (x .table)) 0 (e .section .subtables)) e st) λ i. walks.push (building i))
-  unfolding symbolWord asTable on
-  build-symbol none = unfold buildSymbol if_then_else_ in stops 22 undefined (unfold refusalNumber in refl)
-  build-symbol (some (Symbol.Table i x)) = unfold buildSymbol if_then_else_ in rw (word-nonzero 3 i, word-kind 3 i (omega arith), word-place 3 i (omega arith)) (build-table i)
-  build-symbol (some (Symbol.Space i x)) = other-kind 0 i (omega arith) refl
-  build-symbol (some (Symbol.Register i x)) = other-kind 1 i (omega arith) refl
-  build-symbol (some (Symbol.BitRange i x)) = other-kind 2 i (omega arith) refl
-  build-symbol (some (Symbol.UserOp i)) = other-kind 4 i (omega arith) refl
-  build-symbol (some (Symbol.Macro i x)) = other-kind 5 i (omega arith) refl
-  build-symbol (some (Symbol.Other i)) = other-kind 6 i (omega arith) refl
+      → Builds (buildSymbol (encSymbol y) s t A pos w) (on e (asTable y e st) λ table. λ e st. on e (expect absentTable (position (λ (x : Subtable). eqb table (x .table)) 0 (e .section .subtables)) e st) λ i. walks.push (building i))
+  unfolding buildSymbol encSymbol asTable on
+  build-symbol none = stops 22 undefined (unfold refusalNumber in refl)
+  build-symbol (some (Symbol.Table i x)) = build-table i
+  build-symbol (some (Symbol.Space i x)) = stops 23 wrongKind (unfold refusalNumber in refl)
+  build-symbol (some (Symbol.Register i x)) = stops 23 wrongKind (unfold refusalNumber in refl)
+  build-symbol (some (Symbol.BitRange i x)) = stops 23 wrongKind (unfold refusalNumber in refl)
+  build-symbol (some (Symbol.UserOp i)) = stops 23 wrongKind (unfold refusalNumber in refl)
+  build-symbol (some (Symbol.Macro i x)) = stops 23 wrongKind (unfold refusalNumber in refl)
+  build-symbol (some (Symbol.Other i)) = stops 23 wrongKind (unfold refusalNumber in refl)
 
   pub build-is : le16 s (pos + 1) < 1024 → Builds (build s t A pos w) (d.build (le16 s (pos + 1)) e st)
   unfolding build d.build lookup on
-  build-is h = rw (global-is s t (e .section) (given .holds) (le16 s (pos + 1)) h) (build-symbol (find (le16 s (pos + 1)) (globals (e .section))))
+  build-is h = rw (lookup-is s t (e .section) (given .holds) (le16 s (pos + 1)) h) (build-symbol (find (le16 s (pos + 1)) (globals (e .section))))

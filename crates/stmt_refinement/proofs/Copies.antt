@@ -29,7 +29,9 @@ use Rattle.list_refinement.proofs.Settled.{size-is, known-small}
 use Rattle.list_refinement.proofs.Lists.{firstOf, secondOf}
 use Rattle.list_refinement.proofs.RuleKinds.{kindOf}
 use Rattle.list_refinement.proofs.Seen.{Seen, no, yes, seenRead}
-use Rattle.expr_reading.specs.Reading.{byteAligned, sliced, readValue}
+use Rattle.list_values.specs.Values as words
+use Rattle.list_values.specs.declared.value.Slice.{Slice}
+use Rattle.expr_reading.specs.Reading.{byteAligned, sliceRead, sliced, readValue}
 use Rattle.stmt_walk.specs.declared.walk.Walk.{Walk}
 use Rattle.stmt_walk.specs.Walks.{Stepped, stepped, stepRead, stop, readThen}
 use Rattle.stmt_assignments.specs.Copies.{mergeBits, extendBits, insertIn, insertBits, keepBits, writeBits, copyBits, readSliced, copyBytes, copyRange, copyRam, copyInto}
@@ -59,28 +61,28 @@ unfolding mapSeen
 map-map c (no n) = refl
 map-map c (yes a st b m) = refl
 
-module _ (s t : List ℕ) (e : Env) (front tail marks rest : List ℕ) (we : WordEnv) (given : Given s t e front tail rest we) (spare : ℕ) (room : Spare spare tail) where
+module _ (s t : List ℕ) (e : Env) (front tail rest : List ℕ) (we : WordEnv) (given : Given s t e front tail rest we) (spare : ℕ) (room : Spare spare tail) where
   abbrev A : State → List ℕ
-  A st = acts (e .section) front tail marks rest st
+  A st = acts (e .section) front tail rest st
 
   abbrev M : State → List ℕ
-  M st = temps (e .section) front tail marks rest st
+  M st = temps (e .section) front tail rest st
 
   abbrev W : State → WordState
-  W st = word (e .section) front tail marks rest st
+  W st = word (e .section) front tail rest st
 
   abbrev Stands : State → Type 0
-  Stands st = Stood (e .section) tail marks rest spare st
+  Stands st = Stood (e .section) tail rest spare st
 
   abbrev Reads : State → ReadOut → Outcome Value → Type 0
-  Reads st x o = Refines (e .section) front tail marks rest spare st encV (Sound (e .section)) (seenRead x) o
+  Reads st x o = Refines (e .section) front tail rest spare st encV (Sound (e .section)) (seenRead x) o
 
   -- an answer whose value does not count
   unfoldable pub seenVoid : ReadOut → Seen (Unit {0})
   seenVoid x = mapSeen (λ _. tt {0}) (seenRead x)
 
   abbrev Void : State → ReadOut → Outcome (Unit {0}) → Type 0
-  Void st x o = Refines (e .section) front tail marks rest spare st (λ (_ : Unit {0}). tt {0}) (λ n (_ : Unit {0}). Unit {0}) (seenVoid x) o
+  Void st x o = Refines (e .section) front tail rest spare st (λ (_ : Unit {0}). tt {0}) (λ n (_ : Unit {0}). Unit {0}) (seenVoid x) o
 
   void-no : (n : ℕ) (a m : List ℕ) → seenVoid (read (Read.No n) a m) ≡ no n
   unfolding seenVoid mapSeen seenRead
@@ -89,8 +91,8 @@ module _ (s t : List ℕ) (e : Env) (front tail marks rest : List ℕ) (we : Wor
   void : (st : State) (x : ReadOut) (o : Outcome Value) → Reads st x o → Void st x (on e o λ _. λ e1 st1. done tt st1)
   unfolding seenVoid
   void st x o r =
-      refines-map (e .section) front tail marks rest spare e st (λ (_ : Value). tt {0}) (Sound (e .section)) (λ (_ : Unit {0}). tt {0}) (λ n (_ : Unit {0}). Unit {0}) (λ _. tt) (mapSeen (λ _. tt {0}) (seenRead x)) o
-      (refines-as (e .section) front tail marks rest spare st encV (Sound (e .section)) (λ _. tt {0}) (seenRead x) (mapSeen (λ _. tt {0}) (seenRead x)) o r refl) (λ a. refl) (λ n a p. tt)
+      refines-map (e .section) front tail rest spare e st (λ (_ : Value). tt {0}) (Sound (e .section)) (λ (_ : Unit {0}). tt {0}) (λ n (_ : Unit {0}). Unit {0}) (λ _. tt) (mapSeen (λ _. tt {0}) (seenRead x)) o
+      (refines-as (e .section) front tail rest spare st encV (Sound (e .section)) (λ _. tt {0}) (seenRead x) (mapSeen (λ _. tt {0}) (seenRead x)) o r refl) (λ a. refl) (λ n a p. tt)
 
   more : (st st1 : State) → count st ≤ count st1 → (v : Value) → Sound (e .section) (count st) v → Sound (e .section) (count st1) v
   more st st1 l v h = sound-more (e .section) (count st) (count st1) l v h
@@ -102,21 +104,21 @@ module _ (s t : List ℕ) (e : Env) (front tail marks rest : List ℕ) (we : Wor
       → Void st (mergeBits s t (A st) (M st) we (encV to) (encV prev) (encV tmp) from (W st)) (merged to prev tmp from e st)
   unfolding mergeBits operationNumber firstOf secondOf kindNumber orNone orElse
   merge-bits st f to prev tmp from a b c =
-      bind-read (e .section) front tail marks rest spare spare e st (Sound (e .section)) seenVoid (λ (_ : Unit {0}). tt {0}) (λ n (_ : Unit {0}). Unit {0}) (λ _ e1 st1. on e1 (walks.op Operation.IntOr 0 (prev ∷ tmp ∷ []) (some to) e1 st1) λ _ e2 st2. done tt st2) encV _ _ _ _
-      (below s t e front tail marks rest we given .ops spare st room (stood-more (suc spare) (omega arith) f) Operation.IntLeft 0 (tmp ∷ constant from ∷ []) tmp (omega arith) (left-applies tmp (constant from)) (c, (constant-sound (e .section) (count st) from, tt)) c)
+      bind-read (e .section) front tail rest spare spare e st (Sound (e .section)) seenVoid (λ (_ : Unit {0}). tt {0}) (λ n (_ : Unit {0}). Unit {0}) (λ _ e1 st1. on e1 (walks.op Operation.IntOr 0 (prev ∷ tmp ∷ []) (some to) e1 st1) λ _ e2 st2. done tt st2) encV _ _ _ _
+      (below s t e front tail rest we given .ops spare st room (stood-more (suc spare) (omega arith) f) Operation.IntLeft 0 (tmp ∷ constant from ∷ []) tmp (omega arith) (left-applies tmp (constant from)) (c, (constant-sound (e .section) (count st) from, tt)) c)
       (λ n x y. void-no n x y)
       λ v st1 r h. let l = r .later .temporaries in void st1 _ _
-      (below s t e front tail marks rest we given .ops spare st1 room (stood-more (suc spare) (omega arith) (r .stood)) Operation.IntOr 0 (prev ∷ tmp ∷ []) to (omega arith) (or-applies prev tmp) (more st st1 l prev b, (more st st1 l tmp c, tt)) (more st st1 l to a))
+      (below s t e front tail rest we given .ops spare st1 room (stood-more (suc spare) (omega arith) (r .stood)) Operation.IntOr 0 (prev ∷ tmp ∷ []) to (omega arith) (or-applies prev tmp) (more st st1 l prev b, (more st st1 l tmp c, tt)) (more st st1 l to a))
 
   extend-bits : (st : State) → Stands st → (v tmp : Value) (bits : ℕ) → Sound (e .section) (count st) v → Sound (e .section) (count st) tmp
       → Reads st (extendBits s t (A st) (M st) we (encV v) (encV tmp) bits (W st)) (on e (walks.op Operation.ZeroExtend 0 (v ∷ []) (some tmp) e st) λ _. walks.op Operation.IntAnd 0 (tmp ∷ constant (expressions.mask bits) ∷ []) (some tmp))
   unfolding extendBits operationNumber firstOf secondOf kindNumber orNone orElse
   extend-bits st f v tmp bits a c =
-      bind-read (e .section) front tail marks rest spare spare e st (Sound (e .section)) seenRead encV (Sound (e .section)) (λ _. walks.op Operation.IntAnd 0 (tmp ∷ constant (expressions.mask bits) ∷ []) (some tmp)) encV _ _ _ _
-      (below s t e front tail marks rest we given .ops spare st room (stood-more (suc spare) (omega arith) f) Operation.ZeroExtend 0 (v ∷ []) tmp (omega arith) (extend-applies v) (a, tt) c)
+      bind-read (e .section) front tail rest spare spare e st (Sound (e .section)) seenRead encV (Sound (e .section)) (λ _. walks.op Operation.IntAnd 0 (tmp ∷ constant (expressions.mask bits) ∷ []) (some tmp)) encV _ _ _ _
+      (below s t e front tail rest we given .ops spare st room (stood-more (suc spare) (omega arith) f) Operation.ZeroExtend 0 (v ∷ []) tmp (omega arith) (extend-applies v) (a, tt) c)
       (λ n x y. unfold seenRead in refl)
       λ u st1 r h. let k = more st st1 (r .later .temporaries) tmp c in
-      below s t e front tail marks rest we given .ops spare st1 room (stood-more (suc spare) (omega arith) (r .stood)) Operation.IntAnd 0 (tmp ∷ constant (expressions.mask bits) ∷ []) tmp (omega arith) (and-applies tmp (constant (expressions.mask bits))) (k, (constant-sound (e .section) (count st1) (expressions.mask bits), tt)) k
+      below s t e front tail rest we given .ops spare st1 room (stood-more (suc spare) (omega arith) (r .stood)) Operation.IntAnd 0 (tmp ∷ constant (expressions.mask bits) ∷ []) tmp (omega arith) (and-applies tmp (constant (expressions.mask bits))) (k, (constant-sound (e .section) (count st1) (expressions.mask bits), tt)) k
 
   insert-in : (st : State) → Stands st → (v to prev tmp : Value) (from bits : ℕ) → Sound (e .section) (count st) v → Sound (e .section) (count st) to → Sound (e .section) (count st) prev → Sound (e .section) (count st) tmp
       → Void st (insertIn s t (A st) (M st) we (encV v) (encV to) (encV prev) (encV tmp) from bits (W st))
@@ -124,7 +126,7 @@ module _ (s t : List ℕ) (e : Env) (front tail marks rest : List ℕ) (we : Wor
   unfolding insertIn
   insert-in st f v to prev tmp from bits a b c g =
       rw (← on-assoc e (walks.op Operation.ZeroExtend 0 (v ∷ []) (some tmp) e st) (λ _. walks.op Operation.IntAnd 0 (tmp ∷ constant (expressions.mask bits) ∷ []) (some tmp)) (λ _. merged to prev tmp from))
-      (bind-read (e .section) front tail marks rest spare spare e st (Sound (e .section)) seenVoid (λ (_ : Unit {0}). tt {0}) (λ n (_ : Unit {0}). Unit {0}) (λ _. merged to prev tmp from) encV _ _ _ _
+      (bind-read (e .section) front tail rest spare spare e st (Sound (e .section)) seenVoid (λ (_ : Unit {0}). tt {0}) (λ n (_ : Unit {0}). Unit {0}) (λ _. merged to prev tmp from) encV _ _ _ _
       (extend-bits st f v tmp bits a g) (λ n x y. void-no n x y)
       λ u st1 r h. let l = r .later .temporaries in merge-bits st1 (r .stood) to prev tmp from (more st st1 l to b) (more st st1 l prev c) (more st st1 l tmp g))
 
@@ -136,10 +138,10 @@ module _ (s t : List ℕ) (e : Env) (front tail marks rest : List ℕ) (we : Wor
       → Void st (insertBits s t (A st) (M st) we (encV v) (encV to) (encV prev) from bits (W st)) (inserted v to prev from bits e st)
   unfolding insertBits
   insert-bits st f v to prev from bits a b c =
-      rw (size-is s t (e .section) (given .sizes) marks rest (tmps st) (f .sizes) to b)
-      (bind-tmp (e .section) front tail marks rest spare spare e st (Sound (e .section)) seenVoid (λ (_ : Unit {0}). tt {0}) (λ n (_ : Unit {0}). Unit {0}) (λ tmp e1 st1. on e1 (walks.op Operation.ZeroExtend 0 (v ∷ []) (some tmp) e1 st1) λ _ e2 st2. on e2 (walks.op Operation.IntAnd 0 (tmp ∷ constant (expressions.mask bits) ∷ []) (some tmp) e2 st2) λ _. merged to prev tmp from) encV (A st) _ _
+      rw (size-is s t (e .section) (given .sizes) rest (tmps st) (f .sizes) to b)
+      (bind-tmp (e .section) front tail rest spare spare e st (Sound (e .section)) seenVoid (λ (_ : Unit {0}). tt {0}) (λ n (_ : Unit {0}). Unit {0}) (λ tmp e1 st1. on e1 (walks.op Operation.ZeroExtend 0 (v ∷ []) (some tmp) e1 st1) λ _ e2 st2. on e2 (walks.op Operation.IntAnd 0 (tmp ∷ constant (expressions.mask bits) ∷ []) (some tmp) e2 st2) λ _. merged to prev tmp from) encV (A st) _ _
       (λ tmp st1 x u. insertIn s t x u we (encV v) (encV to) (encV prev) tmp from bits st1) _
-      (below s t e front tail marks rest we given .adds spare st room f (sizes.sizeOf (e .section) (tmps st) to) (known-small s t (e .section) (given .sizes) marks rest (tmps st) (f .sizes) to b)) (λ n m. void-no n (A st) m)
+      (below s t e front tail rest we given .adds spare st room f (sizes.sizeOf (e .section) (tmps st) to) (known-small s t (e .section) (given .sizes) rest (tmps st) (f .sizes) to b)) (λ n m. void-no n (A st) m)
       λ tmp st1 r g. let l = r .later .temporaries in insert-in st1 (r .stood) v to prev tmp from bits (more st st1 l v a) (more st st1 l to b) (more st st1 l prev c) g)
 
   abbrev kept : Value → Value → Value → ℕ → ℕ → walks.Walk (Unit {0})
@@ -149,8 +151,8 @@ module _ (s t : List ℕ) (e : Env) (front tail marks rest : List ℕ) (we : Wor
       → Void st (keepBits s t (A st) (M st) we (encV v) (encV to) (encV prev) from bits (W st)) (kept v to prev from bits e st)
   unfolding keepBits operationNumber firstOf secondOf kindNumber orNone orElse
   keep-bits st f v to prev from bits a b c =
-      bind-read (e .section) front tail marks rest spare spare e st (Sound (e .section)) seenVoid (λ (_ : Unit {0}). tt {0}) (λ n (_ : Unit {0}). Unit {0}) (λ _. inserted v to prev from bits) encV _ _ _ _
-      (below s t e front tail marks rest we given .ops spare st room (stood-more (suc spare) (omega arith) f) Operation.IntAnd 0 (to ∷ constant (d.maskBut from bits) ∷ []) prev (omega arith) (and-applies to (constant (d.maskBut from bits))) (b, (constant-sound (e .section) (count st) (d.maskBut from bits), tt)) c)
+      bind-read (e .section) front tail rest spare spare e st (Sound (e .section)) seenVoid (λ (_ : Unit {0}). tt {0}) (λ n (_ : Unit {0}). Unit {0}) (λ _. inserted v to prev from bits) encV _ _ _ _
+      (below s t e front tail rest we given .ops spare st room (stood-more (suc spare) (omega arith) f) Operation.IntAnd 0 (to ∷ constant (d.maskBut from bits) ∷ []) prev (omega arith) (and-applies to (constant (d.maskBut from bits))) (b, (constant-sound (e .section) (count st) (d.maskBut from bits), tt)) c)
       (λ n x y. void-no n x y)
       λ u st1 r h. let l = r .later .temporaries in insert-bits st1 (r .stood) v to prev from bits (more st st1 l v a) (more st st1 l to b) (more st st1 l prev c)
 
@@ -159,12 +161,12 @@ module _ (s t : List ℕ) (e : Env) (front tail marks rest : List ℕ) (we : Wor
       (on e (require (ltb from 64) shiftTooFar e st) λ _ e1 st1. on e1 (walks.addTmp none (sizes.sizeOf (e1 .section) (tmps st1) to) e1 st1) λ prev. kept v to prev from bits)
   unfolding writeBits
   write-bits st f v to from bits a b =
-      rw (size-is s t (e .section) (given .sizes) marks rest (tmps st) (f .sizes) to b)
-      (bind-unless (e .section) front tail marks rest spare e st seenVoid (λ (_ : Unit {0}). tt {0}) (λ n (_ : Unit {0}). Unit {0}) (leb 64 from) shiftTooFar _ (read (Read.No 41) (A st) (M st)) (λ _ e1 st1. on e1 (walks.addTmp none (sizes.sizeOf (e1 .section) (tmps st1) to) e1 st1) λ prev. kept v to prev from bits)
+      rw (size-is s t (e .section) (given .sizes) rest (tmps st) (f .sizes) to b)
+      (bind-unless (e .section) front tail rest spare e st seenVoid (λ (_ : Unit {0}). tt {0}) (λ n (_ : Unit {0}). Unit {0}) (leb 64 from) shiftTooFar _ (read (Read.No 41) (A st) (M st)) (λ _ e1 st1. on e1 (walks.addTmp none (sizes.sizeOf (e1 .section) (tmps st1) to) e1 st1) λ prev. kept v to prev from bits)
       (unfold refusalNumber in void-no 41 (A st) (M st))
-      (λ q. bind-tmp (e .section) front tail marks rest spare spare e st (Sound (e .section)) seenVoid (λ (_ : Unit {0}). tt {0}) (λ n (_ : Unit {0}). Unit {0}) (λ prev. kept v to prev from bits) encV (A st) _ _
+      (λ q. bind-tmp (e .section) front tail rest spare spare e st (Sound (e .section)) seenVoid (λ (_ : Unit {0}). tt {0}) (λ n (_ : Unit {0}). Unit {0}) (λ prev. kept v to prev from bits) encV (A st) _ _
       (λ prev st1 x u. keepBits s t x u we (encV v) (encV to) prev from bits st1) _
-      (below s t e front tail marks rest we given .adds spare st room f (sizes.sizeOf (e .section) (tmps st) to) (known-small s t (e .section) (given .sizes) marks rest (tmps st) (f .sizes) to b)) (λ n m. void-no n (A st) m)
+      (below s t e front tail rest we given .adds spare st room f (sizes.sizeOf (e .section) (tmps st) to) (known-small s t (e .section) (given .sizes) rest (tmps st) (f .sizes) to b)) (λ n m. void-no n (A st) m)
       λ prev st1 r g. let l = r .later .temporaries in keep-bits st1 (r .stood) v to prev from bits (more st st1 l v a) (more st st1 l to b) g)
       (ltb from 64) (λ q. let k = leb-false 64 from q in lt-ltb from 64 (omega arith)) (λ q. let k = leb-true 64 from q in le-ltb from 64 (omega arith)))
 
@@ -175,8 +177,8 @@ module _ (s t : List ℕ) (e : Env) (front tail marks rest : List ℕ) (we : Wor
       → Void st (copyBits s t (A st) (M st) we (encX x) (encV to) from bits (W st)) (d.writeBits x to from bits e st)
   unfolding copyBits
   copy-bits st f x to from bits h b =
-      rw split (bind-read (e .section) front tail marks rest spare spare e st (Sound (e .section)) seenVoid (λ (_ : Unit {0}). tt {0}) (λ n (_ : Unit {0}). Unit {0}) (writing to from bits) encV _ _ _ _
-      (read-operand s t e front tail marks rest we (below s t e front tail marks rest we given) spare room st f x h) (λ n y z. void-no n y z)
+      rw split (bind-read (e .section) front tail rest spare spare e st (Sound (e .section)) seenVoid (λ (_ : Unit {0}). tt {0}) (λ n (_ : Unit {0}). Unit {0}) (writing to from bits) encV _ _ _ _
+      (read-operand s t e front tail rest we (below s t e front tail rest we given) spare room st f x h) (λ n y z. void-no n y z)
       λ v st1 r g. write-bits st1 (r .stood) v to from bits g (more st st1 (r .later .temporaries) to b))
     where
       split : d.writeBits x to from bits e st ≡ on e (expressions.readValue x none e st) (writing to from bits)
@@ -184,16 +186,16 @@ module _ (s t : List ℕ) (e : Env) (front tail marks rest : List ℕ) (we : Wor
 
   copy-bytes : (st : State) → Stands st → (x : ExprValue) (to : Value) (from bits : ℕ) → bits ≤ 16384 → SoundX (e .section) (count st) x → Sound (e .section) (count st) to
       → Void st (copyBytes s t (A st) (M st) we (encX x) (encV to) from bits (W st)) (on e (walks.sliced (from / 8) (bits / 8) to e st) (d.readTo x))
-  unfolding copyBytes sliced walks.sliced
+  unfolding copyBytes sliced words.sliceBytes walks.sliced
   copy-bytes st f x to from bits l h b = go (leb (to .offset + from / 8) 65535) refl
     where
       go : (c : Bool) → leb (to .offset + from / 8) 65535 ≡ c
-          → Void st (readSliced (if c then Read.Value (record { kind = kindNumber (to .kind); number = to .number; offset = to .offset + from / 8; size = bits / 8 }) (W st) else Read.No 42) s t (A st) (M st) we (encX x))
+          → Void st (readSliced (sliceRead (if c then Slice.Is (record { kind = kindNumber (to .kind); number = to .number; offset = to .offset + from / 8; size = bits / 8 }) else Slice.No 42) (W st)) s t (A st) (M st) we (encX x))
           (on e (on e (require c offsetTooFar e st) λ _ e1 st1. done (sliceBytes (from / 8) (bits / 8) to) st1) (d.readTo x))
-      go true q = unfold readSliced if_then_else_ require on d.readTo in
+      go true q = unfold readSliced sliceRead if_then_else_ require on d.readTo in
           let k = leb-true (to .offset + from / 8) 65535 q in
-          void st (readValue s t (A st) (M st) we (encX x) true (record { kind = kindNumber (to .kind); number = to .number; offset = to .offset + from / 8; size = bits / 8 }) (W st)) (expressions.readValue x (some (sliceBytes (from / 8) (bits / 8) to)) e st) (unfold isSome toOf orNone orElse in read-value s t e front tail marks rest we (below s t e front tail marks rest we given) spare room st f x (some (sliceBytes (from / 8) (bits / 8) to)) h (record { number = b .number; offset = k; size = unfold orElse in omega arith }))
-      go false q = unfold readSliced if_then_else_ require on in rw (void-no 42 (A st) (M st)) (refines-stopped (e .section) front tail marks rest spare st (λ (_ : Unit {0}). tt {0}) (λ n (_ : Unit {0}). Unit {0}) 42 offsetTooFar (unfold refusalNumber in refl))
+          void st (readValue s t (A st) (M st) we (encX x) true (record { kind = kindNumber (to .kind); number = to .number; offset = to .offset + from / 8; size = bits / 8 }) (W st)) (expressions.readValue x (some (sliceBytes (from / 8) (bits / 8) to)) e st) (unfold isSome toOf orNone orElse in read-value s t e front tail rest we (below s t e front tail rest we given) spare room st f x (some (sliceBytes (from / 8) (bits / 8) to)) h (record { number = b .number; offset = k; size = unfold orElse in omega arith }))
+      go false q = unfold readSliced sliceRead if_then_else_ require on in rw (void-no 42 (A st) (M st)) (refines-stopped (e .section) front tail rest spare st (λ (_ : Unit {0}). tt {0}) (λ n (_ : Unit {0}). Unit {0}) 42 offsetTooFar (unfold refusalNumber in refl))
 
   aligned-is : (from bits : ℕ) → byteAligned from bits ≡ expressions.byteAligned from bits
   unfolding byteAligned expressions.byteAligned if_then_else_
@@ -215,27 +217,27 @@ module _ (s t : List ℕ) (e : Env) (front tail marks rest : List ℕ) (we : Wor
 
   module _ (w : Walk) (next : ℕ) where
     abbrev Ends : State → Stepped → Outcome (Unit {0}) → Type 0
-    Ends st x o = Goes (e .section) front tail marks rest spare st next (beside w) (begunIn w) x o
+    Ends st x o = Goes (e .section) front tail rest spare st next (beside w) (begunIn w) x o
 
     void-ends : (st : State) (x : ReadOut) (o : Outcome (Unit {0})) → Void st x o → Ends st (stepRead x (readThen next w)) o
     unfolding seenVoid
-    void-ends st x o r = refines-as (e .section) front tail marks rest spare st (λ (_ : Unit {0}). tt {0}) (λ n (_ : Unit {0}). Unit {0}) (λ _. (next, beside w)) (mapSeen (λ _. tt {0}) (seenRead x)) _ o r (read-seen x next w ∙ map-map (next, beside w) (seenRead x))
+    void-ends st x o r = refines-as (e .section) front tail rest spare st (λ (_ : Unit {0}). tt {0}) (λ n (_ : Unit {0}). Unit {0}) (λ _. (next, beside w)) (mapSeen (λ _. tt {0}) (seenRead x)) _ o r (read-seen x next w ∙ map-map (next, beside w) (seenRead x))
 
     copy-ram : (st : State) → Stands st → (x : ExprValue) (pointer : Value) (size : ℕ) → size < 65535 → SoundX (e .section) (count st) x → Sound (e .section) (count st) pointer
         → Ends st (copyRam s t (A st) (M st) we (encX x) (encV pointer) size next (W st) w) (on e (expressions.readValue x none e st) λ v. d.store size pointer v)
     unfolding copyRam
     copy-ram st f x pointer size l h b =
-        bind-read (e .section) front tail marks rest spare spare e st (Sound (e .section)) (seenStep (begunIn w)) (λ (_ : Unit {0}). (next, beside w)) (λ n (_ : Unit {0}). Unit {0}) (λ v. d.store size pointer v) encV _ _ _ _
-        (read-operand s t e front tail marks rest we (below s t e front tail marks rest we given) spare room st f x h) (λ n y z. stop-seen n w y z)
-        λ v st1 r g. store-is s t e front tail marks rest we given spare room w next st1 (r .stood) pointer size v l (more st st1 (r .later .temporaries) pointer b) g
+        bind-read (e .section) front tail rest spare spare e st (Sound (e .section)) (seenStep (begunIn w)) (λ (_ : Unit {0}). (next, beside w)) (λ n (_ : Unit {0}). Unit {0}) (λ v. d.store size pointer v) encV _ _ _ _
+        (read-operand s t e front tail rest we (below s t e front tail rest we given) spare room st f x h) (λ n y z. stop-seen n w y z)
+        λ v st1 r g. store-is s t e front tail rest we given spare room w next st1 (r .stood) pointer size v l (more st st1 (r .later .temporaries) pointer b) g
 
     not-assignable : (st : State) → Ends st (stepped (stop 37 w) (A st) (M st)) (stopped notAssignable (st .sizing .begun) 0)
-    not-assignable st = step-stops (e .section) front tail marks rest spare st _ _ w (A st) (M st) 37 notAssignable (unfold refusalNumber in refl)
+    not-assignable st = step-stops (e .section) front tail rest spare st _ _ w (A st) (M st) 37 notAssignable (unfold refusalNumber in refl)
 
     -- into what a target was resolved to
     pub copy-into : (st : State) → Stands st → (x y : ExprValue) → SoundX (e .section) (count st) x → SoundX (e .section) (count st) y
         → Ends st (copyInto s t (A st) (M st) we (encX x) (encX y) next (W st) w) (on e (d.asDestination y e st) (d.copyInto x))
-    copy-into st f x (ExprValue.Local v) h g = unfold copyInto encX d.asDestination on d.copyInto in read-to s t e front tail marks rest we given spare room w next st f x v h g
+    copy-into st f x (ExprValue.Local v) h g = unfold copyInto encX d.asDestination on d.copyInto in read-to s t e front tail rest we given spare room w next st f x v h g
     copy-into st f x (ExprValue.RamRef v z) h g = unfold copyInto encX d.asDestination on d.copyInto in copy-ram st f x v z (g .1) h (g .0)
     copy-into st f x (ExprValue.BitRange v from bits) h g =
         unfold copyInto encX d.asDestination on in void-ends st (copyRange s t (A st) (M st) we (encX x) (encV v) from bits (W st)) (d.copyInto x (d.Destination.BitRange v from bits) e st) (copy-range st f x v from bits (omega (arith, g .1)) h (g .0))

@@ -36,11 +36,11 @@ module _ (e : Env) (limits : WithinLimits (e .section)) where
   statement-kept deep x within st u k q = ends-kept st (d.resolveStatement (enterOf deep) x e st) (keep-statement e limits (enterOf deep) (enters-keep deep) x within (count st) .keeps st (omega arith) k) u q
 
 module _ (s t : List ℕ) (e : Env) (front tail rest : List ℕ) (spare : ℕ) (limits : WithinLimits (e .section)) (deep : ℕ) where
-  pub steps-follow : (we : WordEnv) (p ls marks : List ℕ) (b : Beside) (st : State) (ordinal : ℕ) → Begun s t e front tail rest spare we p ls marks b st ordinal → (x : Statement) → StatementWithin x → (placing next : ℕ) (y : Walked)
-      → Steps s t e front tail rest we spare placing p ls marks b st next y (d.resolveStatement (enterOf deep) x e st)
-      → Follows s t e front tail rest we spare p ls marks b st next y (d.resolveStatement (enterOf deep) x e st)
+  pub steps-follow : (we : WordEnv) (p : List ℕ) (b : Beside) (st : State) (ordinal : ℕ) → Begun s t e front tail rest spare we p b st ordinal → (x : Statement) → StatementWithin x → (placing next : ℕ) (y : Walked)
+      → Steps t e front tail rest we spare placing b st next y (d.resolveStatement (enterOf deep) x e st)
+      → Follows t e front tail rest we spare b st next y (d.resolveStatement (enterOf deep) x e st)
   unfolding orNone orElse
-  steps-follow we p ls marks b st ordinal h x within placing next y (Steps.goes u q more c i j standing framed k l) =
-      Follows.goes u q more c i j standing (statement-kept e limits deep x within st u (h .between .kept) i) (k ∙ ap (λ (n : ℕ). n + placing) (h .between .placed) ∙ (omega (arith, l))) framed
-  steps-follow we p ls marks b st ordinal h x within placing next y (Steps.stops r q a m i j) =
+  steps-follow we p b st ordinal h x within placing next y (Steps.goes u q c i j standing framed k l) =
+      Follows.goes u q c i j standing (statement-kept e limits deep x within st u (h .between .kept) i) (k ∙ ap (λ (n : ℕ). n + placing) (h .between .placed) ∙ (omega (arith, l))) framed
+  steps-follow we p b st ordinal h x within placing next y (Steps.stops r q a m i j) =
       Follows.stops r ordinal q a m (i ∙ ap (λ (o : Option ℕ). stopped r o 0) (h .begun)) (j ∙ ap (λ (o : Option ℕ). walked (Step.Stop (refusalNumber r) (orNone o)) q a m) (h .begun))

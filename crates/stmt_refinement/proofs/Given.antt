@@ -36,22 +36,22 @@ pub record Given (s t : List ℕ) (e : Env) (front tail rest : List ℕ) (we : W
 
 -- the walk with this beside a state
 abbrev pub walkOf : Beside → WordState → Walk
-walkOf b st = record { st = st; labels = b .labels; placed = b .placed; statements = b .statements; scopes = b .scopes; export = b .export }
+walkOf b st = record { st = st; labels = b .labels; placed = b .placed; statements = b .statements; export = b .export }
 
-module _ (s t : List ℕ) (e : Env) (front tail marks rest : List ℕ) (we : WordEnv) (given : Given s t e front tail rest we) where
-  pub below : Below s t e front tail marks rest we
-  below = level-below s t e front tail marks rest we (given .lent) (given .sizes) (given .pointer)
+module _ (s t : List ℕ) (e : Env) (front tail rest : List ℕ) (we : WordEnv) (given : Given s t e front tail rest we) where
+  pub below : Below s t e front tail rest we
+  below = level-below s t e front tail rest we (given .lent) (given .sizes) (given .pointer)
 
   -- an expression of a statement
   pub expression : (p : List ℕ) (spare : ℕ) → Spare spare tail → (pos : ℕ) (x : PcodeExpr) (next : ℕ) → exprWithin (le16 s 2) 32 (drop pos s) ≡ parsed x (drop next s) → next ≤ length s
-      → (st : State) → Stood (e .section) tail marks rest spare st → Scoped s t e p front tail marks rest we st
-      → Refines (e .section) front tail marks rest spare st (λ (x : ExprValue). (encX x, next)) (SoundX (e .section))
-      (seenExpr (resolveExpr 32 s t p we pos (acts (e .section) front tail marks rest st) (temps (e .section) front tail marks rest st) (word (e .section) front tail marks rest st))) (d.resolveExpr x e st)
-  expression p spare room pos x next h i st f c = resolve-expr s t e p front tail marks rest we below (given .holds) (given .ranges) spare room (given .short) 32 (omega arith) pos x next h i st f c
+      → (st : State) → Stood (e .section) tail rest spare st → Scoped t p we st
+      → Refines (e .section) front tail rest spare st (λ (x : ExprValue). (encX x, next)) (SoundX (e .section))
+      (seenExpr (resolveExpr 32 s t p we pos (acts (e .section) front tail rest st) (temps (e .section) front tail rest st) (word (e .section) front tail rest st))) (d.resolveExpr x e st)
+  expression p spare room pos x next h i st f c = resolve-expr s t e p front tail rest we below (given .holds) (given .ranges) spare room (given .short) 32 (omega arith) pos x next h i st f c
 
   -- and its value
   pub operand-of : (p : List ℕ) (spare : ℕ) → Spare spare tail → (pos : ℕ) (x : PcodeExpr) (next : ℕ) → exprWithin (le16 s 2) 32 (drop pos s) ≡ parsed x (drop next s) → next ≤ length s
-      → (st : State) → Stood (e .section) tail marks rest spare st → Scoped s t e p front tail marks rest we st
-      → Refines (e .section) front tail marks rest spare st (λ (v : Value). (encV v, next)) (Sound (e .section))
-      (seenOperand (exprValue (resolveExpr 32 s t p we) s t we pos (acts (e .section) front tail marks rest st) (temps (e .section) front tail marks rest st) (word (e .section) front tail marks rest st))) (d.valueOf (d.resolveExpr x) e st)
-  operand-of p spare room pos x next h i st f c = value-at s t e p front tail marks rest we below (given .holds) (given .ranges) spare room (given .short) 32 (resolve-expr s t e p front tail marks rest we below (given .holds) (given .ranges) spare room (given .short) 32 (omega arith)) pos x next h i st f c
+      → (st : State) → Stood (e .section) tail rest spare st → Scoped t p we st
+      → Refines (e .section) front tail rest spare st (λ (v : Value). (encV v, next)) (Sound (e .section))
+      (seenOperand (exprValue (resolveExpr 32 s t p we) s t we pos (acts (e .section) front tail rest st) (temps (e .section) front tail rest st) (word (e .section) front tail rest st))) (d.valueOf (d.resolveExpr x) e st)
+  operand-of p spare room pos x next h i st f c = value-at s t e p front tail rest we below (given .holds) (given .ranges) spare room (given .short) 32 (resolve-expr s t e p front tail rest we below (given .holds) (given .ranges) spare room (given .short) 32 (omega arith)) pos x next h i st f c

@@ -36,21 +36,21 @@ use Rattle.stmt_refinement.proofs.Views.{beside, seenStep, begunIn, sto
 use Rattle.stmt_refinement.proofs.Operations.{no-output}
 use Rattle.stmt_refinement.proofs.Given.{Given, below}
 
-module _ (s t : List ℕ) (e : Env) (front tail marks rest : List ℕ) (we : WordEnv) (given : Given s t e front tail rest we) (spare : ℕ) (room : Spare spare tail) (w : Walk) (at-hint : ℕ) (hint : BranchHint) (is-hint : getD s (at-hint + 0) 0 ≡ d.hintNumber hint) where
+module _ (s t : List ℕ) (e : Env) (front tail rest : List ℕ) (we : WordEnv) (given : Given s t e front tail rest we) (spare : ℕ) (room : Spare spare tail) (w : Walk) (at-hint : ℕ) (hint : BranchHint) (is-hint : getD s (at-hint + 0) 0 ≡ d.hintNumber hint) where
   abbrev A : State → List ℕ
-  A st = acts (e .section) front tail marks rest st
+  A st = acts (e .section) front tail rest st
 
   abbrev M : State → List ℕ
-  M st = temps (e .section) front tail marks rest st
+  M st = temps (e .section) front tail rest st
 
   abbrev W : State → WordState
-  W st = word (e .section) front tail marks rest st
+  W st = word (e .section) front tail rest st
 
   abbrev Stands : State → Type 0
-  Stands st = Stood (e .section) tail marks rest spare st
+  Stands st = Stood (e .section) tail rest spare st
 
   abbrev Ends : State → Stepped → Outcome (Unit {0}) → Type 0
-  Ends st x o = Goes (e .section) front tail marks rest spare st (after at-hint 1) (beside w) (begunIn w) x o
+  Ends st x o = Goes (e .section) front tail rest spare st (after at-hint 1) (beside w) (begunIn w) x o
 
   branching : Value → Value → walks.Walk (Unit {0})
   branching cond address = walks.opNoOutput Operation.Branch (d.hintNumber hint) (cond ∷ address ∷ [])
@@ -59,8 +59,8 @@ module _ (s t : List ℕ) (e : Env) (front tail marks rest : List ℕ) (we : Wor
       → Ends st (branchTo s t (A st) (M st) we (encV cond) (encV address) at-hint (W st) w) (branching cond address e st)
   unfolding branchTo branching operationNumber firstOf secondOf kindOf at isSome
   branch-to st f cond address h g =
-      rw is-hint (step-pushed (e .section) front tail marks rest spare st _ _ (after at-hint 1) w
-      (no-output s t e front tail marks rest we (given .lent) (given .sizes) (given .pointer) spare st room (stood-more (suc spare) (omega arith) f) Operation.Branch (d.hintNumber hint) (cond ∷ address ∷ []) (omega arith) (h, (g, tt)) (refl, refl) refl))
+      rw is-hint (step-pushed (e .section) front tail rest spare st _ _ (after at-hint 1) w
+      (no-output s t e front tail rest we (given .lent) (given .sizes) (given .pointer) spare st room (stood-more (suc spare) (omega arith) f) Operation.Branch (d.hintNumber hint) (cond ∷ address ∷ []) (omega arith) (h, (g, tt)) (refl, refl) refl))
 
   abbrev addressed : Value → Value
   addressed v = definition.if_then_else_ (isKind Kind.Subtable v) (record { kind = Kind.SubtableRef; number = v .number; offset = v .offset; size = some (pointerSize (e .section)) }) v
@@ -99,7 +99,7 @@ module _ (s t : List ℕ) (e : Env) (front tail marks rest : List ℕ) (we : Wor
       go Kind.Constant m = unfold kindNumber base-opens in same Kind.Constant m
 
   no-local : (st : State) → Ends st (stepped (stop 29 w) (A st) (M st)) (stopped jumpToNonLocal (st .sizing .begun) 0)
-  no-local st = step-stops (e .section) front tail marks rest spare st _ _ w (A st) (M st) 29 jumpToNonLocal (unfold refusalNumber in refl)
+  no-local st = step-stops (e .section) front tail rest spare st _ _ w (A st) (M st) 29 jumpToNonLocal (unfold refusalNumber in refl)
 
   pub direct-is : (st : State) → Stands st → (x : ExprValue) (cond : Value) → SoundX (e .section) (count st) x → Sound (e .section) (count st) cond
       → Ends st (direct s t (A st) (M st) we (encX x) (encV cond) at-hint (W st) w) (on e (d.directAddress x e st) λ address. walks.opNoOutput Operation.Branch (d.hintNumber hint) (cond ∷ address ∷ []))
@@ -117,6 +117,6 @@ module _ (s t : List ℕ) (e : Env) (front tail marks rest : List ℕ) (we : Wor
       → Ends st (indirect s t (A st) (M st) we (encX x) (encV cond) at-hint (W st) w) (on e (expressions.readValue x none e st) λ address. walks.opNoOutput Operation.Branch (d.hintNumber hint) (cond ∷ address ∷ []))
   unfolding indirect branching
   indirect-is st f x cond h g =
-      bind-read (e .section) front tail marks rest spare spare e st (Sound (e .section)) (seenStep (begunIn w)) (λ (_ : Unit {0}). (after at-hint 1, beside w)) (λ n (_ : Unit {0}). Unit {0}) (λ address. walks.opNoOutput Operation.Branch (d.hintNumber hint) (cond ∷ address ∷ [])) encV _ _ _ _
-      (read-operand s t e front tail marks rest we (below s t e front tail marks rest we given) spare room st f x h) (λ n y z. stop-seen n w y z)
+      bind-read (e .section) front tail rest spare spare e st (Sound (e .section)) (seenStep (begunIn w)) (λ (_ : Unit {0}). (after at-hint 1, beside w)) (λ n (_ : Unit {0}). Unit {0}) (λ address. walks.opNoOutput Operation.Branch (d.hintNumber hint) (cond ∷ address ∷ [])) encV _ _ _ _
+      (read-operand s t e front tail rest we (below s t e front tail rest we given) spare room st f x h) (λ n y z. stop-seen n w y z)
       λ v st1 r k. branch-to st1 (r .stood) cond v (sound-more (e .section) (count st) (count st1) (r .later .temporaries) cond g) k

@@ -5,7 +5,6 @@ pub mod Given
 pub mod Simple
 pub mod Builds
 pub mod Stores
-pub mod Locals
 pub mod ReadInto
 pub mod Copies
 pub mod Jumps
@@ -13,7 +12,7 @@ pub mod Begin
 pub mod Labels
 pub mod Standing
 pub mod Frames
-pub mod Searches
+pub mod Params
 pub mod Macros
 pub mod Stepping
 pub mod Naming

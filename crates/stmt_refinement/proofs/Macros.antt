@@ -1,15 +1,16 @@
 -- A macro's scope: what the words and the state have in common when its body begins, and again for the caller when it has
 -- ended.
-use Prim.Native.Nat.{ℕ, suc, _+_, _*_, _%_, _≤_, _<_}
+use Prim.Native.Nat.{ℕ, zero, suc, _+_, _*_, _/_, _%_, _≤_, _<_}
 use mathlib.Core.Path.{_≡_, refl, sym, _∙_, ap}
-use mathlib.Core.Logic.{_≢_, _⊎_, inl, inr}
+use mathlib.Core.Logic.{_≢_}
+use mathlib.Core.Bool.{false}
 use mathlib.Core.List.{List, [], _∷_}
 use mathlib.Core.Option.{none, some}
 use native.Mathlib.Omega.{arith}
-use lib.ListN.{length, getD, getElem?, length-set}
+use lib.ListN.{length, getD, getElem?, replicate, length-set, length-replicate}
 use lib.Seq.{getD-set-same, getD-set-other}
 use Rattle.access.specs.Le.{le16}
-use Rattle.prelude.specs.Base.{first}
+use Rattle.prelude.specs.Base.{first, if_then_else_}
 use Rattle.definition.specs.Walk.{ExprValue, Scope, State, Env, withScope}
 use Rattle.definition.specs.Scope as scope
 use Rattle.definition.specs.Scope.{find}
@@ -17,21 +18,22 @@ use Rattle.list_pushes.specs.declared.push.Env.{Env as WordEnv}
 use Rattle.access.specs.Loops.{run}
 use Rattle.list_values.specs.Values.{valueAt}
 use Rattle.list_refinement.specs.Encoding.{Each}
-use Rattle.expr_scope.specs.Scopes.{tmpLocal}
+use Rattle.expr_scope.specs.Smalls.{small}
+use Rattle.expr_scope.specs.Scopes.{Found, tmpOf, tmpLocal, lookupLocal}
 use Rattle.expr_scope.specs.Slots.{ofSlot, slotAt, paramPlace, argAt}
 use Rattle.stmt_simple.specs.Calls.{bindName, bindNames}
+use Rattle.stmt_branches.specs.Labels.{labelPlace}
 use Rattle.stmt_bodies.specs.Statements.{macroEnv}
-use Rattle.expr_refinement.proofs.Encodings.{SoundX, tmps, count, params-more, mapping-more}
-use Rattle.expr_refinement.proofs.Answers.{temps}
-use Rattle.expr_refinement.proofs.Scopes.{encF, ParamsIn, local-not, lookup-as}
+use Rattle.expr_refinement.proofs.Encodings.{SoundX, count, params-more, mapping-more}
+use Rattle.expr_refinement.proofs.Expressions.{filledArgs, filled-behind}
+use Rattle.expr_refinement.proofs.Start.{none-small}
+use Rattle.expr_refinement.proofs.Scopes.{encF, ParamsIn}
 use Rattle.expr_refinement.proofs.Calls.{ArgsIn}
 use Rattle.stmt_refinement.proofs.Views.{Beside}
-use Rattle.stmt_refinement.proofs.Standing.{labelScope, Standing, Framed}
-use Rattle.stmt_refinement.proofs.Searches.{params-same, locals-none, labels-longer, labels-none}
-
--- what is beside a walk in the scope that a macro call opens
-abbrev pub opening : Beside → Beside
-opening b = record { labels = b .labels; placed = b .placed; statements = b .statements; scopes = b .scopes + 1; export = b .export }
+use Rattle.stmt_refinement.proofs.Standing.{Standing, Framed}
+use Rattle.stmt_refinement.proofs.Params.{params-same}
+use Rattle.stmt_refinement.proofs.Labels.{labelNumber, labels-more}
+use Rattle.stmt_refinement.proofs.UserOps.{filled-long}
 
 -- Parameters: argument i gets the name of parameter i.
 
@@ -98,6 +100,34 @@ module _ (s : List ℕ) (names : ℕ) where
   unfolding bindNames
   bound-in ns xs args few same long named g = bound-from ns xs 0 [] args refl (omega arith) same long (λ j k. named j k ∙ (let z : j ≡ 0 + j = omega arith in ap (λ (i : ℕ). some (le16 s (names + 2 * i))) z)) g tt
 
+-- A macro's scope as its body begins: its parameters are bound, and there is no local and no label.
+pub record Fresh (p : List ℕ) : Type 0 where
+  pub long : length p ≡ 406
+  pub nothing : (i : ℕ) → small p i ≡ 0
+
+-- what stands behind the slots stays
+name-behind : (s : List ℕ) (names i : ℕ) (args : List ℕ) (j : ℕ) → 64 ≤ j → getD (bindName s names i args) j 0 ≡ getD args j 0
+unfolding bindName paramPlace
+name-behind s names i args j h = getD-set-other args (i % 8 * 8 + 0) j (le16 s (names + i % 8 * 2)) 0 (λ q. omega arith)
+
+names-behind : (s : List ℕ) (names n i : ℕ) (args : List ℕ) (j : ℕ) → 64 ≤ j → getD (run n i (bindName s names) args) j 0 ≡ getD args j 0
+unfolding run
+names-behind s names zero i args j h = refl
+names-behind s names (suc n) i args j h = names-behind s names n (suc i) (bindName s names i args) j h ∙ name-behind s names i args j h
+
+names-length : (s : List ℕ) (names n i : ℕ) (args : List ℕ) → length (run n i (bindName s names) args) ≡ length args
+unfolding run
+names-length s names zero i args = refl
+names-length s names (suc n) i args = names-length s names n (suc i) (bindName s names i args) ∙ name-length s names i args
+
+-- the arguments of a call, with the names of the parameters, in words that were all 0
+pub bound-fresh : (s : List ℕ) (names n : ℕ) (xs : List ExprValue) → Fresh (bindNames n s names (filledArgs (replicate 406 0) 0 xs))
+unfolding bindNames small
+bound-fresh s names n xs = record {
+  long = names-length s names n 0 (filledArgs (replicate 406 0) 0 xs) ∙ filled-long xs (replicate 406 0) 0 ∙ length-replicate {A = ℕ} 406 0;
+  nothing = λ i. rw (names-behind s names n 0 (filledArgs (replicate 406 0) 0 xs) (64 + i / 6) (omega arith), filled-behind xs (replicate 406 0) 0 (64 + i / 6) (omega arith)) (unfold small in none-small 406 i);
+}
+
 pub bound-count : (ns : List ℕ) (xs : List ExprValue) (bound : List (ℕ × ExprValue)) → length xs ≡ length ns → length (scope.bindParams ns xs bound) ≡ length ns + length bound
 unfolding scope.bindParams
 bound-count [] xs bound h = omega arith
@@ -110,115 +140,50 @@ bound-each P [] xs bound f g = g
 bound-each P (n ∷ ns) [] bound f g = g
 bound-each P (n ∷ ns) (x ∷ xs) bound f g = bound-each P ns xs ((n, x) ∷ bound) (f .1) (f .0, g)
 
--- The scope of a macro call: its parameters stand in the words of its own call.
-module _ (s t : List ℕ) (e : Env) (front tail rest : List ℕ) (we : WordEnv) (spare n : ℕ)
-    (p ls marks : List ℕ) (b : Beside) (st : State) (standing : Standing s t e front tail rest we spare p ls marks b st) (x : Scope) (args : List ℕ) where
-  abbrev own : WordEnv
-  own = macroEnv (b .scopes + 1) n we
-
-  abbrev inner : State
-  inner = withScope x st
-
-  few : b .scopes ≤ 4096
-  few = omega (arith, standing .scopes, standing .counted)
-
-  not-own : (j : ℕ) → j < b .labels → labelScope ls j ≢ b .scopes + 1
-  not-own j h z = let a = standing .opened j h in absurd (omega arith)
-
+module _ (s t : List ℕ) (e : Env) (tail rest : List ℕ) (we : WordEnv) (spare n : ℕ) (p : List ℕ) (b : Beside) (st : State) (standing : Standing t e tail rest we spare p b st) (x : Scope) where
   -- what the words and the state have in common when the body begins
-  module _ (opens : b .scopes < b .statements) (params : ParamsIn args (x .params)) (counted : n ≡ length (x .params))
-      (sound : Each (λ (y : ℕ × ExprValue). SoundX (e .section) (count st) (y .1)) (x .params)) (mapping : x .mapping ≡ []) (labels : x .labels ≡ []) where
-    nothing : (name : ℕ) → find name (x .mapping) ≡ none
-    nothing name = rw mapping (unfold find first in refl)
+  pub entered-standing : (q : List ℕ) → Fresh q → ParamsIn q (x .params) → n ≡ length (x .params) → Each (λ (y : ℕ × ExprValue). SoundX (e .section) (count st) (y .1)) (x .params) → x .mapping ≡ [] → x .labels ≡ []
+      → Standing t e tail rest (macroEnv n we) spare q b (withScope x st)
+  entered-standing q fresh params counted sound mapping labels = let f = standing .stood in record {
+    stood = record { actions = f .actions; temporaries = f .temporaries; sizes = f .sizes; errors = f .errors; sound = f .sound; params = sound; mapping = rw mapping tt };
+    scoped = record { params = params; counted = counted; locals = λ name k. rw (nothing name, no-local name) (unfold encF in refl) };
+    labelled = rw labels (record { same = λ name k. fresh .nothing (labelPlace name) ∙ (unfold find first labelNumber in refl); below = λ name l d. let z : _≡_ {A = ℕ} 0 1 = (unfold find first in cc) in absurd (omega arith) });
+    labels = standing .labels;
+    few = standing .few;
+    statements = standing .statements;
+    export = standing .export;
+    exportSound = standing .exportSound;
+    long = fresh .long;
+  }
+    where
+      nothing : (name : ℕ) → find name (x .mapping) ≡ none
+      nothing name = rw mapping (unfold find first in refl)
 
-    pub entered-standing : Standing s t e front tail rest own spare args ls marks (opening b) inner
-    entered-standing = record {
+      no-local : (name : ℕ) → lookupLocal t q false name ≡ Found.Nothing
+      no-local name = unfold lookupLocal tmpLocal tmpOf if_then_else_ in rw (fresh .nothing (name % 1024))
+
+  -- the body has ended: the caller's scope is as it was
+  module _ (q : List ℕ) (c : Beside) (u : State) (stands : Standing t e tail rest (macroEnv n we) spare q c u) (framed : Framed b (withScope x st) c u) where
+    pub returned-standing : Standing t e tail rest we spare p c (withScope (st .scope) u)
+    returned-standing = let f = stands .stood in record {
       stood = record {
-        actions = standing .stood .actions;
-        temporaries = standing .stood .temporaries;
-        marked = standing .stood .marked;
-        sizes = standing .stood .sizes;
-        sound = standing .stood .sound;
-        errors = standing .stood .errors;
-        params = sound;
-        mapping = rw mapping tt;
-      };
-      scoped = record {
-        params = params;
-        counted = counted;
-        locals = λ name k. locals-none t (temps (e .section) front tail marks rest st) name (b .scopes + 1) (count st) (omega arith)
-            (λ j l. local-not marks rest (tmps st) j name (b .scopes + 1) l (standing .stood .sizes) k (inr (λ z. let a = standing .marked j in omega arith)))
-            ∙ (rw (nothing name) (unfold encF in refl));
-      };
-      labelled = rw labels (labels-none ls (b .scopes + 1) (b .labels) (omega (arith, few)) not-own);
-      labels = standing .labels;
-      few = standing .few;
-      statements = standing .statements;
-      export = standing .export;
-      exportSound = standing .exportSound;
-      long = standing .long;
-      counted = standing .counted;
-      scopes = omega arith;
-      own = omega arith;
-      marked = λ i. (let a = standing .marked i in omega arith);
-      opened = λ j h. (let a = standing .opened j h in omega arith);
-    }
-
-  -- the body has ended
-  module _ (q more : List ℕ) (c : Beside) (u : State) (stands : Standing s t e front tail rest own spare args q more c u) (framed : Framed s t e front tail rest own spare ls marks (opening b) inner q more c u) where
-    old-label : (j : ℕ) → j < b .labels → getD q j 0 ≡ getD ls j 0
-    old-label j h = framed .otherLabels j h (not-own j h)
-
-    new-label : (j : ℕ) → b .labels ≤ j → j < c .labels → b .scopes < labelScope q j
-    new-label j h k = go (framed .newLabels j h k)
-      where
-        go : (labelScope q j ≡ b .scopes + 1) ⊎ (b .scopes + 1 < labelScope q j) → b .scopes < labelScope q j
-        go (inl z) = omega arith
-        go (inr z) = omega arith
-
-    old-local : (name scope : ℕ) → name < 1024 → scope ≤ b .scopes → tmpLocal (temps (e .section) front tail more rest u) (count u) name scope ≡ tmpLocal (temps (e .section) front tail marks rest st) (count st) name scope
-    old-local name scope k h = framed .locals name scope k (omega arith) (λ z. omega arith)
-
-    pub returned-standing : Standing s t e front tail rest we spare p q more c (withScope (st .scope) u)
-    returned-standing = record {
-      stood = record {
-        actions = stands .stood .actions;
-        temporaries = stands .stood .temporaries;
-        marked = stands .stood .marked;
-        sizes = stands .stood .sizes;
-        sound = stands .stood .sound;
-        errors = stands .stood .errors;
+        actions = f .actions;
+        temporaries = f .temporaries;
+        sizes = f .sizes;
+        errors = f .errors;
+        sound = f .sound;
         params = params-more (e .section) (count st) (count u) (framed .temporaries) (st .scope .params) (standing .stood .params);
         mapping = mapping-more (e .section) (count st) (count u) (framed .temporaries) (st .scope .mapping) (standing .stood .mapping);
       };
-      scoped = record {
-        params = standing .scoped .params;
-        counted = standing .scoped .counted;
-        locals = λ name k. lookup-as t (temps (e .section) front tail marks rest st) (temps (e .section) front tail more rest u) (we .scope) (count st) (count u) name (old-local name (we .scope) k (standing .own))
-            ∙ standing .scoped .locals name k;
-      };
-      labelled = labels-longer ls q (we .scope) (b .labels) (c .labels) (st .scope .labels) (omega (arith, few, standing .own)) (framed .labels) old-label
-          (λ j h k z. let a = new-label j h k in omega (arith, standing .own)) (standing .labelled);
+      scoped = record { params = standing .scoped .params; counted = standing .scoped .counted; locals = standing .scoped .locals };
+      labelled = labels-more p (b .labels) (c .labels) (st .scope .labels) (framed .labels) (standing .labelled);
       labels = stands .labels;
       few = stands .few;
       statements = stands .statements;
       export = stands .export;
       exportSound = stands .exportSound;
-      long = stands .long;
-      counted = stands .counted;
-      scopes = stands .scopes;
-      own = omega (arith, standing .own, framed .scopes);
-      marked = stands .marked;
-      opened = stands .opened;
+      long = standing .long;
     }
 
-    pub returned-framed : Framed s t e front tail rest we spare ls marks b st q more c (withScope (st .scope) u)
-    returned-framed = record {
-      labels = framed .labels;
-      oldLabels = λ j h. framed .oldLabels j h;
-      otherLabels = λ j h k. old-label j h;
-      newLabels = λ j h k. inr (new-label j h k);
-      scopes = omega (arith, framed .scopes);
-      temporaries = framed .temporaries;
-      locals = λ name scope a h k. old-local name scope a h;
-    }
+    pub returned-framed : Framed b st c (withScope (st .scope) u)
+    returned-framed = record { labels = framed .labels; temporaries = framed .temporaries }

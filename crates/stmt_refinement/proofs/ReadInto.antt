@@ -21,12 +21,12 @@ use Rattle.expr_refinement.proofs.Reading.{toOf, read-value}
 use Rattle.stmt_refinement.proofs.Views.{beside, begunIn, read-seen, Goes, step-read}
 use Rattle.stmt_refinement.proofs.Given.{Given, below}
 
-module _ (s t : List ℕ) (e : Env) (front tail marks rest : List ℕ) (we : WordEnv) (given : Given s t e front tail rest we) (spare : ℕ) (room : Spare spare tail) (w : Walk) (next : ℕ) where
+module _ (s t : List ℕ) (e : Env) (front tail rest : List ℕ) (we : WordEnv) (given : Given s t e front tail rest we) (spare : ℕ) (room : Spare spare tail) (w : Walk) (next : ℕ) where
   -- what an expression means, read into a target
-  pub read-to : (st : State) → Stood (e .section) tail marks rest spare st → (x : ExprValue) (to : Value) → SoundX (e .section) (count st) x → Sound (e .section) (count st) to
-      → Goes (e .section) front tail marks rest spare st next (beside w) (begunIn w)
-      (stepRead (readValue s t (acts (e .section) front tail marks rest st) (temps (e .section) front tail marks rest st) we (encX x) true (encV to) (word (e .section) front tail marks rest st)) (readThen next w)) (d.readTo x to e st)
+  pub read-to : (st : State) → Stood (e .section) tail rest spare st → (x : ExprValue) (to : Value) → SoundX (e .section) (count st) x → Sound (e .section) (count st) to
+      → Goes (e .section) front tail rest spare st next (beside w) (begunIn w)
+      (stepRead (readValue s t (acts (e .section) front tail rest st) (temps (e .section) front tail rest st) we (encX x) true (encV to) (word (e .section) front tail rest st)) (readThen next w)) (d.readTo x to e st)
   unfolding d.readTo isSome toOf
   read-to st f x to h g =
-      step-read (e .section) front tail marks rest spare e st encV (Sound (e .section)) (seenRead (readValue s t (acts (e .section) front tail marks rest st) (temps (e .section) front tail marks rest st) we (encX x) true (encV to) (word (e .section) front tail marks rest st))) _ (expressions.readValue x (some to) e st) next (beside w) (begunIn w)
-      (read-value s t e front tail marks rest we (below s t e front tail marks rest we given) spare room st f x (some to) h g) (read-seen _ next w)
+      step-read (e .section) front tail rest spare e st encV (Sound (e .section)) (seenRead (readValue s t (acts (e .section) front tail rest st) (temps (e .section) front tail rest st) we (encX x) true (encV to) (word (e .section) front tail rest st))) _ (expressions.readValue x (some to) e st) next (beside w) (begunIn w)
+      (read-value s t e front tail rest we (below s t e front tail rest we given) spare room st f x (some to) h g) (read-seen _ next w)

@@ -50,36 +50,36 @@ abbrev computed : Value → Export
 computed v = record { kind = ExportKind.PlainValue; value = v; accessSize = 0 }
 
 abbrev computedIn : Walk → WordValue → Beside
-computedIn w v = record { labels = w .labels; placed = w .placed; statements = w .statements; scopes = w .scopes; export = record { kind = 1; v = v; size = 0 } }
+computedIn w v = record { labels = w .labels; placed = w .placed; statements = w .statements; export = record { kind = 1; v = v; size = 0 } }
 
 export-seen : (x : ReadOut) (next : ℕ) (w : Walk) → seenStep (begunIn w) (stepRead x (exportValue next w)) ≡ mapSeen (λ v. (next, computedIn w v)) (seenRead x)
 unfolding seenStep stepRead exportValue mapSeen seenRead if_then_else_
 export-seen (read (Read.Value v st) a m) next w = refl
 export-seen (read (Read.No n) a m) next w = rw (eq-eqb (begunIn w) (begunIn w) refl)
 
-module _ (s t : List ℕ) (e : Env) (front tail marks rest : List ℕ) (we : WordEnv) (given : Given s t e front tail rest we) (spare : ℕ) (room : Spare spare tail) (b : Beside) where
+module _ (s t : List ℕ) (e : Env) (front tail rest : List ℕ) (we : WordEnv) (given : Given s t e front tail rest we) (spare : ℕ) (room : Spare spare tail) (b : Beside) where
   abbrev A : State → List ℕ
-  A st = acts (e .section) front tail marks rest st
+  A st = acts (e .section) front tail rest st
 
   abbrev M : State → List ℕ
-  M st = temps (e .section) front tail marks rest st
+  M st = temps (e .section) front tail rest st
 
   abbrev W : State → WordState
-  W st = word (e .section) front tail marks rest st
+  W st = word (e .section) front tail rest st
 
   abbrev Stands : State → Type 0
-  Stands st = Stood (e .section) tail marks rest spare st
+  Stands st = Stood (e .section) tail rest spare st
 
   pub unimplemented-is : (st : State) → Stands st → (pos : ℕ)
-      → Goes (e .section) front tail marks rest spare st (after pos 1) b (orNone (st .sizing .begun)) (unimplemented s t (A st) (M st) we pos (walkOf b (W st))) (walks.opNoOutput Operation.Invalid 0 [] e st)
+      → Goes (e .section) front tail rest spare st (after pos 1) b (orNone (st .sizing .begun)) (unimplemented s t (A st) (M st) we pos (walkOf b (W st))) (walks.opNoOutput Operation.Invalid 0 [] e st)
   unfolding unimplemented
   unimplemented-is st f pos =
-      step-pushed (e .section) front tail marks rest spare st _ _ (after pos 1) (walkOf b (W st))
-      (unfold operationNumber firstOf secondOf kindOf in no-output s t e front tail marks rest we (given .lent) (given .sizes) (given .pointer) spare st room (stood-more (suc spare) (omega arith) f) Operation.Invalid 0 [] (omega arith) tt tt refl)
+      step-pushed (e .section) front tail rest spare st _ _ (after pos 1) (walkOf b (W st))
+      (unfold operationNumber firstOf secondOf kindOf in no-output s t e front tail rest we (given .lent) (given .sizes) (given .pointer) spare st room (stood-more (suc spare) (omega arith) f) Operation.Invalid 0 [] (omega arith) tt tt refl)
 
   -- the export, beside a state that has it not yet
   abbrev pub Exports : State → ℕ → ℕ → Stepped → Outcome Export → Type 0
-  Exports st next begun x o = Refines (e .section) front tail marks rest spare st (λ (x : Export). (next, withExported x b)) (SoundExport (e .section)) (seenStep begun x) o
+  Exports st next begun x o = Refines (e .section) front tail rest spare st (λ (x : Export). (next, withExported x b)) (SoundExport (e .section)) (seenStep begun x) o
 
   module _ (from : State) (next : ℕ) where
     abbrev w : Walk
@@ -89,16 +89,16 @@ module _ (s t : List ℕ) (e : Env) (front tail marks rest : List ℕ) (we : Wor
         → Exports st next (begunIn w) (exportRead s t (A st) (M st) we (encX x) next (W st) w) (on e (expressions.readValue x none e st) λ v. λ e1 st1. done (computed v) st1)
     unfolding exportRead exportKindNumber
     read-export st f x h =
-        refines-map (e .section) front tail marks rest spare e st (λ (v : Value). (next, computedIn w (encV v))) (Sound (e .section)) (λ (x : Export). (next, withExported x b)) (SoundExport (e .section)) computed _ (expressions.readValue x none e st)
-        (refines-as (e .section) front tail marks rest spare st encV (Sound (e .section)) (λ v. (next, computedIn w v)) (seenRead (readOperand s t (A st) (M st) we (encX x) (W st))) _ (expressions.readValue x none e st)
-        (read-operand s t e front tail marks rest we (below s t e front tail marks rest we given) spare room st f x h) (export-seen (readOperand s t (A st) (M st) we (encX x) (W st)) next w))
+        refines-map (e .section) front tail rest spare e st (λ (v : Value). (next, computedIn w (encV v))) (Sound (e .section)) (λ (x : Export). (next, withExported x b)) (SoundExport (e .section)) computed _ (expressions.readValue x none e st)
+        (refines-as (e .section) front tail rest spare st encV (Sound (e .section)) (λ v. (next, computedIn w v)) (seenRead (readOperand s t (A st) (M st) we (encX x) (W st))) _ (expressions.readValue x none e st)
+        (read-operand s t e front tail rest we (below s t e front tail rest we given) spare room st f x h) (export-seen (readOperand s t (A st) (M st) we (encX x) (W st)) next w))
         (λ v. refl) (λ n v g. record { value = g; size = omega arith })
 
     export-of : (st : State) → Stands st → (x : ExprValue) → SoundX (e .section) (count st) x
         → Exports st next (begunIn w) (exportOf s t (A st) (M st) we (encX x) next (W st) w) (d.exportOf x (d.asReference x) e st)
     unfolding exportOf d.exportOf d.exported d.asReference exportKindNumber encX seenStep
-    export-of st f (ExprValue.RamRef v z) h = refines-done (e .section) front tail marks rest spare st (λ (x : Export). (next, withExported x b)) (SoundExport (e .section)) (record { kind = ExportKind.RamRef; value = v; accessSize = z }) (next, withExported (record { kind = ExportKind.RamRef; value = v; accessSize = z }) b) f (record { value = h .0; size = h .1 }) refl
-    export-of st f (ExprValue.RegisterRef v z) h = refines-done (e .section) front tail marks rest spare st (λ (x : Export). (next, withExported x b)) (SoundExport (e .section)) (record { kind = ExportKind.RegisterRef; value = v; accessSize = z }) (next, withExported (record { kind = ExportKind.RegisterRef; value = v; accessSize = z }) b) f (record { value = h .0; size = h .1 }) refl
+    export-of st f (ExprValue.RamRef v z) h = refines-done (e .section) front tail rest spare st (λ (x : Export). (next, withExported x b)) (SoundExport (e .section)) (record { kind = ExportKind.RamRef; value = v; accessSize = z }) (next, withExported (record { kind = ExportKind.RamRef; value = v; accessSize = z }) b) f (record { value = h .0; size = h .1 }) refl
+    export-of st f (ExprValue.RegisterRef v z) h = refines-done (e .section) front tail rest spare st (λ (x : Export). (next, withExported x b)) (SoundExport (e .section)) (record { kind = ExportKind.RegisterRef; value = v; accessSize = z }) (next, withExported (record { kind = ExportKind.RegisterRef; value = v; accessSize = z }) b) f (record { value = h .0; size = h .1 }) refl
     export-of st f (ExprValue.Local v) h = read-export st f (ExprValue.Local v) h
     export-of st f (ExprValue.Unbound v) h = read-export st f (ExprValue.Unbound v) h
     export-of st f (ExprValue.Const n z) h = read-export st f (ExprValue.Const n z) h
@@ -106,11 +106,11 @@ module _ (s t : List ℕ) (e : Env) (front tail marks rest : List ℕ) (we : Wor
     export-of st f (ExprValue.AddressOf v z) h = read-export st f (ExprValue.AddressOf v z) h
     export-of st f (ExprValue.BitRange v from bits) h = read-export st f (ExprValue.BitRange v from bits) h
 
-  pub export-is : (p : List ℕ) (st : State) → Stands st → Scoped s t e p front tail marks rest we st → (pos : ℕ) → pos + 1 ≤ length s → (x : Statement) (u : List ℕ) (i : ExportAt s (le16 s 2) pos x u)
+  pub export-is : (p : List ℕ) (st : State) → Stands st → Scoped t p we st → (pos : ℕ) → pos + 1 ≤ length s → (x : Statement) (u : List ℕ) (i : ExportAt s (le16 s 2) pos x u)
       → Exports st (i .value-end) (orNone (st .sizing .begun)) (exportStatement s t p (A st) (M st) we pos (walkOf b (W st))) (on e (expressions.resolveExpr (i .value) e st) λ x. d.exportOf x (d.asReference x))
   unfolding exportStatement
   export-is p st f c pos l x u i =
       rw (after-is pos 1 (omega (arith, given .short)) (omega arith))
-      (bind-expr (e .section) front tail marks rest spare spare e st (SoundX (e .section)) (seenStep (orNone (st .sizing .begun))) (λ (x : Export). (i .value-end, withExported x b)) (SoundExport (e .section)) (λ x. d.exportOf x (d.asReference x)) (λ (x : ExprValue). (encX x, i .value-end)) _ _ _ _
-      (expression s t e front tail marks rest we given p spare room (pos + 1) (i .value) (i .value-end) (i .value-reads) (i .value-inside) st f c) (λ n a m. stop-seen n (walkOf b (W st)) a m)
+      (bind-expr (e .section) front tail rest spare spare e st (SoundX (e .section)) (seenStep (orNone (st .sizing .begun))) (λ (x : Export). (i .value-end, withExported x b)) (SoundExport (e .section)) (λ x. d.exportOf x (d.asReference x)) (λ (x : ExprValue). (encX x, i .value-end)) _ _ _ _
+      (expression s t e front tail rest we given p spare room (pos + 1) (i .value) (i .value-end) (i .value-reads) (i .value-inside) st f c) (λ n a m. stop-seen n (walkOf b (W st)) a m)
       λ x st1 r h. export-of st (i .value-end) st1 (r .stood) x h)

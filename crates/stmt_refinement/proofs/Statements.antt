@@ -19,7 +19,7 @@ use Rattle.definition.specs.ActionList.{placesLabel, labelsPlaced}
 use Rattle.definition.proofs.Openers.{base-opens}
 use Rattle.definition_guarantee.specs.Limits.{StatementWithin, WithinLimits}
 use Rattle.list_pushes.specs.declared.push.Env.{Env as WordEnv}
-use Rattle.stmt_walk.specs.Walks.{Walked}
+use Rattle.stmt_walk.specs.Walks.{Walked, besideP}
 use Rattle.stmt_simple.specs.Calls.{calledOf}
 use Rattle.stmt_bodies.specs.Statements.{otherStatement, callStatement, statementBy, enterMacro}
 use Rattle.expr_refinement.proofs.Answers.{acts, temps, word}
@@ -29,7 +29,7 @@ use Rattle.stmt_refinement.proofs.Given.{walkOf}
 use Rattle.stmt_refinement.proofs.Standing.{Steps, Follows}
 use Rattle.stmt_refinement.proofs.Ends.{call-inside}
 use Rattle.stmt_refinement.proofs.StatementKinds.{labelsOf, other-statement-steps}
-use Rattle.stmt_refinement.proofs.CallKinds.{other-call-steps}
+use Rattle.stmt_refinement.proofs.CallKinds.{isMacro, other-call-steps}
 use Rattle.stmt_refinement.proofs.Bodies.{enterOf, Begun, StatementFollows, EnterFollows}
 use Rattle.stmt_refinement.proofs.MacroCalls.{macro-statement}
 use Rattle.stmt_refinement.proofs.Following.{steps-follow}
@@ -45,16 +45,16 @@ placed-few (x ∷ xs) = let h = placed-few xs in go (placesLabel x) h
     go false h = unfold base-opens in omega arith
 
 module _ (s t : List ℕ) (e : Env) (front tail rest : List ℕ) (spare : ℕ) (room : Spare spare tail) (limits : WithinLimits (e .section)) (deep : ℕ) (enters : EnterFollows s t e front tail rest spare deep)
-    (we : WordEnv) (p ls marks : List ℕ) (b : Beside) (st : State) (ordinal : ℕ) (begun : Begun s t e front tail rest spare we p ls marks b st ordinal)
+    (we : WordEnv) (p : List ℕ) (b : Beside) (st : State) (ordinal : ℕ) (begun : Begun s t e front tail rest spare we p b st ordinal)
     (pos : ℕ) (x : Statement) (next : ℕ) (reads : statement (le16 s 2) (drop pos s) ≡ parsed x (drop next s)) (starts : pos ≤ length s) (inside : next ≤ length s) (within : StatementWithin x) where
   abbrev F : Walked → Type 0
-  F y = Follows s t e front tail rest we spare p ls marks b st next y (d.resolveStatement (enterOf deep) x e st)
+  F y = Follows t e front tail rest we spare b st next y (d.resolveStatement (enterOf deep) x e st)
 
   abbrev A : List ℕ
-  A = acts (e .section) front tail marks rest st
+  A = acts (e .section) front tail rest st
 
   abbrev M : List ℕ
-  M = temps (e .section) front tail marks rest st
+  M = temps (e .section) front tail rest st
 
   few : b .placed + 1 < 2 ^ 64
   few =
@@ -63,19 +63,19 @@ module _ (s t : List ℕ) (e : Env) (front tail rest : List ℕ) (spare : ℕ) (
       let i = begun .between .placed in
       omega arith
 
-  follow : (placing : ℕ) (y : Walked) → Steps s t e front tail rest we spare placing p ls marks b st next y (d.resolveStatement (enterOf deep) x e st) → F y
-  follow placing y h = steps-follow s t e front tail rest spare limits deep we p ls marks b st ordinal begun x within placing next y h
+  follow : (placing : ℕ) (y : Walked) → Steps t e front tail rest we spare placing b st next y (d.resolveStatement (enterOf deep) x e st) → F y
+  follow placing y h = steps-follow s t e front tail rest spare limits deep we p b st ordinal begun x within placing next y h
 
-  called : getD s pos 0 ≡ 7 → (macro : Bool) → eqb (calledOf s t (le16 s (pos + 1)) .kind) 2 ≡ macro → F (callStatement (enterMacro deep s t) s t p ls A M we pos (walkOf b (word (e .section) front tail marks rest st)))
-  called c true h = macro-statement s t e front tail rest spare room limits deep enters we p ls marks b st ordinal begun pos x next reads (call-inside s (le16 s 2) pos x next reads inside c) inside within c h
-  called c false h = follow 0 _ (other-call-steps s t e p front tail marks rest we (begun .between .given) spare room b ls st (begun .between .standing) (enterOf deep) (enterMacro deep s t) pos x next reads inside c h)
+  called : getD s pos 0 ≡ 7 → (macro : Bool) → isMacro (calledOf s t (le16 s (pos + 1))) ≡ macro → F (besideP p (callStatement (enterMacro deep s t) s t p A M we pos (walkOf b (word (e .section) front tail rest st))))
+  called c true h = macro-statement s t e front tail rest spare room limits deep enters we p b st ordinal begun pos x next reads (call-inside s (le16 s 2) pos x next reads inside c) inside within c h
+  called c false h = follow 0 _ (other-call-steps s t e p front tail rest we (begun .between .given) spare room b st (begun .between .standing) (enterOf deep) (enterMacro deep s t) pos x next reads inside c h)
 
-  by-code : (call : Bool) → eqb (getD s pos 0) 7 ≡ call → F (if call then callStatement (enterMacro deep s t) s t p ls A M we pos (walkOf b (word (e .section) front tail marks rest st)) else otherStatement (getD s pos 0) s t p ls A M we pos (walkOf b (word (e .section) front tail marks rest st)))
+  by-code : (call : Bool) → eqb (getD s pos 0) 7 ≡ call → F (if call then besideP p (callStatement (enterMacro deep s t) s t p A M we pos (walkOf b (word (e .section) front tail rest st))) else otherStatement (getD s pos 0) s t p A M we pos (walkOf b (word (e .section) front tail rest st)))
   unfolding if_then_else_
-  by-code true h = called (eqb-true (getD s pos 0) 7 h) (eqb (calledOf s t (le16 s (pos + 1)) .kind) 2) refl
-  by-code false h = follow (labelsOf (getD s pos 0)) _ (other-statement-steps s t e p front tail marks rest we (begun .between .given) spare room b ls few st (begun .between .standing) (enterOf deep) pos x next reads inside h)
+  by-code true h = called (eqb-true (getD s pos 0) 7 h) (isMacro (calledOf s t (le16 s (pos + 1)))) refl
+  by-code false h = follow (labelsOf (getD s pos 0)) _ (other-statement-steps s t e p front tail rest we (begun .between .given) spare room b few st (begun .between .standing) (enterOf deep) pos x next reads inside h)
 
-  one-follows : F (statementBy (getD s (pos + 0) 0) (enterMacro deep s t) s t p we pos ls A M (walkOf b (word (e .section) front tail marks rest st)))
+  one-follows : F (statementBy (getD s (pos + 0) 0) (enterMacro deep s t) s t we pos p A M (walkOf b (word (e .section) front tail rest st)))
   unfolding statementBy
   one-follows = let z : pos + 0 ≡ pos = omega arith in rw z (by-code (eqb (getD s pos 0) 7) refl)
 

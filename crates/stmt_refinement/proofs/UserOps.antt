@@ -40,7 +40,7 @@ use Rattle.list_refinement.proofs.Seen.{Seen, no, yes, seenPush}
 use Rattle.expr_scope.specs.Slots.{slotAt, paramPlace, argAt, putArg}
 use Rattle.expr_resolver.specs.Expressions.{resolveArgs, resolveExpr}
 use Rattle.stmt_walk.specs.declared.walk.Walk.{Walk}
-use Rattle.stmt_walk.specs.Walks.{Stepped, besideL, pushedThen}
+use Rattle.stmt_walk.specs.Walks.{Stepped, besideP, pushedThen}
 use Rattle.stmt_simple.specs.Calls.{writeInput, writeInputs, ArgsRead, argsRead, readArgs, pushUserOp, userOpRead, userOpArgs, stepArgs, userOpStatement}
 use Rattle.expr_refinement.proofs.Encodings.{encX, SoundX, opAction, sound-more, x-more, each-more, each-last, placed-last, count, Stood}
 use Rattle.expr_refinement.proofs.Answers.{bind, bind-read, bind-args, acts, temps, word as stateWord, seenArgs, Reached, Refines, refines-at, refines-done, refines-stopped, refines-map, weaken}
@@ -143,18 +143,18 @@ call-is id vs e st =
     go (done a u) = unfold on in refl
     go (stopped r ordinal errors) = unfold on in refl
 
-module _ (s t : List ℕ) (e : Env) (front tail marks rest : List ℕ) (we : WordEnv) (given : Given s t e front tail rest we) (spare : ℕ) (room : Spare spare tail) where
+module _ (s t : List ℕ) (e : Env) (front tail rest : List ℕ) (we : WordEnv) (given : Given s t e front tail rest we) (spare : ℕ) (room : Spare spare tail) where
   abbrev A : State → List ℕ
-  A st = acts (e .section) front tail marks rest st
+  A st = acts (e .section) front tail rest st
 
   abbrev M : State → List ℕ
-  M st = temps (e .section) front tail marks rest st
+  M st = temps (e .section) front tail rest st
 
   abbrev W : State → WordState
-  W st = stateWord (e .section) front tail marks rest st
+  W st = stateWord (e .section) front tail rest st
 
   abbrev Stands : State → Type 0
-  Stands st = Stood (e .section) tail marks rest spare st
+  Stands st = Stood (e .section) tail rest spare st
 
   module _ (st : State) (f : Stands st) (id : ℕ) (vs : List Value) (few : length vs ≤ 8) (sound : Each (Sound (e .section) (count st)) vs) where
     abbrev called : State
@@ -163,19 +163,18 @@ module _ (s t : List ℕ) (e : Env) (front tail marks rest : List ℕ) (we : Wor
     plain : labelsPlaced (called .actions) ≡ labelsPlaced (st .actions)
     plain = placed-last (st .actions) (opAction Operation.PcodeOp id vs none) ∙ (unfold placesLabel operationOf operations-opens base-opens in omega arith)
 
-    reached : 24 * length (st .actions) + 24 ≤ length tail → Reached (e .section) front tail marks rest spare st called
+    reached : 24 * length (st .actions) + 24 ≤ length tail → Reached (e .section) front tail rest spare st called
     reached h = let n = length-append (st .actions) (opAction Operation.PcodeOp id vs none ∷ []) in record {
       stood = record {
         actions = omega arith;
         temporaries = f .temporaries;
-        marked = f .marked;
         sizes = f .sizes;
         errors = omega (arith, f .errors);
         sound = each-last _ (st .actions) (opAction Operation.PcodeOp id vs none) (f .sound) (record { inputs = sound; output = tt });
         params = f .params;
         mapping = f .mapping;
       };
-      later = record { temporaries = omega arith; names = λ i. refl; statements = refl; scope = refl; nextLabel = refl; export = refl; begun = refl; actions = omega arith; placed = plain };
+      later = record { temporaries = omega arith; statements = refl; scope = refl; nextLabel = refl; export = refl; begun = refl; actions = omega arith; placed = plain };
     }
 
     fits : leb (length (st .actions) + 1 + length (e .section .subtables)) (e .actionRoom) ≡ true → 24 * length (st .actions) + 24 ≤ length tail
@@ -185,27 +184,27 @@ module _ (s t : List ℕ) (e : Env) (front tail marks rest : List ℕ) (we : Wor
     ends = let n = length-append (st .actions) (opAction Operation.PcodeOp id vs none ∷ []) in omega arith
 
     pushed-done : (args : List ℕ) → ValuesIn args 0 vs → 24 * length (st .actions) + 24 ≤ length tail
-        → Refines (e .section) front tail marks rest spare st (λ _. tt {0}) (λ n (_ : Unit {0}). Unit {0})
+        → Refines (e .section) front tail rest spare st (λ _. tt {0}) (λ n (_ : Unit {0}). Unit {0})
         (seenPush (M st) (listed (Pushed.Done (withEnd (length front + 24 * length (st .actions) + 24) (W st))) (writeInputs (length vs) (write (A st) (length front + 24 * length (st .actions)) 0 63 id (length vs) noOutput absent absent) (length front + 24 * length (st .actions)) args))) (done tt called)
     unfolding seenPush
     pushed-done args g h =
         rw (written-behind (e .section) (count st) vs few sound id front tail (st .actions) args g h, ends)
-        (refines-at (e .section) front tail marks rest spare st called (λ _. tt {0}) (λ n (_ : Unit {0}). Unit {0}) tt tt (reached h) tt refl)
+        (refines-at (e .section) front tail rest spare st called (λ _. tt {0}) (λ n (_ : Unit {0}). Unit {0}) tt tt (reached h) tt refl)
 
     pushed-is : (args : List ℕ) → ValuesIn args 0 vs → (c : Bool) → leb (length (st .actions) + 1 + length (e .section .subtables)) (e .actionRoom) ≡ c
-        → Refines (e .section) front tail marks rest spare st (λ _. tt {0}) (λ n (_ : Unit {0}). Unit {0})
+        → Refines (e .section) front tail rest spare st (λ _. tt {0}) (λ n (_ : Unit {0}). Unit {0})
         (seenPush (M st) (onPush (if c then listed (Pushed.Done (withEnd (length front + 24 * length (st .actions) + 24) (W st))) (write (A st) (length front + 24 * length (st .actions)) 0 63 id (length vs) noOutput absent absent) else listed (Pushed.No 12) (A st))
         (λ st1 b. listed (Pushed.Done st1) (writeInputs (length vs) b (length front + 24 * length (st .actions)) args)) (λ k b. listed (Pushed.No k) b)))
         (on e (on e (require c listFull e st) λ _ e1 st1. done (tt {0}) (withAction (opAction Operation.PcodeOp id vs none) st1)) λ _ e1 st1. done (tt {0}) st1)
     pushed-is args g true c =
         unfold onPush if_then_else_ require on in pushed-done args g (fits c)
-    pushed-is args g false c = unfold onPush if_then_else_ require on seenPush in refines-stopped (e .section) front tail marks rest spare st (λ _. tt {0}) (λ n (_ : Unit {0}). Unit {0}) 12 listFull (unfold refusalNumber in refl)
+    pushed-is args g false c = unfold onPush if_then_else_ require on seenPush in refines-stopped (e .section) front tail rest spare st (λ _. tt {0}) (λ n (_ : Unit {0}). Unit {0}) 12 listFull (unfold refusalNumber in refl)
 
     -- the action pushed, and its inputs written
     user-op-pushed : (args : List ℕ) → ValuesIn args 0 vs
-        → Refines (e .section) front tail marks rest spare st (λ _. tt {0}) (λ n (_ : Unit {0}). Unit {0}) (seenPush (M st) (pushUserOp (A st) args id (length vs) (W st))) (walks.opNoOutput Operation.PcodeOp id vs e st)
+        → Refines (e .section) front tail rest spare st (λ _. tt {0}) (λ n (_ : Unit {0}). Unit {0}) (seenPush (M st) (pushUserOp (A st) args id (length vs) (W st))) (walks.opNoOutput Operation.PcodeOp id vs e st)
     unfolding pushUserOp push walks.push
-    user-op-pushed args g = rw (call-is id vs e st, push-test e st front tail marks rest (given .lent) (record { actions = f .actions; temporaries = f .temporaries; marked = f .marked; sizes = f .sizes })) (unfold on in pushed-is args g (leb (length (st .actions) + 1 + length (e .section .subtables)) (e .actionRoom)) refl)
+    user-op-pushed args g = rw (call-is id vs e st, push-test e st front tail rest (given .lent) (record { actions = f .actions; temporaries = f .temporaries; sizes = f .sizes })) (unfold on in pushed-is args g (leb (length (st .actions) + 1 + length (e .section .subtables)) (e .actionRoom)) refl)
 
 -- Arguments read in place: a slot's value is written over, the other slots stay.
 
@@ -274,7 +273,7 @@ unfoldable seenArgsRead : ArgsRead → Seen (List ℕ)
 seenArgsRead (argsRead (Pushed.Done st) a m args) = yes args st a m
 seenArgsRead (argsRead (Pushed.No n) a m args) = no n
 
-module _ (s t : List ℕ) (e : Env) (front tail marks rest : List ℕ) (we : WordEnv) (given : Given s t e front tail rest we) (spare : ℕ) (room : Spare spare tail) where
+module _ (s t : List ℕ) (e : Env) (front tail rest : List ℕ) (we : WordEnv) (given : Given s t e front tail rest we) (spare : ℕ) (room : Spare spare tail) where
   -- as many values as there were arguments
   abbrev ReadAll : ℕ → ℕ → List Value → Type 0
   ReadAll k n vs = Each (Sound (e .section) n) vs × (length vs ≡ k)
@@ -282,18 +281,18 @@ module _ (s t : List ℕ) (e : Env) (front tail marks rest : List ℕ) (we : Wor
   abbrev ReadBehind : Value → ℕ → ℕ → List Value → Type 0
   ReadBehind v k n vs = (ws : List Value) × (vs ≡ v ∷ ws) × ReadAll k n ws
 
-  read-args : (xs : List ExprValue) (i : ℕ) (args : List ℕ) → i + length xs ≤ 8 → ArgsIn args i xs → (st : State) → Stood (e .section) tail marks rest spare st → Each (SoundX (e .section) (count st)) xs
-      → Refines (e .section) front tail marks rest spare st (readInto args i) (ReadAll (length xs))
-      (seenArgsRead (readArgs (length xs) i s t (acts (e .section) front tail marks rest st) (temps (e .section) front tail marks rest st) args we (stateWord (e .section) front tail marks rest st))) (expressions.readAll xs e st)
+  read-args : (xs : List ExprValue) (i : ℕ) (args : List ℕ) → i + length xs ≤ 8 → ArgsIn args i xs → (st : State) → Stood (e .section) tail rest spare st → Each (SoundX (e .section) (count st)) xs
+      → Refines (e .section) front tail rest spare st (readInto args i) (ReadAll (length xs))
+      (seenArgsRead (readArgs (length xs) i s t (acts (e .section) front tail rest st) (temps (e .section) front tail rest st) args we (stateWord (e .section) front tail rest st))) (expressions.readAll xs e st)
   unfolding readArgs expressions.readAll seenArgsRead
-  read-args [] i args h g st f k = unfold readInto in refines-done (e .section) front tail marks rest spare st (readInto args i) (ReadAll 0) [] args f (tt, refl) refl
+  read-args [] i args h g st f k = unfold readInto in refines-done (e .section) front tail rest spare st (readInto args i) (ReadAll 0) [] args f (tt, refl) refl
   read-args (x ∷ xs) i args h g st f k =
       rw (g .0)
-      (bind-read (e .section) front tail marks rest spare spare e st (Sound (e .section)) seenArgsRead (readInto args i) (ReadAll (suc (length xs))) (λ v e1 st1. on e1 (expressions.readAll xs e1 st1) λ vs e2 st2. done (v ∷ vs) st2) encV _ _ _ _
-      (read-operand s t e front tail marks rest we (below s t e front tail marks rest we given) spare room st f x (k .0)) (λ n a m. refl)
+      (bind-read (e .section) front tail rest spare spare e st (Sound (e .section)) seenArgsRead (readInto args i) (ReadAll (suc (length xs))) (λ v e1 st1. on e1 (expressions.readAll xs e1 st1) λ vs e2 st2. done (v ∷ vs) st2) encV _ _ _ _
+      (read-operand s t e front tail rest we (below s t e front tail rest we given) spare room st f x (k .0)) (λ n a m. refl)
       λ v st1 r p.
-      weaken (e .section) front tail marks rest spare spare st1 (readInto args i) (ReadBehind v (length xs)) (ReadAll (suc (length xs))) _ _
-      (refines-map (e .section) front tail marks rest spare e st1 (readInto (putValue args (paramPlace i) 4 (encV v)) (suc i)) (ReadAll (length xs)) (readInto args i) (ReadBehind v (length xs)) (λ vs. v ∷ vs) _ _
+      weaken (e .section) front tail rest spare spare st1 (readInto args i) (ReadBehind v (length xs)) (ReadAll (suc (length xs))) _ _
+      (refines-map (e .section) front tail rest spare e st1 (readInto (putValue args (paramPlace i) 4 (encV v)) (suc i)) (ReadAll (length xs)) (readInto args i) (ReadBehind v (length xs)) (λ vs. v ∷ vs) _ _
       (read-args xs (suc i) (putValue args (paramPlace i) 4 (encV v)) (omega arith) (args-kept xs args i (suc i) (encV v) (omega arith) (omega arith) (g .1)) st1 (r .stood)
       (each-more (SoundX (e .section) (count st)) (SoundX (e .section) (count st1)) (x-more (e .section) (count st) (count st1) (r .later .temporaries)) xs (k .1)))
       (λ vs. unfold readInto in refl) (λ n vs q. (vs, refl, q)))
@@ -304,7 +303,7 @@ module _ (s t : List ℕ) (e : Env) (front tail marks rest : List ℕ) (we : Wor
     w = walkOf b z
 
     abbrev Ends : State → Stepped → Outcome (Unit {0}) → Type 0
-    Ends st x o = Goes (e .section) front tail marks rest spare st next b (z .sizing .begun) x o
+    Ends st x o = Goes (e .section) front tail rest spare st next b (z .sizing .begun) x o
 
     push-args : (y : Listed Pushed) (m args : List ℕ) → seenStep (begunIn w) (stepArgs (thenL y λ r c. argsRead r c m args) (pushedThen next w)) ≡ mapSeen (λ _. (next, b)) (seenPush m y)
     unfolding seenStep stepArgs thenL pushedThen mapSeen seenPush if_then_else_
@@ -315,24 +314,24 @@ module _ (s t : List ℕ) (e : Env) (front tail marks rest : List ℕ) (we : Wor
     pushing k args st a m = stepArgs (thenL (pushUserOp a args id k st) λ r c. argsRead r c m args) (pushedThen next w)
 
     -- the arguments read and pushed
-    read-pushed : (xs : List ExprValue) → length xs ≤ 8 → (args : List ℕ) → length args ≡ 64 → ArgsIn args 0 xs → (st : State) → Stood (e .section) tail marks rest spare st → Each (SoundX (e .section) (count st)) xs
-        → Ends st (stepArgs (userOpArgs s t (acts (e .section) front tail marks rest st) (temps (e .section) front tail marks rest st) args id (length xs) we (stateWord (e .section) front tail marks rest st)) (pushedThen next w)) (on e (expressions.readAll xs e st) λ vs. walks.opNoOutput Operation.PcodeOp id vs)
+    read-pushed : (xs : List ExprValue) → length xs ≤ 8 → (args : List ℕ) → length args ≡ 64 → ArgsIn args 0 xs → (st : State) → Stood (e .section) tail rest spare st → Each (SoundX (e .section) (count st)) xs
+        → Ends st (stepArgs (userOpArgs s t (acts (e .section) front tail rest st) (temps (e .section) front tail rest st) args id (length xs) we (stateWord (e .section) front tail rest st)) (pushedThen next w)) (on e (expressions.readAll xs e st) λ vs. walks.opNoOutput Operation.PcodeOp id vs)
     unfolding userOpArgs
     read-pushed xs few args long g st f k =
-        bind (e .section) front tail marks rest spare spare e st (readInto args 0) (ReadAll (length xs)) (seenStep (begunIn w)) (λ (_ : Unit {0}). (next, b)) (λ n (_ : Unit {0}). Unit {0}) (λ vs. walks.opNoOutput Operation.PcodeOp id vs)
-        (seenArgsRead (readArgs (length xs) 0 s t (acts (e .section) front tail marks rest st) (temps (e .section) front tail marks rest st) args we (stateWord (e .section) front tail marks rest st))) (expressions.readAll xs e st) _ (pushing (length xs))
+        bind (e .section) front tail rest spare spare e st (readInto args 0) (ReadAll (length xs)) (seenStep (begunIn w)) (λ (_ : Unit {0}). (next, b)) (λ n (_ : Unit {0}). Unit {0}) (λ vs. walks.opNoOutput Operation.PcodeOp id vs)
+        (seenArgsRead (readArgs (length xs) 0 s t (acts (e .section) front tail rest st) (temps (e .section) front tail rest st) args we (stateWord (e .section) front tail rest st))) (expressions.readAll xs e st) _ (pushing (length xs))
         (read-args xs 0 args (omega arith) g st f k)
         (λ vs st2 r q. pushed-step vs st2 r (q .0) (q .1))
-        (go (readArgs (length xs) 0 s t (acts (e .section) front tail marks rest st) (temps (e .section) front tail marks rest st) args we (stateWord (e .section) front tail marks rest st)))
-        (stays (readArgs (length xs) 0 s t (acts (e .section) front tail marks rest st) (temps (e .section) front tail marks rest st) args we (stateWord (e .section) front tail marks rest st)))
+        (go (readArgs (length xs) 0 s t (acts (e .section) front tail rest st) (temps (e .section) front tail rest st) args we (stateWord (e .section) front tail rest st)))
+        (stays (readArgs (length xs) 0 s t (acts (e .section) front tail rest st) (temps (e .section) front tail rest st) args we (stateWord (e .section) front tail rest st)))
       where
-        pushed-step : (vs : List Value) (st2 : State) → Reached (e .section) front tail marks rest spare st st2 → Each (Sound (e .section) (count st2)) vs → length vs ≡ length xs
-            → Ends st2 (pushing (length xs) (readInto args 0 vs) (stateWord (e .section) front tail marks rest st2) (acts (e .section) front tail marks rest st2) (temps (e .section) front tail marks rest st2)) (walks.opNoOutput Operation.PcodeOp id vs e st2)
+        pushed-step : (vs : List Value) (st2 : State) → Reached (e .section) front tail rest spare st st2 → Each (Sound (e .section) (count st2)) vs → length vs ≡ length xs
+            → Ends st2 (pushing (length xs) (readInto args 0 vs) (stateWord (e .section) front tail rest st2) (acts (e .section) front tail rest st2) (temps (e .section) front tail rest st2)) (walks.opNoOutput Operation.PcodeOp id vs e st2)
         pushed-step vs st2 r q l =
             rw (← l)
-            (refines-as (e .section) front tail marks rest spare st2 (λ _. tt {0}) (λ n (_ : Unit {0}). Unit {0}) (λ _. (next, b)) _ _ (walks.opNoOutput Operation.PcodeOp id vs e st2)
-            (user-op-pushed s t e front tail marks rest we given spare room st2 (r .stood) id vs (omega arith) q (readInto args 0 vs) (read-values (e .section) (count st2) vs args 0 long (omega arith) q))
-            (push-args (pushUserOp (acts (e .section) front tail marks rest st2) (readInto args 0 vs) id (length vs) (stateWord (e .section) front tail marks rest st2)) (temps (e .section) front tail marks rest st2) (readInto args 0 vs)))
+            (refines-as (e .section) front tail rest spare st2 (λ _. tt {0}) (λ n (_ : Unit {0}). Unit {0}) (λ _. (next, b)) _ _ (walks.opNoOutput Operation.PcodeOp id vs e st2)
+            (user-op-pushed s t e front tail rest we given spare room st2 (r .stood) id vs (omega arith) q (readInto args 0 vs) (read-values (e .section) (count st2) vs args 0 long (omega arith) q))
+            (push-args (pushUserOp (acts (e .section) front tail rest st2) (readInto args 0 vs) id (length vs) (stateWord (e .section) front tail rest st2)) (temps (e .section) front tail rest st2) (readInto args 0 vs)))
 
         go : (y : ArgsRead) (d : List ℕ) (st1 : WordState) (a m : List ℕ) → seenArgsRead y ≡ yes d st1 a m → seenStep (begunIn w) (stepArgs (userOpRead id (length xs) y) (pushedThen next w)) ≡ seenStep (begunIn w) (pushing (length xs) d st1 a m)
         go (argsRead (Pushed.Done st3) c u args1) d st1 a m h = unfold seenArgsRead userOpRead in (let i : args1 ≡ d = cc in let j : st3 ≡ st1 = cc in let k : c ≡ a = cc in let l : u ≡ m = cc in rw (i, j, k, l))
@@ -348,39 +347,39 @@ filled-long [] args i = refl
 filled-long (x ∷ xs) args i = filled-long xs (putArg args i (encX x)) (suc i) ∙ arg-length args i (encX x)
 
 -- a user op called with the arguments that stand at a position
-module _ (s t : List ℕ) (e : Env) (p front tail marks rest : List ℕ) (we : WordEnv) (given : Given s t e front tail rest we) (spare : ℕ) (room : Spare spare tail) (b : Beside) (ls : List ℕ)
-    (from : State) (stand : Standing s t e front tail rest we spare p ls marks b from)
+module _ (s t : List ℕ) (e : Env) (p front tail rest : List ℕ) (we : WordEnv) (given : Given s t e front tail rest we) (spare : ℕ) (room : Spare spare tail) (b : Beside)
+    (from : State) (stand : Standing t e tail rest we spare p b from)
     (pos n : ℕ) (args : Args) (next : ℕ) (reads : argsOf (exprWithin (le16 s 2) 32) n (drop (pos + 4) s) ≡ parsed args (drop next s)) (few : n < 9) (starts : pos + 4 ≤ length s) (inside : next ≤ length s) (id : ℕ) where
   abbrev A2 : List ℕ
-  A2 = acts (e .section) front tail marks rest from
+  A2 = acts (e .section) front tail rest from
 
   abbrev M2 : List ℕ
-  M2 = temps (e .section) front tail marks rest from
+  M2 = temps (e .section) front tail rest from
 
   abbrev W2 : WordState
-  W2 = stateWord (e .section) front tail marks rest from
+  W2 = stateWord (e .section) front tail rest from
 
   abbrev ArgsDone : ℕ → List ExprValue → Type 0
   ArgsDone k xs = Each (SoundX (e .section) k) xs × (length xs ≡ n)
 
-  args-are : Refines (e .section) front tail marks rest spare from (λ (vs : List ExprValue). (filledArgs (replicate 64 0) 0 vs, next)) ArgsDone (seenArgs (resolveArgs (resolveExpr 32 s t p we) n 0 (pos + 4) A2 M2 (replicate 64 0) W2)) (expressions.resolveArgs args e from)
+  args-are : Refines (e .section) front tail rest spare from (λ (vs : List ExprValue). (filledArgs (replicate 64 0) 0 vs, next)) ArgsDone (seenArgs (resolveArgs (resolveExpr 32 s t p we) n 0 (pos + 4) A2 M2 (replicate 64 0) W2)) (expressions.resolveArgs args e from)
   args-are =
-      let f = below s t e front tail marks rest we given in
-      resolve-args s t e p front tail marks rest we f (given .holds) (given .ranges) spare room (given .short) 32 (resolve-expr s t e p front tail marks rest we f (given .holds) (given .ranges) spare room (given .short) 32 (omega arith))
+      let f = below s t e front tail rest we given in
+      resolve-args s t e p front tail rest we f (given .holds) (given .ranges) spare room (given .short) 32 (resolve-expr s t e p front tail rest we f (given .holds) (given .ranges) spare room (given .short) 32 (omega arith))
       n 0 (pos + 4) args next (replicate 64 0) reads starts inside from (stand .stood) (stand .scoped)
 
-  called-with : (xs : List ExprValue) (st : State) → Stood (e .section) tail marks rest spare st → Each (SoundX (e .section) (count st)) xs → length xs ≡ n
-      → Goes (e .section) front tail marks rest spare st next b (W2 .sizing .begun) (stepArgs (userOpArgs s t (acts (e .section) front tail marks rest st) (temps (e .section) front tail marks rest st) (filledArgs (replicate 64 0) 0 xs) id n we (stateWord (e .section) front tail marks rest st)) (pushedThen next (walkOf b W2)))
+  called-with : (xs : List ExprValue) (st : State) → Stood (e .section) tail rest spare st → Each (SoundX (e .section) (count st)) xs → length xs ≡ n
+      → Goes (e .section) front tail rest spare st next b (W2 .sizing .begun) (stepArgs (userOpArgs s t (acts (e .section) front tail rest st) (temps (e .section) front tail rest st) (filledArgs (replicate 64 0) 0 xs) id n we (stateWord (e .section) front tail rest st)) (pushedThen next (walkOf b W2)))
       (on e (expressions.readAll xs e st) λ vs. walks.opNoOutput Operation.PcodeOp id vs)
   called-with xs st f k l =
-      rw (← l) (read-pushed s t e front tail marks rest we given spare room b W2 id next xs (omega arith) (filledArgs (replicate 64 0) 0 xs) (filled-long xs (replicate 64 0) 0 ∙ length-replicate {A = ℕ} 64 0)
-      (filled-in (e .section) (count st) xs (replicate 64 0) 0 (length-replicate {A = ℕ} 64 0) (omega arith) k) st f k)
+      rw (← l) (read-pushed s t e front tail rest we given spare room b W2 id next xs (omega arith) (filledArgs (replicate 64 0) 0 xs) (filled-long xs (replicate 64 0) 0 ∙ length-replicate {A = ℕ} 64 0)
+      (filled-in (e .section) (count st) xs (replicate 64 0) 0 (omega (arith, length-replicate {A = ℕ} 64 0)) (omega arith) k) st f k)
 
-  pub user-op-steps : Steps s t e front tail rest we spare 0 p ls marks b from next (besideL ls (userOpStatement s t p A2 M2 we pos id n (walkOf b W2))) (d.userOpStatement id args e from)
+  pub user-op-steps : Steps t e front tail rest we spare 0 b from next (besideP p (userOpStatement s t p A2 M2 we pos id n (walkOf b W2))) (d.userOpStatement id args e from)
   unfolding userOpStatement d.userOpStatement
   user-op-steps =
-      steps-goes s t e front tail rest we spare p ls marks b from next (W2 .sizing .begun) _ _ stand refl
+      steps-goes t e front tail rest we spare p b from next (W2 .sizing .begun) _ _ stand refl
       (rw (after-is pos 4 (omega (arith, given .short)) (omega arith))
-      (bind-args (e .section) front tail marks rest spare spare e from ArgsDone (seenStep (W2 .sizing .begun)) (λ (_ : Unit {0}). (next, b)) (λ n (_ : Unit {0}). Unit {0}) (λ xs e1 st1. on e1 (expressions.readAll xs e1 st1) λ vs. walks.opNoOutput Operation.PcodeOp id vs)
+      (bind-args (e .section) front tail rest spare spare e from ArgsDone (seenStep (W2 .sizing .begun)) (λ (_ : Unit {0}). (next, b)) (λ n (_ : Unit {0}). Unit {0}) (λ xs e1 st1. on e1 (expressions.readAll xs e1 st1) λ vs. walks.opNoOutput Operation.PcodeOp id vs)
       (λ (vs : List ExprValue). (filledArgs (replicate 64 0) 0 vs, next)) (resolveArgs (resolveExpr 32 s t p we) n 0 (pos + 4) A2 M2 (replicate 64 0) W2) (expressions.resolveArgs args e from) _ _
       args-are (λ k a m. stop-seen k (walkOf b W2) a m) λ xs st r q. called-with xs st (r .stood) (q .0) (q .1)))

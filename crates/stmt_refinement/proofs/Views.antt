@@ -30,11 +30,10 @@ pub record Beside : Type 0 where
   pub labels : ℕ
   pub placed : ℕ
   pub statements : ℕ
-  pub scopes : ℕ
   pub export : WordExport
 
 abbrev pub beside : Walk → Beside
-beside w = record { labels = w .labels; placed = w .placed; statements = w .statements; scopes = w .scopes; export = w .export }
+beside w = record { labels = w .labels; placed = w .placed; statements = w .statements; export = w .export }
 
 -- A refusal counts with the ordinal of the statement that has begun; with any other it is 0, the number of none.
 unfoldable pub seenStep : ℕ → Stepped → Seen (ℕ × Beside)
@@ -90,38 +89,38 @@ ExportIs none x = (x .kind ≡ 0) × (x .size ≡ 0)
 ExportIs (some y) x = x ≡ encE y
 
 abbrev pub withExported : Export → Beside → Beside
-withExported x b = record { labels = b .labels; placed = b .placed; statements = b .statements; scopes = b .scopes; export = encE x }
+withExported x b = record { labels = b .labels; placed = b .placed; statements = b .statements; export = encE x }
 
-module _ (sec : Section) (front tail marks rest : List ℕ) where
+module _ (sec : Section) (front tail rest : List ℕ) where
   -- the same answer with another value
-  pub refines-as : {A B D : Type 0} (spare : ℕ) (from : State) (enc : A → B) (P : ℕ → A → Type 0) (f : B → D) (x : Seen B) (y : Seen D) (o : Outcome A) → Refines sec front tail marks rest spare from enc P x o → y ≡ mapSeen f x
-      → Refines sec front tail marks rest spare from (λ a. f (enc a)) P y o
+  pub refines-as : {A B D : Type 0} (spare : ℕ) (from : State) (enc : A → B) (P : ℕ → A → Type 0) (f : B → D) (x : Seen B) (y : Seen D) (o : Outcome A) → Refines sec front tail rest spare from enc P x o → y ≡ mapSeen f x
+      → Refines sec front tail rest spare from (λ a. f (enc a)) P y o
   refines-as spare from enc P f x y o r h = record { same = h ∙ (rw (r .same) (go o)); goes = r .goes; stops = r .stops }
     where
-      go : (o : Outcome _) → mapSeen f (outcome front tail marks rest enc o) ≡ outcome front tail marks rest (λ a. f (enc a)) o
+      go : (o : Outcome _) → mapSeen f (outcome front tail rest enc o) ≡ outcome front tail rest (λ a. f (enc a)) o
       go (done a st) = unfold outcome mapSeen in refl
       go (stopped r ordinal errors) = unfold outcome mapSeen in refl
 
   -- a refusal
   pub step-stops : {A : Type 0} (spare : ℕ) (from : State) (enc : A → ℕ × Beside) (P : ℕ → A → Type 0) (w : Walk) (a m : List ℕ) (n : ℕ) (r : Refusal) → n ≡ refusalNumber r
-      → Refines sec front tail marks rest spare from enc P (seenStep (begunIn w) (stepped (stop n w) a m)) (stopped r (from .sizing .begun) 0)
-  step-stops spare from enc P w a m n r h = rw (stop-seen n w a m) (refines-stopped sec front tail marks rest spare from enc P n r h)
+      → Refines sec front tail rest spare from enc P (seenStep (begunIn w) (stepped (stop n w) a m)) (stopped r (from .sizing .begun) 0)
+  step-stops spare from enc P w a m n r h = rw (stop-seen n w a m) (refines-stopped sec front tail rest spare from enc P n r h)
 
   -- an answer with no value: the walk goes on behind the statement
   abbrev pub Goes : ℕ → State → ℕ → Beside → ℕ → Stepped → Outcome (Unit {0}) → Type 0
-  Goes spare from next b begun x o = Refines sec front tail marks rest spare from (λ (_ : Unit {0}). (next, b)) (λ n (_ : Unit {0}). Unit {0}) (seenStep begun x) o
+  Goes spare from next b begun x o = Refines sec front tail rest spare from (λ (_ : Unit {0}). (next, b)) (λ n (_ : Unit {0}). Unit {0}) (seenStep begun x) o
 
-  pub step-pushed : (spare : ℕ) (from : State) (x : PushedOut) (o : Outcome (Unit {0})) (next : ℕ) (w : Walk) → Refines sec front tail marks rest spare from (λ _. tt {0}) (λ n (_ : Unit {0}). Unit {0}) (seenPushed x) o
+  pub step-pushed : (spare : ℕ) (from : State) (x : PushedOut) (o : Outcome (Unit {0})) (next : ℕ) (w : Walk) → Refines sec front tail rest spare from (λ _. tt {0}) (λ n (_ : Unit {0}). Unit {0}) (seenPushed x) o
       → Goes spare from next (beside w) (begunIn w) (stepPushed x (pushedThen next w)) o
   step-pushed spare from x o next w r = refines-as spare from (λ _. tt {0}) (λ n (_ : Unit {0}). Unit {0}) (λ _. (next, beside w)) (seenPushed x) _ o r (pushed-seen x next w)
 
-  pub step-push : (spare : ℕ) (from : State) (x : Listed Pushed) (m : List ℕ) (o : Outcome (Unit {0})) (next : ℕ) (w : Walk) → Refines sec front tail marks rest spare from (λ _. tt {0}) (λ n (_ : Unit {0}). Unit {0}) (seenPush m x) o
+  pub step-push : (spare : ℕ) (from : State) (x : Listed Pushed) (m : List ℕ) (o : Outcome (Unit {0})) (next : ℕ) (w : Walk) → Refines sec front tail rest spare from (λ _. tt {0}) (λ n (_ : Unit {0}). Unit {0}) (seenPush m x) o
       → Goes spare from next (beside w) (begunIn w) (thenL (thenL x (λ r b. listed (pushedThen next w r) b)) (λ r b. stepped r b m)) o
   step-push spare from x m o next w r = refines-as spare from (λ _. tt {0}) (λ n (_ : Unit {0}). Unit {0}) (λ _. (next, beside w)) (seenPush m x) _ o r (push-seen x m next w)
 
   -- what was read is left where it is
-  pub step-read : {A B : Type 0} (spare : ℕ) (e : Env) (from : State) (enc : A → B) (P : ℕ → A → Type 0) (x : Seen B) (y : Stepped) (o : Outcome A) (next : ℕ) (b : Beside) (begun : ℕ) → Refines sec front tail marks rest spare from enc P x o
+  pub step-read : {A B : Type 0} (spare : ℕ) (e : Env) (from : State) (enc : A → B) (P : ℕ → A → Type 0) (x : Seen B) (y : Stepped) (o : Outcome A) (next : ℕ) (b : Beside) (begun : ℕ) → Refines sec front tail rest spare from enc P x o
       → seenStep begun y ≡ mapSeen (λ _. (next, b)) x → Goes spare from next b begun y (on e o λ _. λ e1 st1. done tt st1)
   step-read spare e from enc P x y o next b begun r h =
-      refines-map sec front tail marks rest spare e from (λ _. (next, b)) P (λ _. (next, b)) (λ n (_ : Unit {0}). Unit {0}) (λ _. tt) (seenStep begun y) o
+      refines-map sec front tail rest spare e from (λ _. (next, b)) P (λ _. (next, b)) (λ n (_ : Unit {0}). Unit {0}) (λ _. tt) (seenStep begun y) o
       (refines-as spare from enc P (λ _. (next, b)) x (seenStep begun y) o r h) (λ a. refl) (λ n a p. tt)

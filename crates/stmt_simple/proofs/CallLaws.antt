@@ -1,9 +1,11 @@
 -- One law for each way out of the functions over calls.
-use mathlib.Core.Path.{_≡_}
-use mathlib.Core.List.{List}
-use Prim.Native.Nat.{ℕ, suc, _+_, _-_, _*_, _/_, _%_, _≤_, _<_}
+use mathlib.Core.Path.{_≡_, refl}
+use mathlib.Core.List.{List, [], _∷_}
+use Prim.Native.Nat.{ℕ, suc, _+_, _-_, _*_, _%_, _≤_, _<_}
 use native.Mathlib.Omega.{arith}
 use lib.ListN.{getD, set, replicate}
+use types.Run.{OneOf, miss}
+use denote.Enum.Declared.{tagOf}
 use borrow.Author.Tests.{eq-eqb, ne-eqb}
 use Rattle.access.specs.Le.{le16}
 use Rattle.list_values.specs.declared.value.Value.{Value}
@@ -20,7 +22,9 @@ use Rattle.expr_scope.specs.declared.scope.ExprValue.{ExprValue}
 use Rattle.expr_scope.proofs.scope.ExprValue as exprValue
 use Rattle.expr_scope.specs.declared.args.Args.{Args}
 use Rattle.expr_scope.specs.Slots.{paramPlace, argAt}
-use Rattle.expr_scope.specs.Scopes.{global}
+use Rattle.expr_scope.specs.declared.symbols.Symbol.{Symbol}
+use Rattle.expr_scope.proofs.symbols.Symbol as symbol
+use Rattle.expr_scope.specs.Symbols.{placeOf, lookup}
 use Rattle.expr_reading.specs.Reading.{readOperand}
 use Rattle.expr_terms.specs.Answers.{passed, onArgs, after}
 use Rattle.expr_terms.specs.Calls.{onlyInteger}
@@ -30,33 +34,40 @@ use Rattle.stmt_walk.specs.declared.walk.Step.{Step}
 use Rattle.stmt_simple.specs.declared.calls.Called.{Called}
 use Rattle.stmt_walk.specs.Walks.{stepped, stop, pushedThen}
 use Rattle.access.proofs.LoopLaws.{run-end, one-less}
-use Rattle.stmt_simple.specs.Calls.{called, symbolOf, calledOf, delaySlot, ArgsRead, argsRead, readArgs, writeInput, writeInputs, pushUserOp, userOpRead, userOpArgs, stepArgs, userOpStatement, otherCall, macroAt, bindName, bindNames, counted, macroCounted, macroArgs}
+use Rattle.stmt_simple.specs.Calls.{symbolCalled, calledOf, delaySlot, ArgsRead, argsRead, readArgs, writeInput, writeInputs, pushUserOp, userOpRead, userOpArgs, stepArgs, userOpStatement, macroAt, bindName, bindNames, counted, macroCounted, macroArgs}
 
 -- ---- what is called
-pub symbol-none : (g : ℕ) → g ≡ 0 → called 3 22 ≡ symbolOf g
-unfolding symbolOf if_then_else_
-symbol-none g z = rw (eq-eqb g 0 z)
+pub symbol-none : (x : Symbol) → x ≡ Symbol.Undefined → Called.No 22 ≡ symbolCalled x
+unfolding symbolCalled
+symbol-none x e = rw e
 
-pub symbol-op : (g : ℕ) → (g ≡ 0 → ⊥) → (g - 1) % 8 ≡ 4 → called 1 ((g - 1) / 8) ≡ symbolOf g
-unfolding symbolOf if_then_else_
-symbol-op g z k = rw (ne-eqb g 0 z, eq-eqb ((g - 1) % 8) 4 k)
+pub symbol-op : (x : Symbol) (id : ℕ) → x ≡ Symbol.UserOp id → Called.UserOp id ≡ symbolCalled x
+unfolding symbolCalled
+symbol-op x id e = rw e
 
-pub symbol-macro : (g : ℕ) → (g ≡ 0 → ⊥) → ((g - 1) % 8 ≡ 4 → ⊥) → (g - 1) % 8 ≡ 5 → called 2 ((g - 1) / 8) ≡ symbolOf g
-unfolding symbolOf if_then_else_
-symbol-macro g z k l = rw (ne-eqb g 0 z, ne-eqb ((g - 1) % 8) 4 k, eq-eqb ((g - 1) % 8) 5 l)
+pub symbol-macro : (x : Symbol) (id : ℕ) → x ≡ Symbol.Macro id → Called.Macro id ≡ symbolCalled x
+unfolding symbolCalled
+symbol-macro x id e = rw e
 
-pub symbol-other : (g : ℕ) → (g ≡ 0 → ⊥) → ((g - 1) % 8 ≡ 4 → ⊥) → ((g - 1) % 8 ≡ 5 → ⊥) → called 3 23 ≡ symbolOf g
-unfolding symbolOf if_then_else_
-symbol-other g z k l = rw (ne-eqb g 0 z, ne-eqb ((g - 1) % 8) 4 k, ne-eqb ((g - 1) % 8) 5 l)
+pub symbol-other : (x : Symbol) → OneOf (1 ∷ 2 ∷ 3 ∷ 4 ∷ 7 ∷ []) (tagOf symbol.the-type x) → Called.No 23 ≡ symbolCalled x
+unfolding symbolCalled
+symbol-other Symbol.Undefined o = absurd (miss (1 ∷ 2 ∷ 3 ∷ 4 ∷ 7 ∷ []) 0 tt o)
+symbol-other (Symbol.Space i) o = refl
+symbol-other (Symbol.Register i) o = refl
+symbol-other (Symbol.BitRange i) o = refl
+symbol-other (Symbol.Table i) o = refl
+symbol-other (Symbol.UserOp i) o = absurd (miss (1 ∷ 2 ∷ 3 ∷ 4 ∷ 7 ∷ []) 5 tt o)
+symbol-other (Symbol.Macro i) o = absurd (miss (1 ∷ 2 ∷ 3 ∷ 4 ∷ 7 ∷ []) 6 tt o)
+symbol-other (Symbol.Other i) o = refl
 
 module _ (s t : List ℕ) (name d : ℕ) (ed : (d ≡ le16 s 32) × (d < 65536)) where
-  pub called-delay : name ≡ d → called 0 0 ≡ calledOf s t name
+  pub called-delay : name ≡ d → Called.DelaySlot ≡ calledOf s t name
   unfolding calledOf if_then_else_
   called-delay h = rw (← ed .0, eq-eqb name d h)
 
-  pub called-symbol : (g : ℕ) (r : Called) → (name ≡ d → ⊥) → g ≡ global t name → r ≡ symbolOf g → r ≡ calledOf s t name
+  pub called-symbol : (x : Symbol) (r : Called) → (name ≡ d → ⊥) → (x ≡ lookup t name) × (placeOf x < 8192) → r ≡ symbolCalled x → r ≡ calledOf s t name
   unfolding calledOf if_then_else_
-  called-symbol g r h eg q = rw (← ed .0, ne-eqb name d h, ← eg) q
+  called-symbol x r h ex q = rw (← ed .0, ne-eqb name d h, ← ex .0) q
 
 -- ---- the delay slot
 module _ (s a : List ℕ) (pos n : ℕ) (w : Walk) (k : ℕ) (ek : k ≡ onlyInteger s pos n) (z : Step) where
@@ -134,19 +145,6 @@ module _ (s t p a m : List ℕ) (e : Env) (pos id n : ℕ) (w : Walk) (at : ℕ)
   unfolding userOpStatement onArgs stepArgs
   user-next next st r2 a2 m2 args2 z q g h = rw (← ea, ← f, q, ← g, h)
 
-module _ (c : Called) (s t p a m : List ℕ) (e : Env) (pos n : ℕ) (w : Walk) (z : Step) where
-  pub call-delay : (a1 : List ℕ) → c .kind ≡ 0 → listed z a1 ≡ delaySlot s a pos n w → stepped z a1 m ≡ otherCall c s t p a m e pos n w
-  unfolding otherCall if_then_else_ thenL
-  call-delay a1 q h = rw (eq-eqb (c .kind) 0 q, ← h)
-
-  pub call-op : (a1 m1 : List ℕ) → c .kind ≡ 1 → stepped z a1 m1 ≡ userOpStatement s t p a m e pos (c .number) n w → stepped z a1 m1 ≡ otherCall c s t p a m e pos n w
-  unfolding otherCall if_then_else_
-  call-op a1 m1 q h = rw q h
-
-  pub call-none : (c .kind ≡ 0 → ⊥) → (c .kind ≡ 1 → ⊥) → z ≡ stop (c .number) w → stepped z a m ≡ otherCall c s t p a m e pos n w
-  unfolding otherCall if_then_else_
-  call-none q k h = rw (ne-eqb (c .kind) 0 q, ne-eqb (c .kind) 1 k, h)
-
 -- ---- what a macro is given
 pub bind-name-law : (s : List ℕ) (names i : ℕ) (args args1 : List ℕ) (name at : ℕ) → (name ≡ le16 s (names + i % 8 * 2)) × (name < 65536) → at ≡ paramPlace i → args1 ≡ set args (at + 0) name → args1 ≡ bindName s names i args
 unfolding bindName
@@ -179,4 +177,4 @@ module _ (s t : List ℕ) (id n next : ℕ) (st : State) (k c : ℕ) (ek : k ≡
   unfolding counted if_then_else_
   counted-other h = rw (← ek, ← ec .0, ne-eqb c n h)
 
-pub ruleset call-laws = (symbol-none, symbol-op, symbol-macro, symbol-other, called-delay, called-symbol, delay-one, delay-other, user-full, user-done, user-no, user-yes, user-stop, user-next, call-delay, call-op, call-none, macro-at-law, macro-no, macro-done)
+pub ruleset call-laws = (symbol-none, symbol-op, symbol-macro, symbol-other, called-delay, called-symbol, delay-one, delay-other, user-full, user-done, user-no, user-yes, user-stop, user-next, macro-at-law, macro-no, macro-done)

@@ -1,8 +1,8 @@
 -- One law for each way out of the statements of one step and of the stores.
-use mathlib.Core.Path.{_≡_}
+use mathlib.Core.Path.{_≡_, refl}
 use mathlib.Core.Bool.{true}
 use mathlib.Core.List.{List, [], _∷_}
-use Prim.Native.Nat.{ℕ, suc, _+_, _-_, _*_, _/_, _%_, _≤_, _<_}
+use Prim.Native.Nat.{ℕ, suc, _+_, _-_, _*_, _%_, _≤_, _<_}
 use native.Mathlib.Omega.{arith}
 use types.Run.{OneOf, miss}
 use denote.Enum.Declared.{tagOf}
@@ -17,17 +17,20 @@ use Rattle.list_values.specs.Base.{listed, thenL}
 use Rattle.prelude.specs.Base.{if_then_else_}
 use Rattle.list_values.specs.Values.{absent, noOutput}
 use Rattle.list_values.specs.Sizes.{entry}
-use Rattle.list_pushes.specs.Pushes.{read, pushed, onTmp, push, pushOp}
+use Rattle.list_pushes.specs.Pushes.{read, pushed, onRead, push, pushOp}
 use Rattle.expr_scope.specs.declared.scope.ExprValue.{ExprValue}
 use Rattle.expr_scope.proofs.scope.ExprValue as exprValue
 use Rattle.expr_terms.specs.declared.answers.Expr.{Expr}
-use Rattle.expr_scope.specs.Scopes.{global, namedTmp}
+use Rattle.expr_scope.specs.declared.symbols.Symbol.{Symbol}
+use Rattle.expr_scope.proofs.symbols.Symbol as symbol
+use Rattle.expr_scope.specs.Symbols.{placeOf, lookup}
+use Rattle.expr_scope.specs.Scopes.{namedTmp}
 use Rattle.expr_reading.specs.Reading.{readValue, readOperand}
 use Rattle.expr_terms.specs.Answers.{resolved, onExpr, after}
 use Rattle.expr_resolver.specs.Expressions.{exprValue, resolveExpr}
 use Rattle.stmt_walk.specs.declared.walk.Walk.{Walk}
 use Rattle.stmt_walk.specs.declared.walk.Step.{Step}
-use Rattle.stmt_walk.specs.Walks.{stepped, stepPushed, stepRead, stop, pushedThen, readThen}
+use Rattle.stmt_walk.specs.Walks.{stepped, walked, stepPushed, stepRead, besideP, stop, pushedThen, readThen}
 use Rattle.stmt_simple.specs.Simple.{unimplemented, exported, exportValue, exportRead, exportOf, exportStatement, localStatement, assign, localAssignment, findSubtable, buildSubtable, buildTable, buildSymbol, build}
 use Rattle.access.proofs.LoopLaws.{one-less}
 
@@ -84,10 +87,10 @@ module _ (s t p a m : List ℕ) (e : Env) (pos : ℕ) (w : Walk) (at : ℕ) (ea 
   export-yes x next st z a2 m2 q h = rw (← ea, ← f, q) h
 
 -- ---- locals
-pub local-law : (s t m : List ℕ) (e : Env) (pos : ℕ) (w : Walk) (name size next : ℕ) (r : Read) (m1 : List ℕ) (z : Step) → (name ≡ le16 s (pos + 1)) × (name < 65536) → (size ≡ le16 s (pos + 3)) × (size < 65536) →
-    listed r m1 ≡ namedTmp t m e name size (w .st) → next ≡ after pos 5 → z ≡ readThen next w r → listed z m1 ≡ localStatement s t m e pos w
-unfolding localStatement thenL
-local-law s t m e pos w name size next r m1 z en es f g h = rw (← en .0, ← es .0, ← f, ← g, h)
+pub local-law : (s t p m : List ℕ) (e : Env) (pos : ℕ) (w : Walk) (name size next : ℕ) (r : Read) (p1 m1 : List ℕ) (z : Step) → (name ≡ le16 s (pos + 1)) × (name < 65536) → (size ≡ le16 s (pos + 3)) × (size < 65536) →
+    read r p1 m1 ≡ namedTmp t p m e name size (w .st) → next ≡ after pos 5 → z ≡ readThen next w r → stepped z p1 m1 ≡ localStatement s t p m e pos w
+unfolding localStatement stepRead
+local-law s t p m e pos w name size next r p1 m1 z en es f g h = rw (← en .0, ← es .0, ← f, ← g, h)
 
 module _ (s t p a m : List ℕ) (e : Env) (pos : ℕ) (to : Value) (st : State) (w : Walk) (r : Expr) (a1 m1 : List ℕ) (f : resolved r a1 m1 ≡ resolveExpr 32 s t p e pos a m st) where
   pub assign-no : (n : ℕ) (z : Step) → r ≡ Expr.No n → z ≡ stop n w → stepped z a1 m1 ≡ assign s t p a m e pos to st w
@@ -99,15 +102,15 @@ module _ (s t p a m : List ℕ) (e : Env) (pos : ℕ) (to : Value) (st : State) 
   unfolding assign onExpr stepRead
   assign-yes x next st1 r2 a2 m2 z q g h = rw (← f, q, ← g, h)
 
-module _ (s t p a m : List ℕ) (e : Env) (pos : ℕ) (w : Walk) (name size : ℕ) (en : (name ≡ le16 s (pos + 1)) × (name < 65536)) (es : (size ≡ le16 s (pos + 3)) × (size < 65536)) (r : Read) (m1 : List ℕ)
-    (f : listed r m1 ≡ namedTmp t m e name size (w .st)) where
-  pub assignment-no : (n : ℕ) (z : Step) → r ≡ Read.No n → z ≡ stop n w → stepped z a m1 ≡ localAssignment s t p a m e pos w
-  unfolding localAssignment onTmp
+module _ (s t p a m : List ℕ) (e : Env) (pos : ℕ) (w : Walk) (name size : ℕ) (en : (name ≡ le16 s (pos + 1)) × (name < 65536)) (es : (size ≡ le16 s (pos + 3)) × (size < 65536)) (r : Read) (p1 m1 : List ℕ)
+    (f : read r p1 m1 ≡ namedTmp t p m e name size (w .st)) where
+  pub assignment-no : (n : ℕ) (z : Step) → r ≡ Read.No n → z ≡ stop n w → walked z p1 a m1 ≡ localAssignment s t p a m e pos w
+  unfolding localAssignment onRead
   assignment-no n z q h = rw (← en .0, ← es .0, ← f, q, h)
 
-  pub assignment-yes : (v : Value) (st : State) (at : ℕ) (z : Step) (a2 m2 : List ℕ) → r ≡ Read.Value v st → at ≡ after pos 5 → stepped z a2 m2 ≡ assign s t p a m1 e at v st w → stepped z a2 m2 ≡ localAssignment s t p a m e pos w
-  unfolding localAssignment onTmp
-  assignment-yes v st at z a2 m2 q g h = rw (← en .0, ← es .0, ← f, q, ← g) h
+  pub assignment-yes : (v : Value) (st : State) (at : ℕ) (z : Step) (a2 m2 : List ℕ) → r ≡ Read.Value v st → at ≡ after pos 5 → stepped z a2 m2 ≡ assign s t p1 a m1 e at v st w → walked z p1 a2 m2 ≡ localAssignment s t p a m e pos w
+  unfolding localAssignment onRead besideP
+  assignment-yes v st at z a2 m2 q g h = rw (← en .0, ← es .0, ← f, q, ← g, ← h)
 
 -- ---- builds
 pub find-start : (n : ℕ) (s t : List ℕ) (table : ℕ) → findSubtable (n - 0) 0 s t table ≡ findSubtable n 0 s t table
@@ -140,17 +143,27 @@ module _ (s t a : List ℕ) (table pos : ℕ) (w : Walk) (n i : ℕ) (en : (n �
   unfolding buildTable buildSubtable if_then_else_
   table-absent z h k = rw (← en .0, ← ei, le-ltb i n h, k)
 
-module _ (s t a : List ℕ) (pos : ℕ) (w : Walk) (name g : ℕ) (en : (name ≡ le16 s (pos + 1)) × (name < 65536)) (eg : g ≡ global t name) (z : Step) where
-  pub build-undefined : g ≡ 0 → z ≡ stop 22 w → listed z a ≡ build s t a pos w
-  unfolding build buildSymbol if_then_else_
-  build-undefined o k = rw (← en .0, ← eg, eq-eqb g 0 o, k)
+module _ (s t a : List ℕ) (pos : ℕ) (w : Walk) (name : ℕ) (x : Symbol) (en : (name ≡ le16 s (pos + 1)) × (name < 65536)) (ex : (x ≡ lookup t name) × (placeOf x < 8192)) (z : Step) where
+  pub build-undefined : x ≡ Symbol.Undefined → z ≡ stop 22 w → listed z a ≡ build s t a pos w
+  unfolding build buildSymbol
+  build-undefined q k = rw (← en .0, ← ex .0, q, k)
 
-  pub build-wrong : (g ≡ 0 → ⊥) → ((g - 1) % 8 ≡ 3 → ⊥) → z ≡ stop 23 w → listed z a ≡ build s t a pos w
-  unfolding build buildSymbol if_then_else_
-  build-wrong o d k = rw (← en .0, ← eg, ne-eqb g 0 o, ne-eqb ((g - 1) % 8) 3 d, k)
+  pub build-named : (i : ℕ) (a1 : List ℕ) → x ≡ Symbol.Table i → listed z a1 ≡ buildTable s t a i pos w → listed z a1 ≡ build s t a pos w
+  unfolding build buildSymbol
+  build-named i a1 q k = rw (← en .0, ← ex .0, q) k
 
-  pub build-named : (a1 : List ℕ) → (g ≡ 0 → ⊥) → (g - 1) % 8 ≡ 3 → listed z a1 ≡ buildTable s t a ((g - 1) / 8) pos w → listed z a1 ≡ build s t a pos w
-  unfolding build buildSymbol if_then_else_
-  build-named a1 o d k = rw (← en .0, ← eg, ne-eqb g 0 o, eq-eqb ((g - 1) % 8) 3 d) k
+  pub build-wrong : OneOf (1 ∷ 2 ∷ 3 ∷ 5 ∷ 6 ∷ 7 ∷ []) (tagOf symbol.the-type x) → z ≡ stop 23 w → listed z a ≡ build s t a pos w
+  unfolding build
+  build-wrong o k = rw (← en .0, ← ex .0, k) (go x o)
+    where
+      go : (x : Symbol) → OneOf (1 ∷ 2 ∷ 3 ∷ 5 ∷ 6 ∷ 7 ∷ []) (tagOf symbol.the-type x) → listed (stop 23 w) a ≡ buildSymbol x s t a pos w
+      go Symbol.Undefined o = absurd (miss (1 ∷ 2 ∷ 3 ∷ 5 ∷ 6 ∷ 7 ∷ []) 0 tt o)
+      go (Symbol.Space i) o = unfold buildSymbol in refl
+      go (Symbol.Register i) o = unfold buildSymbol in refl
+      go (Symbol.BitRange i) o = unfold buildSymbol in refl
+      go (Symbol.Table i) o = absurd (miss (1 ∷ 2 ∷ 3 ∷ 5 ∷ 6 ∷ 7 ∷ []) 4 tt o)
+      go (Symbol.UserOp i) o = unfold buildSymbol in refl
+      go (Symbol.Macro i) o = unfold buildSymbol in refl
+      go (Symbol.Other i) o = unfold buildSymbol in refl
 
 pub ruleset simple-laws = (unimplemented-law, export-value-no, export-value-yes, export-ram, export-register, export-other, export-no, export-yes, local-law, assign-no, assign-yes, assignment-no, assignment-yes, table-built, table-absent, build-undefined, build-wrong, build-named)

@@ -1,5 +1,5 @@
 -- Calls that enter no macro: the delay slot and user ops; and what a macro call is given.
-use Prim.Native.Nat.{ℕ, zero, suc, _+_, _-_, _*_, _/_, _%_}
+use Prim.Native.Nat.{ℕ, zero, suc, _+_, _*_, _%_}
 use mathlib.Core.List.{List}
 use lib.ListN.{getD, set, replicate}
 use lib.Dec.{eqb}
@@ -14,7 +14,8 @@ use Rattle.list_values.specs.Values.{absent, noOutput, valueAt, putValue}
 use Rattle.list_pushes.specs.Pushes.{onRead, onPush, push}
 use Rattle.expr_scope.specs.declared.args.Args.{Args}
 use Rattle.expr_scope.specs.Slots.{paramPlace, argAt}
-use Rattle.expr_scope.specs.Scopes.{global}
+use Rattle.expr_scope.specs.declared.symbols.Symbol.{Symbol}
+use Rattle.expr_scope.specs.Symbols.{lookup}
 use Rattle.expr_reading.specs.Reading.{readOperand}
 use Rattle.expr_terms.specs.Answers.{ArgsOut, passed, onArgs, after}
 use Rattle.expr_terms.specs.Calls.{onlyInteger}
@@ -24,19 +25,19 @@ use Rattle.stmt_walk.specs.declared.walk.Step.{Step}
 use Rattle.stmt_simple.specs.declared.calls.Called.{Called}
 use Rattle.stmt_walk.specs.Walks.{Stepped, stepped, stop, pushedThen}
 
-abbrev pub called : ℕ → ℕ → Called
-called kind number = record { kind = kind; number = number }
-
 -- of a global: a user op, a macro, or none of these
-unfoldable pub symbolOf : ℕ → Called
-symbolOf g =
-    if eqb g 0 then called 3 22
-    else if eqb ((g - 1) % 8) 4 then called 1 ((g - 1) / 8)
-    else if eqb ((g - 1) % 8) 5 then called 2 ((g - 1) / 8)
-    else called 3 23
+unfoldable pub symbolCalled : Symbol → Called
+symbolCalled Symbol.Undefined = Called.No 22
+symbolCalled (Symbol.UserOp id) = Called.UserOp id
+symbolCalled (Symbol.Macro id) = Called.Macro id
+symbolCalled (Symbol.Space i) = Called.No 23
+symbolCalled (Symbol.Register i) = Called.No 23
+symbolCalled (Symbol.BitRange i) = Called.No 23
+symbolCalled (Symbol.Table i) = Called.No 23
+symbolCalled (Symbol.Other i) = Called.No 23
 
 unfoldable pub calledOf : List ℕ → List ℕ → ℕ → Called
-calledOf s t name = if eqb name (le16 s 32) then called 0 0 else symbolOf (global t name)
+calledOf s t name = if eqb name (le16 s 32) then Called.DelaySlot else symbolCalled (lookup t name)
 
 unfoldable pub delaySlot : List ℕ → List ℕ → ℕ → ℕ → Walk → Listed Step
 delaySlot s a pos n w =
@@ -84,13 +85,6 @@ userOpStatement s t p a m e pos id n w =
     onArgs (resolveArgs (resolveExpr 32 s t p e) n 0 (after pos 4) a m (replicate 64 0) (w .st))
     (λ next st b u args. stepArgs (userOpArgs s t b u args id n e st) (pushedThen next w))
     (λ k b u. stepped (stop k w) b u)
-
--- a call of what is no macro
-unfoldable pub otherCall : Called → List ℕ → List ℕ → List ℕ → List ℕ → List ℕ → Env → ℕ → ℕ → Walk → Stepped
-otherCall c s t p a m e pos n w =
-    if eqb (c .kind) 0 then thenL (delaySlot s a pos n w) (λ r b. stepped r b m)
-    else if eqb (c .kind) 1 then userOpStatement s t p a m e pos (c .number) n w
-    else stepped (stop (c .number) w) a m
 
 -- where a macro stands
 unfoldable pub macroAt : List ℕ → ℕ → ℕ

@@ -1,5 +1,5 @@
 -- Statements of one step: unimplemented, the export, locals, and builds.
-use Prim.Native.Nat.{ℕ, zero, suc, _+_, _-_, _*_, _/_, _%_}
+use Prim.Native.Nat.{ℕ, zero, suc, _+_, _*_, _%_}
 use mathlib.Core.Bool.{true}
 use mathlib.Core.List.{List}
 use lib.Dec.{eqb, ltb}
@@ -12,15 +12,17 @@ use Rattle.list_values.specs.Base.{Listed, listed, thenL}
 use Rattle.prelude.specs.Base.{if_then_else_}
 use Rattle.list_values.specs.Values.{absent, noOutput}
 use Rattle.list_values.specs.Sizes.{entry}
-use Rattle.list_pushes.specs.Pushes.{onTmp, push, pushOp}
+use Rattle.list_pushes.specs.Pushes.{onRead, push, pushOp}
 use Rattle.expr_scope.specs.declared.scope.ExprValue.{ExprValue}
-use Rattle.expr_scope.specs.Scopes.{global, namedTmp}
+use Rattle.expr_scope.specs.declared.symbols.Symbol.{Symbol}
+use Rattle.expr_scope.specs.Symbols.{lookup}
+use Rattle.expr_scope.specs.Scopes.{namedTmp}
 use Rattle.expr_reading.specs.Reading.{readValue, readOperand}
 use Rattle.expr_terms.specs.Answers.{onExpr, after}
 use Rattle.expr_resolver.specs.Expressions.{resolveExpr}
 use Rattle.stmt_walk.specs.declared.walk.Walk.{Walk}
 use Rattle.stmt_walk.specs.declared.walk.Step.{Step}
-use Rattle.stmt_walk.specs.Walks.{Stepped, stepped, stepPushed, stepRead, stop, pushedThen, readThen}
+use Rattle.stmt_walk.specs.Walks.{Stepped, stepped, Walked, walked, stepPushed, stepRead, besideP, stop, pushedThen, readThen}
 
 unfoldable pub unimplemented : List ℕ → List ℕ → List ℕ → List ℕ → Env → ℕ → Walk → Stepped
 unimplemented s t a m e pos w =
@@ -32,7 +34,6 @@ exported kind v size st next w = Step.Next next (record {
   labels = w .labels;
   placed = w .placed;
   statements = w .statements;
-  scopes = w .scopes;
   export = record { kind = kind; v = v; size = size };
 })
 
@@ -60,9 +61,10 @@ exportStatement s t p a m e pos w =
     (λ x next st b u. exportOf s t b u e x next st w)
     (λ n b u. stepped (stop n w) b u)
 
-unfoldable pub localStatement : List ℕ → List ℕ → List ℕ → Env → ℕ → Walk → Listed Step
-localStatement s t m e pos w =
-    thenL (namedTmp t m e (le16 s (pos + 1)) (le16 s (pos + 3)) (w .st)) λ r u. listed (readThen (after pos 5) w r) u
+-- the scope and the temporaries
+unfoldable pub localStatement : List ℕ → List ℕ → List ℕ → List ℕ → Env → ℕ → Walk → Stepped
+localStatement s t p m e pos w =
+    stepRead (namedTmp t p m e (le16 s (pos + 1)) (le16 s (pos + 3)) (w .st)) (readThen (after pos 5) w)
 
 -- an expression at a position read into a target
 unfoldable pub assign : List ℕ → List ℕ → List ℕ → List ℕ → List ℕ → Env → ℕ → Value → State → Walk → Stepped
@@ -71,11 +73,11 @@ assign s t p a m e pos to st w =
     (λ x next st1 b u. stepRead (readValue s t b u e x true to st1) (readThen next w))
     (λ n b u. stepped (stop n w) b u)
 
-unfoldable pub localAssignment : List ℕ → List ℕ → List ℕ → List ℕ → List ℕ → Env → ℕ → Walk → Stepped
+unfoldable pub localAssignment : List ℕ → List ℕ → List ℕ → List ℕ → List ℕ → Env → ℕ → Walk → Walked
 localAssignment s t p a m e pos w =
-    onTmp (namedTmp t m e (le16 s (pos + 1)) (le16 s (pos + 3)) (w .st))
-    (λ v st u. assign s t p a u e (after pos 5) v st w)
-    (λ n u. stepped (stop n w) a u)
+    onRead (namedTmp t p m e (le16 s (pos + 1)) (le16 s (pos + 3)) (w .st))
+    (λ v st q u. besideP q (assign s t q a u e (after pos 5) v st w))
+    (λ n q u. walked (stop n w) q a u)
 
 -- the first of k subtables from i on that has this table, or the one behind them
 unfoldable pub findSubtable : ℕ → ℕ → List ℕ → List ℕ → ℕ → ℕ
@@ -92,11 +94,15 @@ buildSubtable i n a pos w =
 unfoldable pub buildTable : List ℕ → List ℕ → List ℕ → ℕ → ℕ → Walk → Listed Step
 buildTable s t a table pos w = buildSubtable (findSubtable (le16 s 20) 0 s t table) (le16 s 20) a pos w
 
-unfoldable pub buildSymbol : ℕ → List ℕ → List ℕ → List ℕ → ℕ → Walk → Listed Step
-buildSymbol g s t a pos w =
-    if eqb g 0 then listed (stop 22 w) a
-    else if eqb ((g - 1) % 8) 3 then buildTable s t a ((g - 1) / 8) pos w
-    else listed (stop 23 w) a
+unfoldable pub buildSymbol : Symbol → List ℕ → List ℕ → List ℕ → ℕ → Walk → Listed Step
+buildSymbol Symbol.Undefined s t a pos w = listed (stop 22 w) a
+buildSymbol (Symbol.Table i) s t a pos w = buildTable s t a i pos w
+buildSymbol (Symbol.Space i) s t a pos w = listed (stop 23 w) a
+buildSymbol (Symbol.Register i) s t a pos w = listed (stop 23 w) a
+buildSymbol (Symbol.BitRange i) s t a pos w = listed (stop 23 w) a
+buildSymbol (Symbol.UserOp i) s t a pos w = listed (stop 23 w) a
+buildSymbol (Symbol.Macro i) s t a pos w = listed (stop 23 w) a
+buildSymbol (Symbol.Other i) s t a pos w = listed (stop 23 w) a
 
 unfoldable pub build : List ℕ → List ℕ → List ℕ → ℕ → Walk → Listed Step
-build s t a pos w = buildSymbol (global t (le16 s (pos + 1))) s t a pos w
+build s t a pos w = buildSymbol (lookup t (le16 s (pos + 1))) s t a pos w

@@ -5,7 +5,6 @@ use codes::action_kind;
 use codes::header;
 use codes::operation;
 use codes::refusal;
-use codes::symbol_kind;
 use codes::table;
 use expr_reading::read::read_operand;
 use expr_resolver::expr::DEPTH;
@@ -14,8 +13,9 @@ use expr_scope::args::Args;
 use expr_scope::args::arg_at;
 use expr_scope::scope::SLOT_A;
 use expr_scope::scope::SLOT_NAME;
-use expr_scope::scope::global;
 use expr_scope::scope::param_place;
+use expr_scope::symbols::Symbol;
+use expr_scope::symbols::lookup;
 use expr_terms::answers::after;
 use expr_terms::calls::only_integer;
 use list_pushes::push::Env;
@@ -36,47 +36,24 @@ ghost use mathlib.Core.Path.{_≡_};
 ghost use Rattle.list_values.specs.Base.{listed};
 ghost use Rattle.expr_terms.specs.Answers.{passed};
 ghost use Rattle.stmt_walk.specs.Walks.{stepped};
-ghost use Rattle.stmt_simple.specs.Calls.{symbolOf, calledOf, delaySlot, argsRead, readArgs, writeInputs, pushUserOp, userOpArgs, userOpStatement, otherCall, macroAt, bindNames, counted, macroArgs};
+ghost use Rattle.stmt_simple.specs.Calls.{symbolCalled, calledOf, delaySlot, argsRead, readArgs, writeInputs, pushUserOp, userOpArgs, userOpStatement, macroAt, bindNames, counted, macroArgs};
 
-// What a call statement calls.
-pub const DELAY_SLOT: u64 = 0;
-
-pub const USER_OP: u64 = 1;
-
-pub const MACRO: u64 = 2;
-
-pub const REFUSED: u64 = 3;
-
-// What a call statement calls, and the number of the user op, the macro or the refusal.
-pub struct Called {
-    pub kind: u64,
-    pub number: u64,
+// What a call statement calls: the delay slot, a user op or a macro by its number, or what is refused.
+pub enum Called {
+    DelaySlot,
+    UserOp(u64),
+    Macro(u64),
+    No(u64),
 }
 
-fn symbol_of(symbol: u64) -> Called
-    ensures { λ r. ⌜ r ≡ symbolOf symbol ⌝ }
+fn symbol_called(symbol: Symbol) -> Called
+    ensures { λ r. ⌜ r ≡ symbolCalled symbol ⌝ }
 {
-    if symbol == 0 {
-        return Called {
-            kind: REFUSED,
-            number: refusal::UNDEFINED,
-        };
-    }
-    if (symbol - 1) % 8 == symbol_kind::USER_OP {
-        return Called {
-            kind: USER_OP,
-            number: (symbol - 1) / 8,
-        };
-    }
-    if (symbol - 1) % 8 == symbol_kind::MACRO {
-        return Called {
-            kind: MACRO,
-            number: (symbol - 1) / 8,
-        };
-    }
-    Called {
-        kind: REFUSED,
-        number: refusal::WRONG_KIND,
+    match symbol {
+        Symbol::Undefined => Called::No(refusal::UNDEFINED),
+        Symbol::UserOp(id) => Called::UserOp(id),
+        Symbol::Macro(id) => Called::Macro(id),
+        _ => Called::No(refusal::WRONG_KIND),
     }
 }
 
@@ -84,15 +61,12 @@ pub fn called_of(stream: &[u8], table: &[u16; table::LENGTH], name: u64) -> Call
     ensures { λ r. ⌜ r ≡ calledOf (now (stream .entry)) (now (table .entry)) name ⌝ }
 {
     if name == access::u16_at(stream, header::DELAY_SLOT) {
-        return Called {
-            kind: DELAY_SLOT,
-            number: 0,
-        };
+        return Called::DelaySlot;
     }
-    symbol_of(global(table, name))
+    symbol_called(lookup(table, name))
 }
 
-fn delay_slot(stream: &[u8], actions: &mut [u64], pos: usize, count: u64, walk: Walk) -> Step
+pub fn delay_slot(stream: &[u8], actions: &mut [u64], pos: usize, count: u64, walk: Walk) -> Step
     ensures { λ r. ⌜ listed r (now (actions .exit)) ≡ delaySlot (now (stream .entry)) (now (actions .entry)) pos count walk ⌝ }
 {
     if only_integer(stream, pos, count) == 1 {
@@ -200,10 +174,10 @@ fn user_op_args(
     }
 }
 
-fn user_op_statement(
+pub fn user_op_statement(
     stream: &[u8],
     table: &[u16; table::LENGTH],
-    params: &[u64],
+    scope: &[u64],
     actions: &mut [u64],
     temporaries: &mut [u64],
     env: Env,
@@ -212,14 +186,14 @@ fn user_op_statement(
     count: u64,
     walk: Walk,
 ) -> Step
-    ensures { λ r. ⌜ stepped r (now (actions .exit)) (now (temporaries .exit)) ≡ userOpStatement (now (stream .entry)) (now (table .entry)) (now (params .entry)) (now (actions .entry)) (now (temporaries .entry)) env pos id count walk ⌝ }
+    ensures { λ r. ⌜ stepped r (now (actions .exit)) (now (temporaries .exit)) ≡ userOpStatement (now (stream .entry)) (now (table .entry)) (now (scope .entry)) (now (actions .entry)) (now (temporaries .entry)) env pos id count walk ⌝ }
 {
     let mut args = [0u64; 64];
     match resolve_args(
         DEPTH,
         stream,
         table,
-        params,
+        scope,
         after(pos, 4),
         count,
         env,
@@ -244,40 +218,6 @@ fn user_op_statement(
             next,
             walk,
         ),
-    }
-}
-
-// A call of what is no macro.
-pub fn other_call(
-    called: Called,
-    stream: &[u8],
-    table: &[u16; table::LENGTH],
-    params: &[u64],
-    actions: &mut [u64],
-    temporaries: &mut [u64],
-    env: Env,
-    pos: usize,
-    count: u64,
-    walk: Walk,
-) -> Step
-    ensures { λ r. ⌜ stepped r (now (actions .exit)) (now (temporaries .exit)) ≡ otherCall called (now (stream .entry)) (now (table .entry)) (now (params .entry)) (now (actions .entry)) (now (temporaries .entry)) env pos count walk ⌝ }
-{
-    let kind = called.kind;
-    match kind {
-        DELAY_SLOT => delay_slot(stream, actions, pos, count, walk),
-        USER_OP => user_op_statement(
-            stream,
-            table,
-            params,
-            actions,
-            temporaries,
-            env,
-            pos,
-            called.number,
-            count,
-            walk,
-        ),
-        _ => stop(walk, called.number),
     }
 }
 
@@ -319,7 +259,7 @@ fn counted(
 pub fn macro_args(
     stream: &[u8],
     table: &[u16; table::LENGTH],
-    params: &[u64],
+    scope: &[u64],
     actions: &mut [u64],
     temporaries: &mut [u64],
     args: &mut [u64],
@@ -329,13 +269,13 @@ pub fn macro_args(
     count: u64,
     state: State,
 ) -> Args
-    ensures { λ r. ⌜ passed r (now (actions .exit)) (now (temporaries .exit)) (now (args .exit)) ≡ macroArgs (now (stream .entry)) (now (table .entry)) (now (params .entry)) (now (actions .entry)) (now (temporaries .entry)) (now (args .entry)) env pos id count state ⌝ }
+    ensures { λ r. ⌜ passed r (now (actions .exit)) (now (temporaries .exit)) (now (args .exit)) ≡ macroArgs (now (stream .entry)) (now (table .entry)) (now (scope .entry)) (now (actions .entry)) (now (temporaries .entry)) (now (args .entry)) env pos id count state ⌝ }
 {
     match resolve_args(
         DEPTH,
         stream,
         table,
-        params,
+        scope,
         after(pos, 4),
         count,
         env,

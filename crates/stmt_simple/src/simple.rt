@@ -5,14 +5,14 @@ use codes::export_kind;
 use codes::header;
 use codes::operation;
 use codes::refusal;
-use codes::symbol_kind;
 use expr_reading::read::read_operand;
 use expr_reading::read::read_value;
 use expr_resolver::expr::DEPTH;
 use expr_resolver::expr::resolve_expr;
 use expr_scope::scope::ExprValue;
-use expr_scope::scope::global;
 use expr_scope::scope::named_tmp;
+use expr_scope::symbols::Symbol;
+use expr_scope::symbols::lookup;
 use expr_terms::answers::Expr;
 use expr_terms::answers::after;
 use list_pushes::push::Env;
@@ -32,7 +32,7 @@ use stmt_walk::walk::read_then;
 use stmt_walk::walk::stop;
 ghost use mathlib.Core.Path.{_≡_};
 ghost use Rattle.list_values.specs.Base.{listed};
-ghost use Rattle.stmt_walk.specs.Walks.{stepped};
+ghost use Rattle.stmt_walk.specs.Walks.{stepped, walked};
 ghost use Rattle.stmt_simple.specs.Simple.{unimplemented, exported, exportValue, exportOf, exportStatement, localStatement, assign, localAssignment, findSubtable, buildTable, build};
 
 pub fn unimplemented(
@@ -76,7 +76,6 @@ fn exported(walk: Walk, kind: u64, value: Value, size: u64, state: State, next: 
             labels: walk.labels,
             placed: walk.placed,
             statements: walk.statements,
-            scopes: walk.scopes,
             export: Export {
                 kind,
                 v: value,
@@ -137,20 +136,20 @@ fn export_of(
 pub fn export_statement(
     stream: &[u8],
     table: &[u16; codes::table::LENGTH],
-    params: &[u64],
+    scope: &[u64],
     actions: &mut [u64],
     temporaries: &mut [u64],
     env: Env,
     pos: usize,
     walk: Walk,
 ) -> Step
-    ensures { λ r. ⌜ stepped r (now (actions .exit)) (now (temporaries .exit)) ≡ exportStatement (now (stream .entry)) (now (table .entry)) (now (params .entry)) (now (actions .entry)) (now (temporaries .entry)) env pos walk ⌝ }
+    ensures { λ r. ⌜ stepped r (now (actions .exit)) (now (temporaries .exit)) ≡ exportStatement (now (stream .entry)) (now (table .entry)) (now (scope .entry)) (now (actions .entry)) (now (temporaries .entry)) env pos walk ⌝ }
 {
     match resolve_expr(
         DEPTH,
         stream,
         table,
-        params,
+        scope,
         after(pos, 1),
         env,
         actions,
@@ -175,17 +174,18 @@ pub fn export_statement(
 pub fn local_statement(
     stream: &[u8],
     table: &[u16; codes::table::LENGTH],
+    scope: &mut [u64],
     temporaries: &mut [u64],
     env: Env,
     pos: usize,
     walk: Walk,
 ) -> Step
-    ensures { λ r. ⌜ listed r (now (temporaries .exit)) ≡ localStatement (now (stream .entry)) (now (table .entry)) (now (temporaries .entry)) env pos walk ⌝ }
+    ensures { λ r. ⌜ stepped r (now (scope .exit)) (now (temporaries .exit)) ≡ localStatement (now (stream .entry)) (now (table .entry)) (now (scope .entry)) (now (temporaries .entry)) env pos walk ⌝ }
 {
     let name = u16_in(stream, pos, 1);
     let size = u16_in(stream, pos, 3);
     read_then(
-        named_tmp(table, temporaries, env, name, size, walk.st),
+        named_tmp(table, scope, temporaries, env, name, size, walk.st),
         after(pos, 5),
         walk,
     )
@@ -195,7 +195,7 @@ pub fn local_statement(
 fn assign(
     stream: &[u8],
     table: &[u16; codes::table::LENGTH],
-    params: &[u64],
+    scope: &[u64],
     actions: &mut [u64],
     temporaries: &mut [u64],
     env: Env,
@@ -204,13 +204,13 @@ fn assign(
     state: State,
     walk: Walk,
 ) -> Step
-    ensures { λ r. ⌜ stepped r (now (actions .exit)) (now (temporaries .exit)) ≡ assign (now (stream .entry)) (now (table .entry)) (now (params .entry)) (now (actions .entry)) (now (temporaries .entry)) env pos to state walk ⌝ }
+    ensures { λ r. ⌜ stepped r (now (actions .exit)) (now (temporaries .exit)) ≡ assign (now (stream .entry)) (now (table .entry)) (now (scope .entry)) (now (actions .entry)) (now (temporaries .entry)) env pos to state walk ⌝ }
 {
     match resolve_expr(
         DEPTH,
         stream,
         table,
-        params,
+        scope,
         pos,
         env,
         actions,
@@ -229,23 +229,23 @@ fn assign(
 pub fn local_assignment(
     stream: &[u8],
     table: &[u16; codes::table::LENGTH],
-    params: &[u64],
+    scope: &mut [u64],
     actions: &mut [u64],
     temporaries: &mut [u64],
     env: Env,
     pos: usize,
     walk: Walk,
 ) -> Step
-    ensures { λ r. ⌜ stepped r (now (actions .exit)) (now (temporaries .exit)) ≡ localAssignment (now (stream .entry)) (now (table .entry)) (now (params .entry)) (now (actions .entry)) (now (temporaries .entry)) env pos walk ⌝ }
+    ensures { λ r. ⌜ walked r (now (scope .exit)) (now (actions .exit)) (now (temporaries .exit)) ≡ localAssignment (now (stream .entry)) (now (table .entry)) (now (scope .entry)) (now (actions .entry)) (now (temporaries .entry)) env pos walk ⌝ }
 {
     let name = u16_in(stream, pos, 1);
     let size = u16_in(stream, pos, 3);
-    match named_tmp(table, temporaries, env, name, size, walk.st) {
+    match named_tmp(table, scope, temporaries, env, name, size, walk.st) {
         Read::No(n) => stop(walk, n),
         Read::Value { v, st } => assign(
             stream,
             table,
-            params,
+            scope,
             actions,
             temporaries,
             env,
@@ -318,12 +318,9 @@ pub fn build(
 ) -> Step
     ensures { λ r. ⌜ listed r (now (actions .exit)) ≡ build (now (stream .entry)) (now (table .entry)) (now (actions .entry)) pos walk ⌝ }
 {
-    let g = global(table, u16_in(stream, pos, 1));
-    if g == 0 {
-        return stop(walk, refusal::UNDEFINED);
+    match lookup(table, u16_in(stream, pos, 1)) {
+        Symbol::Undefined => stop(walk, refusal::UNDEFINED),
+        Symbol::Table(wanted) => build_table(stream, table, actions, wanted, pos, walk),
+        _ => stop(walk, refusal::WRONG_KIND),
     }
-    if (g - 1) % 8 != symbol_kind::TABLE {
-        return stop(walk, refusal::WRONG_KIND);
-    }
-    build_table(stream, table, actions, (g - 1) / 8, pos, walk)
 }

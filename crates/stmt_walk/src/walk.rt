@@ -13,13 +13,12 @@ pub struct Export {
     pub size: u64,
 }
 
-// The walk's state above that of expressions: labels given, labels placed, statements begun, macro calls entered.
+// The walk's state above that of expressions: labels given, labels placed, statements begun, the export.
 pub struct Walk {
     pub st: State,
     pub labels: u64,
     pub placed: u64,
     pub statements: u64,
-    pub scopes: u64,
     pub export: Export,
 }
 
@@ -37,7 +36,6 @@ pub fn with_state(walk: Walk, state: State) -> Walk
         labels: walk.labels,
         placed: walk.placed,
         statements: walk.statements,
-        scopes: walk.scopes,
         export,
     }
 }

@@ -3,11 +3,11 @@ use Rattle.resolve_file.proofs.walk_section.Statement.{statement}
 use Rattle.resolve_file.proofs.walk_section.Tie as tie
 use Rattle.resolve_file.proofs.walk_section.Reads as reads
 use Rattle.resolve_file.proofs.walk_section.Lts as lts
-use Rattle.stmt_bodies.proofs.statements.body.Reads as body-reads
 use Rattle.access.proofs.get_u16.Reads as get-u16-reads
 use Rattle.access.proofs.u16_at.Reads as u16-at-reads
 use Rattle.resolve_file.proofs.at_start.Reads as at-start-reads
 use Rattle.resolve_file.proofs.start_env.Reads as start-env-reads
+use Rattle.stmt_bodies.proofs.statements.body.Reads as body-reads
 use Rattle.resolve_file.proofs.FileLaws.{file-laws}
 
 get-u16-requires : tie.Need-get-u16-requires
@@ -34,9 +34,6 @@ at-start-requires c κs = search (file-laws, needs)
 slice-aggregate-body : tie.Need-slice-aggregate-body
 slice-aggregate-body c = search (file-laws, needs)
 
-slice-aggregate-body-2 : tie.Need-slice-aggregate-body-2
-slice-aggregate-body-2 c = search (file-laws, needs)
-
 body-requires : tie.Need-body-requires
 body-requires c κs = search (file-laws, needs)
 
@@ -61,7 +58,6 @@ walk-section-spec =
     start-env-requires
     at-start-requires
     slice-aggregate-body
-    slice-aggregate-body-2
     body-requires
     same-length
     same-length-2

@@ -27,10 +27,7 @@ use Rattle.expr_resolver.proofs.expr.user_op.Kinds as user-op-kinds
 use Rattle.expr_resolver.proofs.expr.+call_inbuilt+expr_value+part+resolve_args+resolve_call+resolve_expr+resolve_op+user_op.Lts-user_op as user-op-lts
 use Rattle.access.proofs.byte.Reads as byte-reads
 use Rattle.access.proofs.u16_in.Reads as u16-in-reads
-use Rattle.expr_terms.proofs.calls.call_user_op.Reads as call-user-op-reads
-use Rattle.expr_terms.proofs.calls.callee_of.Reads as callee-of-reads
-use Rattle.expr_terms.proofs.calls.subpiece.Reads as subpiece-reads
-use Rattle.expr_terms.proofs.answers.after.Reads as after-reads
+use Rattle.expr_reading.proofs.read.read_operand.Reads as read-operand-reads
 use Rattle.expr_resolver.proofs.expr.apply1.Reads as apply1-reads
 use Rattle.expr_resolver.proofs.expr.apply2.Reads as apply2-reads
 use Rattle.expr_resolver.proofs.expr.atom.Reads as atom-reads
@@ -41,7 +38,10 @@ use Rattle.expr_resolver.proofs.expr.plain_operand.Reads as plain-opera
 use Rattle.expr_resolver.proofs.expr.value_then.Reads as value-then-reads
 use Rattle.expr_resolver.proofs.expr.with_part.Reads as with-part-reads
 use Rattle.expr_scope.proofs.args.put_arg.Reads as put-arg-reads
-use Rattle.expr_reading.proofs.read.read_operand.Reads as read-operand-reads
+use Rattle.expr_terms.proofs.answers.after.Reads as after-reads
+use Rattle.expr_terms.proofs.calls.call_user_op.Reads as call-user-op-reads
+use Rattle.expr_terms.proofs.calls.callee_of.Reads as callee-of-reads
+use Rattle.expr_terms.proofs.calls.subpiece.Reads as subpiece-reads
 use Rattle.expr_resolver.proofs.expr.+call_inbuilt+expr_value+part+resolve_args+resolve_call+resolve_expr+resolve_op+user_op.{statement}
 use Rattle.expr_resolver.proofs.expr.+call_inbuilt+expr_value+part+resolve_args+resolve_call+resolve_expr+resolve_op+user_op.Tie.{close}
 use Rattle.expr_resolver.proofs.ExprLaws.{walk-laws, args-start, args-no, args-more, args-done}
@@ -371,20 +371,6 @@ expr-value-plain-operand-requires : (t : ℕ) → expr-value-lts.Need-plain-oper
 ) (expr-value-at t) expr-value.Post
 expr-value-plain-operand-requires t c κs = search (walk-laws, needs)
 
-expr-value-same-length : (t : ℕ) → expr-value-lts.Need-same-length (
-  plain-at-reads.Asked,
-  plain-at-reads.Learnt,
-  plain-operand-reads.Asked,
-  plain-operand-reads.Learnt,
-  resolve-expr-below t,
-  resolve-expr.Post,
-  read-operand-reads.Asked,
-  read-operand-reads.Learnt,
-  value-then-reads.Asked,
-  value-then-reads.Learnt,
-) (expr-value-at t) expr-value.Post
-expr-value-same-length t c = search (walk-laws, needs)
-
 expr-value-returns : (t : ℕ) → expr-value-lts.Need-returns (
   plain-at-reads.Asked,
   plain-at-reads.Learnt,
@@ -469,6 +455,20 @@ expr-value-value-then-requires : (t : ℕ) → expr-value-lts.Need-value-then-re
 ) (expr-value-at t) expr-value.Post
 expr-value-value-then-requires t c κs = search (walk-laws, needs)
 
+expr-value-same-length : (t : ℕ) → expr-value-lts.Need-same-length (
+  plain-at-reads.Asked,
+  plain-at-reads.Learnt,
+  plain-operand-reads.Asked,
+  plain-operand-reads.Learnt,
+  resolve-expr-below t,
+  resolve-expr.Post,
+  read-operand-reads.Asked,
+  read-operand-reads.Learnt,
+  value-then-reads.Asked,
+  value-then-reads.Learnt,
+) (expr-value-at t) expr-value.Post
+expr-value-same-length t c = search (walk-laws, needs)
+
 expr-value-same-length-2 : (t : ℕ) → expr-value-lts.Need-same-length-2 (
   plain-at-reads.Asked,
   plain-at-reads.Learnt,
@@ -482,20 +482,6 @@ expr-value-same-length-2 : (t : ℕ) → expr-value-lts.Need-same-length-2 (
   value-then-reads.Learnt,
 ) (expr-value-at t) expr-value.Post
 expr-value-same-length-2 t c = search (walk-laws, needs)
-
-expr-value-same-length-3 : (t : ℕ) → expr-value-lts.Need-same-length-3 (
-  plain-at-reads.Asked,
-  plain-at-reads.Learnt,
-  plain-operand-reads.Asked,
-  plain-operand-reads.Learnt,
-  resolve-expr-below t,
-  resolve-expr.Post,
-  read-operand-reads.Asked,
-  read-operand-reads.Learnt,
-  value-then-reads.Asked,
-  value-then-reads.Learnt,
-) (expr-value-at t) expr-value.Post
-expr-value-same-length-3 t c = search (walk-laws, needs)
 
 expr-value-returns-2 : (t : ℕ) → expr-value-lts.Need-returns-2 (
   plain-at-reads.Asked,
@@ -511,6 +497,20 @@ expr-value-returns-2 : (t : ℕ) → expr-value-lts.Need-returns-2 (
 ) (expr-value-at t) expr-value.Post
 expr-value-returns-2 t c = search (walk-laws, needs)
 
+expr-value-same-length-3 : (t : ℕ) → expr-value-lts.Need-same-length-3 (
+  plain-at-reads.Asked,
+  plain-at-reads.Learnt,
+  plain-operand-reads.Asked,
+  plain-operand-reads.Learnt,
+  resolve-expr-below t,
+  resolve-expr.Post,
+  read-operand-reads.Asked,
+  read-operand-reads.Learnt,
+  value-then-reads.Asked,
+  value-then-reads.Learnt,
+) (expr-value-at t) expr-value.Post
+expr-value-same-length-3 t c = search (walk-laws, needs)
+
 expr-value-same-length-4 : (t : ℕ) → expr-value-lts.Need-same-length-4 (
   plain-at-reads.Asked,
   plain-at-reads.Learnt,
@@ -524,20 +524,6 @@ expr-value-same-length-4 : (t : ℕ) → expr-value-lts.Need-same-length-4 (
   value-then-reads.Learnt,
 ) (expr-value-at t) expr-value.Post
 expr-value-same-length-4 t c = search (walk-laws, needs)
-
-expr-value-same-length-5 : (t : ℕ) → expr-value-lts.Need-same-length-5 (
-  plain-at-reads.Asked,
-  plain-at-reads.Learnt,
-  plain-operand-reads.Asked,
-  plain-operand-reads.Learnt,
-  resolve-expr-below t,
-  resolve-expr.Post,
-  read-operand-reads.Asked,
-  read-operand-reads.Learnt,
-  value-then-reads.Asked,
-  value-then-reads.Learnt,
-) (expr-value-at t) expr-value.Post
-expr-value-same-length-5 t c = search (walk-laws, needs)
 
 expr-value-returns-3 : (t : ℕ) → expr-value-lts.Need-returns-3 (
   plain-at-reads.Asked,
@@ -879,6 +865,22 @@ resolve-call-callee-of-requires : (t : ℕ) → resolve-call-lts.Need-callee-of-
 ) (resolve-call-at t) resolve-call.Post
 resolve-call-callee-of-requires t c κs = search (walk-laws, needs)
 
+resolve-call-enum-known-op : (t : ℕ) → resolve-call-lts.Need-enum-known-op (
+  u16-in-reads.Asked,
+  u16-in-reads.Learnt,
+  byte-reads.Asked,
+  byte-reads.Learnt,
+  callee-of-reads.Asked,
+  callee-of-reads.Learnt,
+  call-inbuilt-below t,
+  call-inbuilt.Post,
+  user-op-below t,
+  user-op.Post,
+  subpiece-reads.Asked,
+  subpiece-reads.Learnt,
+) (resolve-call-at t) resolve-call.Post
+resolve-call-enum-known-op t c = search (walk-laws, needs)
+
 resolve-call-call-inbuilt-requires : (t : ℕ) → resolve-call-lts.Need-call-inbuilt-requires (
   u16-in-reads.Asked,
   u16-in-reads.Learnt,
@@ -895,6 +897,22 @@ resolve-call-call-inbuilt-requires : (t : ℕ) → resolve-call-lts.Need-call-in
 ) (resolve-call-at t) resolve-call.Post
 resolve-call-call-inbuilt-requires t c κs = search (walk-laws, needs)
 
+resolve-call-enum-known-id : (t : ℕ) → resolve-call-lts.Need-enum-known-id (
+  u16-in-reads.Asked,
+  u16-in-reads.Learnt,
+  byte-reads.Asked,
+  byte-reads.Learnt,
+  callee-of-reads.Asked,
+  callee-of-reads.Learnt,
+  call-inbuilt-below t,
+  call-inbuilt.Post,
+  user-op-below t,
+  user-op.Post,
+  subpiece-reads.Asked,
+  subpiece-reads.Learnt,
+) (resolve-call-at t) resolve-call.Post
+resolve-call-enum-known-id t c = search (walk-laws, needs)
+
 resolve-call-user-op-requires : (t : ℕ) → resolve-call-lts.Need-user-op-requires (
   u16-in-reads.Asked,
   u16-in-reads.Learnt,
@@ -910,6 +928,38 @@ resolve-call-user-op-requires : (t : ℕ) → resolve-call-lts.Need-user-op-requ
   subpiece-reads.Learnt,
 ) (resolve-call-at t) resolve-call.Post
 resolve-call-user-op-requires t c κs = search (walk-laws, needs)
+
+resolve-call-enum-known-k : (t : ℕ) → resolve-call-lts.Need-enum-known-k (
+  u16-in-reads.Asked,
+  u16-in-reads.Learnt,
+  byte-reads.Asked,
+  byte-reads.Learnt,
+  callee-of-reads.Asked,
+  callee-of-reads.Learnt,
+  call-inbuilt-below t,
+  call-inbuilt.Post,
+  user-op-below t,
+  user-op.Post,
+  subpiece-reads.Asked,
+  subpiece-reads.Learnt,
+) (resolve-call-at t) resolve-call.Post
+resolve-call-enum-known-k t c = search (walk-laws, needs)
+
+resolve-call-enum-told : (t : ℕ) → resolve-call-lts.Need-enum-told (
+  u16-in-reads.Asked,
+  u16-in-reads.Learnt,
+  byte-reads.Asked,
+  byte-reads.Learnt,
+  callee-of-reads.Asked,
+  callee-of-reads.Learnt,
+  call-inbuilt-below t,
+  call-inbuilt.Post,
+  user-op-below t,
+  user-op.Post,
+  subpiece-reads.Asked,
+  subpiece-reads.Learnt,
+) (resolve-call-at t) resolve-call.Post
+resolve-call-enum-told t c = search (walk-laws, needs)
 
 resolve-call-subpiece-requires : (t : ℕ) → resolve-call-lts.Need-subpiece-requires (
   u16-in-reads.Asked,
@@ -1129,20 +1179,6 @@ resolve-expr-atom-requires : (t : ℕ) → resolve-expr-lts.Need-atom-requires (
 ) (resolve-expr-at t) resolve-expr.Post
 resolve-expr-atom-requires t c κs = search (walk-laws, needs)
 
-resolve-expr-same-length : (t : ℕ) → resolve-expr-lts.Need-same-length (
-  byte-reads.Asked,
-  byte-reads.Learnt,
-  atom-reads.Asked,
-  atom-reads.Learnt,
-  resolve-op-below t,
-  resolve-op.Post,
-  part-below t,
-  part.Post,
-  resolve-call-below t,
-  resolve-call.Post,
-) (resolve-expr-at t) resolve-expr.Post
-resolve-expr-same-length t c = search (walk-laws, needs)
-
 resolve-expr-returns-2 : (t : ℕ) → resolve-expr-lts.Need-returns-2 (
   byte-reads.Asked,
   byte-reads.Learnt,
@@ -1185,6 +1221,20 @@ resolve-expr-resolve-op-requires : (t : ℕ) → resolve-expr-lts.Need-resolve-o
 ) (resolve-expr-at t) resolve-expr.Post
 resolve-expr-resolve-op-requires t c κs = search (walk-laws, needs)
 
+resolve-expr-same-length : (t : ℕ) → resolve-expr-lts.Need-same-length (
+  byte-reads.Asked,
+  byte-reads.Learnt,
+  atom-reads.Asked,
+  atom-reads.Learnt,
+  resolve-op-below t,
+  resolve-op.Post,
+  part-below t,
+  part.Post,
+  resolve-call-below t,
+  resolve-call.Post,
+) (resolve-expr-at t) resolve-expr.Post
+resolve-expr-same-length t c = search (walk-laws, needs)
+
 resolve-expr-same-length-2 : (t : ℕ) → resolve-expr-lts.Need-same-length-2 (
   byte-reads.Asked,
   byte-reads.Learnt,
@@ -1198,20 +1248,6 @@ resolve-expr-same-length-2 : (t : ℕ) → resolve-expr-lts.Need-same-length-2 (
   resolve-call.Post,
 ) (resolve-expr-at t) resolve-expr.Post
 resolve-expr-same-length-2 t c = search (walk-laws, needs)
-
-resolve-expr-same-length-3 : (t : ℕ) → resolve-expr-lts.Need-same-length-3 (
-  byte-reads.Asked,
-  byte-reads.Learnt,
-  atom-reads.Asked,
-  atom-reads.Learnt,
-  resolve-op-below t,
-  resolve-op.Post,
-  part-below t,
-  part.Post,
-  resolve-call-below t,
-  resolve-call.Post,
-) (resolve-expr-at t) resolve-expr.Post
-resolve-expr-same-length-3 t c = search (walk-laws, needs)
 
 resolve-expr-returns-3 : (t : ℕ) → resolve-expr-lts.Need-returns-3 (
   byte-reads.Asked,
@@ -1255,6 +1291,20 @@ resolve-expr-part-requires : (t : ℕ) → resolve-expr-lts.Need-part-requires (
 ) (resolve-expr-at t) resolve-expr.Post
 resolve-expr-part-requires t c κs = search (walk-laws, needs)
 
+resolve-expr-same-length-3 : (t : ℕ) → resolve-expr-lts.Need-same-length-3 (
+  byte-reads.Asked,
+  byte-reads.Learnt,
+  atom-reads.Asked,
+  atom-reads.Learnt,
+  resolve-op-below t,
+  resolve-op.Post,
+  part-below t,
+  part.Post,
+  resolve-call-below t,
+  resolve-call.Post,
+) (resolve-expr-at t) resolve-expr.Post
+resolve-expr-same-length-3 t c = search (walk-laws, needs)
+
 resolve-expr-same-length-4 : (t : ℕ) → resolve-expr-lts.Need-same-length-4 (
   byte-reads.Asked,
   byte-reads.Learnt,
@@ -1268,20 +1318,6 @@ resolve-expr-same-length-4 : (t : ℕ) → resolve-expr-lts.Need-same-length-4 (
   resolve-call.Post,
 ) (resolve-expr-at t) resolve-expr.Post
 resolve-expr-same-length-4 t c = search (walk-laws, needs)
-
-resolve-expr-same-length-5 : (t : ℕ) → resolve-expr-lts.Need-same-length-5 (
-  byte-reads.Asked,
-  byte-reads.Learnt,
-  atom-reads.Asked,
-  atom-reads.Learnt,
-  resolve-op-below t,
-  resolve-op.Post,
-  part-below t,
-  part.Post,
-  resolve-call-below t,
-  resolve-call.Post,
-) (resolve-expr-at t) resolve-expr.Post
-resolve-expr-same-length-5 t c = search (walk-laws, needs)
 
 resolve-expr-returns-4 : (t : ℕ) → resolve-expr-lts.Need-returns-4 (
   byte-reads.Asked,
@@ -1339,6 +1375,20 @@ resolve-expr-resolve-call-requires : (t : ℕ) → resolve-expr-lts.Need-resolve
 ) (resolve-expr-at t) resolve-expr.Post
 resolve-expr-resolve-call-requires t c κs = search (walk-laws, needs)
 
+resolve-expr-same-length-5 : (t : ℕ) → resolve-expr-lts.Need-same-length-5 (
+  byte-reads.Asked,
+  byte-reads.Learnt,
+  atom-reads.Asked,
+  atom-reads.Learnt,
+  resolve-op-below t,
+  resolve-op.Post,
+  part-below t,
+  part.Post,
+  resolve-call-below t,
+  resolve-call.Post,
+) (resolve-expr-at t) resolve-expr.Post
+resolve-expr-same-length-5 t c = search (walk-laws, needs)
+
 resolve-expr-same-length-6 : (t : ℕ) → resolve-expr-lts.Need-same-length-6 (
   byte-reads.Asked,
   byte-reads.Learnt,
@@ -1352,20 +1402,6 @@ resolve-expr-same-length-6 : (t : ℕ) → resolve-expr-lts.Need-same-length-6 (
   resolve-call.Post,
 ) (resolve-expr-at t) resolve-expr.Post
 resolve-expr-same-length-6 t c = search (walk-laws, needs)
-
-resolve-expr-same-length-7 : (t : ℕ) → resolve-expr-lts.Need-same-length-7 (
-  byte-reads.Asked,
-  byte-reads.Learnt,
-  atom-reads.Asked,
-  atom-reads.Learnt,
-  resolve-op-below t,
-  resolve-op.Post,
-  part-below t,
-  part.Post,
-  resolve-call-below t,
-  resolve-call.Post,
-) (resolve-expr-at t) resolve-expr.Post
-resolve-expr-same-length-7 t c = search (walk-laws, needs)
 
 resolve-expr-returns-6 : (t : ℕ) → resolve-expr-lts.Need-returns-6 (
   byte-reads.Asked,
@@ -1687,18 +1723,17 @@ pub +call-inbuilt+expr-value+part+resolve-args+resolve-call+resolve-expr+resolve
     expr-value.Post
     (expr-value-plain-at-requires t)
     (expr-value-plain-operand-requires t)
-    (expr-value-same-length t)
     (expr-value-returns t)
     (expr-value-resolve-expr-requires t)
     (expr-value-enum-known-n t)
     (expr-value-enum-known-next t)
     (expr-value-read-operand-requires t)
     (expr-value-value-then-requires t)
+    (expr-value-same-length t)
     (expr-value-same-length-2 t)
-    (expr-value-same-length-3 t)
     (expr-value-returns-2 t)
+    (expr-value-same-length-3 t)
     (expr-value-same-length-4 t)
-    (expr-value-same-length-5 t)
     (expr-value-returns-3 t))
     (λ t. part-lts.spec (
       part-at-reads.Asked,
@@ -1769,8 +1804,12 @@ pub +call-inbuilt+expr-value+part+resolve-args+resolve-call+resolve-expr+resolve
     (resolve-call-u16-in-requires t)
     (resolve-call-byte-requires t)
     (resolve-call-callee-of-requires t)
+    (resolve-call-enum-known-op t)
     (resolve-call-call-inbuilt-requires t)
+    (resolve-call-enum-known-id t)
     (resolve-call-user-op-requires t)
+    (resolve-call-enum-known-k t)
+    (resolve-call-enum-told t)
     (resolve-call-subpiece-requires t)
     (resolve-call-same-length t)
     (resolve-call-same-length-2 t)
@@ -1799,23 +1838,22 @@ pub +call-inbuilt+expr-value+part+resolve-args+resolve-call+resolve-expr+resolve
     (resolve-expr-returns t)
     (resolve-expr-byte-requires t)
     (resolve-expr-atom-requires t)
-    (resolve-expr-same-length t)
     (resolve-expr-returns-2 t)
     (resolve-expr-sub-resolve-op t)
     (resolve-expr-resolve-op-requires t)
+    (resolve-expr-same-length t)
     (resolve-expr-same-length-2 t)
-    (resolve-expr-same-length-3 t)
     (resolve-expr-returns-3 t)
     (resolve-expr-sub-part t)
     (resolve-expr-part-requires t)
+    (resolve-expr-same-length-3 t)
     (resolve-expr-same-length-4 t)
-    (resolve-expr-same-length-5 t)
     (resolve-expr-returns-4 t)
     (resolve-expr-returns-5 t)
     (resolve-expr-sub-resolve-call t)
     (resolve-expr-resolve-call-requires t)
+    (resolve-expr-same-length-5 t)
     (resolve-expr-same-length-6 t)
-    (resolve-expr-same-length-7 t)
     (resolve-expr-returns-6 t))
     (λ t. resolve-op-lts.spec (
       operands-of-reads.Asked,

@@ -4,11 +4,12 @@ use Rattle.expr_scope.proofs.scope.resolve_ident.Tie as tie
 use Rattle.expr_scope.proofs.scope.resolve_ident.Reads as reads
 use Rattle.expr_scope.proofs.scope.resolve_ident.Lts as lts
 use Rattle.expr_scope.proofs.scope.find_param.Reads as find-param-reads
+use Rattle.expr_scope.proofs.scope.global_meaning.Reads as global-meaning-reads
 use Rattle.expr_scope.proofs.scope.of_slot.Reads as of-slot-reads
-use Rattle.expr_scope.proofs.scope.other_global.Reads as other-global-reads
 use Rattle.expr_scope.proofs.scope.param_place.Reads as param-place-reads
 use Rattle.expr_scope.proofs.scope.plain_inner.Reads as plain-inner-reads
 use Rattle.expr_scope.proofs.scope.slot_at.Reads as slot-at-reads
+use Rattle.expr_scope.proofs.symbols.lookup.Reads as lookup-reads
 use Rattle.list_values.proofs.value.local.Reads as local-reads
 use Rattle.expr_scope.proofs.ScopeLaws.{scope-laws}
 
@@ -42,8 +43,11 @@ local-requires c κs = search (scope-laws, needs)
 returns-2 : tie.Need-returns-2
 returns-2 c = search (scope-laws, needs)
 
-other-global-requires : tie.Need-other-global-requires
-other-global-requires c κs = search (scope-laws, needs)
+lookup-requires : tie.Need-lookup-requires
+lookup-requires c κs = search (scope-laws, needs)
+
+global-meaning-requires : tie.Need-global-meaning-requires
+global-meaning-requires c κs = search (scope-laws, needs)
 
 returns-3 : tie.Need-returns-3
 returns-3 c = search (scope-laws, needs)
@@ -62,5 +66,6 @@ resolve-ident-spec =
     sub-local
     local-requires
     returns-2
-    other-global-requires
+    lookup-requires
+    global-meaning-requires
     returns-3)

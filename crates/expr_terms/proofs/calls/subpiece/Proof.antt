@@ -3,9 +3,9 @@ use Rattle.expr_terms.proofs.calls.subpiece.Statement.{statement}
 use Rattle.expr_terms.proofs.calls.subpiece.Tie as tie
 use Rattle.expr_terms.proofs.calls.subpiece.Reads as reads
 use Rattle.expr_terms.proofs.calls.subpiece.Lts as lts
-use Rattle.expr_terms.proofs.calls.subpiece_of.Reads as subpiece-of-reads
 use Rattle.expr_reading.proofs.read.read_operand.Reads as read-operand-reads
 use Rattle.expr_scope.proofs.scope.resolve_ident.Reads as resolve-ident-reads
+use Rattle.expr_terms.proofs.calls.subpiece_of.Reads as subpiece-of-reads
 use Rattle.expr_terms.proofs.CallLaws.{call-laws}
 
 resolve-ident-requires : tie.Need-resolve-ident-requires
@@ -23,17 +23,14 @@ read-operand-requires c κs = search (call-laws, needs)
 subpiece-of-requires : tie.Need-subpiece-of-requires
 subpiece-of-requires c κs = search (call-laws, needs)
 
-same-length : tie.Need-same-length
-same-length c = search (call-laws, needs)
-
 returns : tie.Need-returns
 returns c = search (call-laws, needs)
 
+same-length : tie.Need-same-length
+same-length c = search (call-laws, needs)
+
 same-length-2 : tie.Need-same-length-2
 same-length-2 c = search (call-laws, needs)
-
-same-length-3 : tie.Need-same-length-3
-same-length-3 c = search (call-laws, needs)
 
 returns-2 : tie.Need-returns-2
 returns-2 c = search (call-laws, needs)
@@ -47,8 +44,7 @@ subpiece-spec =
     enum-known-x
     read-operand-requires
     subpiece-of-requires
-    same-length
     returns
+    same-length
     same-length-2
-    same-length-3
     returns-2)

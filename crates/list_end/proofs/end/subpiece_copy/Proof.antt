@@ -5,9 +5,9 @@ use Rattle.list_end.proofs.end.subpiece_copy.Reads as reads
 use Rattle.list_end.proofs.end.subpiece_copy.Lts as lts
 use Rattle.list_end.proofs.end.write_copy.Reads as write-copy-reads
 use Rattle.list_values.proofs.value.get.Reads as get-reads
+use Rattle.list_values.proofs.value.slice_bytes.Reads as slice-bytes-reads
 use Rattle.list_values.proofs.value.value_at.Reads as value-at-reads
-use Rattle.list_end.proofs.EndLaws.{end-laws, copy-far}
-use Rattle.list_values.proofs.ValueLaws.{offset-small}
+use Rattle.list_end.proofs.EndLaws.{end-laws, copy-refused}
 use Prim.Native.Nat.{_<_}
 use native.Mathlib.Omega.{arith}
 
@@ -26,17 +26,23 @@ value-at-requires-2 c κs = search (end-laws, needs)
 get-requires : tie.Need-get-requires
 get-requires c κs = search (end-laws, needs)
 
-add-offset : tie.Need-add-offset
-add-offset c = let h : c .before .before .before .value-at2 .result .offset < 65536 = offset-small _ _ _ _ (c .before .before .before .value-at2 .ensures) in omega arith
+slice-bytes-requires : tie.Need-slice-bytes-requires
+slice-bytes-requires c κs = search (end-laws, needs)
+
+enum-known-n : tie.Need-enum-known-n
+enum-known-n c = search (end-laws, needs)
+
+enum-known-part : tie.Need-enum-known-part
+enum-known-part c = search (end-laws, needs)
+
+write-copy-requires : tie.Need-write-copy-requires
+write-copy-requires c κs = search (end-laws, needs)
 
 same-length-2 : tie.Need-same-length-2
 same-length-2 c = search (end-laws, needs)
 
 returns-2 : tie.Need-returns-2
-returns-2 c = copy-far _ _ _ (c .before .before .before .before .before .before .before .value-at .ensures) _ _ (c .before .before .before .before .before .before .if1 .left) (c .before .before .before .before .value-at2 .ensures) (c .before .before .get .ensures) (c .if2 .taken)
-
-write-copy-requires : tie.Need-write-copy-requires
-write-copy-requires c κs = search (end-laws, needs)
+returns-2 c = copy-refused _ _ _ (c .before .before .before .before .before .before .before .before .before .value-at .ensures) _ _ (c .before .before .before .before .before .before .before .before .if1 .left) (c .before .before .before .before .before .before .value-at2 .ensures) (c .before .before .before .before .get .ensures) _ (c .before .before .before .slice-bytes .ensures) _ (search needs)
 
 same-length-3 : tie.Need-same-length-3
 same-length-3 c = search (end-laws, needs)
@@ -53,9 +59,11 @@ subpiece-copy-spec =
     returns
     value-at-requires-2
     get-requires
-    add-offset
+    slice-bytes-requires
+    enum-known-n
+    enum-known-part
+    write-copy-requires
     same-length-2
     returns-2
-    write-copy-requires
     same-length-3
     returns-3)

@@ -15,20 +15,14 @@ add-temporaries c = search (push-laws, needs)
 mul-temporaries-2 : tie.Need-mul-temporaries-2
 mul-temporaries-2 c = search (push-laws, needs)
 
-add-temporaries-2 : tie.Need-add-temporaries-2
-add-temporaries-2 c = search (push-laws, needs)
-
-mul-temporaries-3 : tie.Need-mul-temporaries-3
-mul-temporaries-3 c = search (push-laws, needs)
-
 slice-write-temporaries : tie.Need-slice-write-temporaries
 slice-write-temporaries c = search (push-laws, needs)
 
 local-requires : tie.Need-local-requires
 local-requires c κs = search (push-laws, needs)
 
-add-t18 : tie.Need-add-t18
-add-t18 c = search (push-laws, needs)
+add-t14 : tie.Need-add-t14
+add-t14 c = search (push-laws, needs)
 
 same-length : tie.Need-same-length
 same-length c = search (push-laws, needs)
@@ -49,11 +43,9 @@ add-tmp-spec =
     mul-temporaries
     add-temporaries
     mul-temporaries-2
-    add-temporaries-2
-    mul-temporaries-3
     slice-write-temporaries
     local-requires
-    add-t18
+    add-t14
     same-length
     returns
     returns-2

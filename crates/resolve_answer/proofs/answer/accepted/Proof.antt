@@ -5,16 +5,12 @@ use Rattle.resolve_answer.proofs.answer.accepted.Reads as reads
 use Rattle.resolve_answer.proofs.answer.accepted.Lts as lts
 use Rattle.access.proofs.zero_from.Reads as zero-from-reads
 use Rattle.list_end.proofs.end.assemble.Reads as assemble-reads
-use Rattle.resolve_answer.proofs.answer.clear_marks.Reads as clear-marks-reads
 use Rattle.resolve_answer.proofs.answer.export_words.Reads as export-words-reads
 use Rattle.resolve_answer.proofs.answer.points.Reads as points-reads
 use Rattle.resolve_answer.proofs.AnswerLaws.{answer-laws}
 
 assemble-requires : tie.Need-assemble-requires
 assemble-requires c κs = search needs
-
-clear-marks-requires : tie.Need-clear-marks-requires
-clear-marks-requires c κs = search needs
 
 zero-from-requires : tie.Need-zero-from-requires
 zero-from-requires c κs = search needs
@@ -39,7 +35,6 @@ accepted-spec =
     tie.close
     (tie.spec
     assemble-requires
-    clear-marks-requires
     zero-from-requires
     export-words-requires
     points-requires

@@ -3,9 +3,9 @@ use Rattle.stmt_assignments.proofs.copies.copy_statement.Statement.{sta
 use Rattle.stmt_assignments.proofs.copies.copy_statement.Tie as tie
 use Rattle.stmt_assignments.proofs.copies.copy_statement.Reads as reads
 use Rattle.stmt_assignments.proofs.copies.copy_statement.Lts as lts
-use Rattle.stmt_assignments.proofs.copies.copy_target.Reads as copy-target-reads
-use Rattle.expr_terms.proofs.answers.after.Reads as after-reads
 use Rattle.expr_resolver.proofs.expr.resolve_expr.Reads as resolve-expr-reads
+use Rattle.expr_terms.proofs.answers.after.Reads as after-reads
+use Rattle.stmt_assignments.proofs.copies.copy_target.Reads as copy-target-reads
 use Rattle.stmt_walk.proofs.walk.stop.Reads as stop-reads
 use Rattle.stmt_assignments.proofs.CopyLaws.{bit-laws, copy-laws}
 
@@ -33,14 +33,20 @@ same-length c = search needs
 same-length-2 : tie.Need-same-length-2
 same-length-2 c = search needs
 
+same-length-3 : tie.Need-same-length-3
+same-length-3 c = search (bit-laws, copy-laws, needs)
+
 returns : tie.Need-returns
 returns c = search (bit-laws, copy-laws, needs)
 
-same-length-3 : tie.Need-same-length-3
-same-length-3 c = search needs
-
 same-length-4 : tie.Need-same-length-4
 same-length-4 c = search needs
+
+same-length-5 : tie.Need-same-length-5
+same-length-5 c = search needs
+
+same-length-6 : tie.Need-same-length-6
+same-length-6 c = search (bit-laws, copy-laws, needs)
 
 returns-2 : tie.Need-returns-2
 returns-2 c = search (bit-laws, copy-laws, needs)
@@ -57,7 +63,9 @@ copy-statement-spec =
     copy-target-requires
     same-length
     same-length-2
-    returns
     same-length-3
+    returns
     same-length-4
+    same-length-5
+    same-length-6
     returns-2)

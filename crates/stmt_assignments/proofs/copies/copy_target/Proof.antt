@@ -29,14 +29,20 @@ same-length c = search needs
 same-length-2 : tie.Need-same-length-2
 same-length-2 c = search needs
 
+same-length-3 : tie.Need-same-length-3
+same-length-3 c = search (bit-laws, copy-laws, needs)
+
 returns : tie.Need-returns
 returns c = search (bit-laws, copy-laws, needs)
 
-same-length-3 : tie.Need-same-length-3
-same-length-3 c = search needs
-
 same-length-4 : tie.Need-same-length-4
 same-length-4 c = search needs
+
+same-length-5 : tie.Need-same-length-5
+same-length-5 c = search needs
+
+same-length-6 : tie.Need-same-length-6
+same-length-6 c = search (bit-laws, copy-laws, needs)
 
 returns-2 : tie.Need-returns-2
 returns-2 c = search (bit-laws, copy-laws, needs)
@@ -52,7 +58,9 @@ copy-target-spec =
     copy-into-requires
     same-length
     same-length-2
-    returns
     same-length-3
+    returns
     same-length-4
+    same-length-5
+    same-length-6
     returns-2)

@@ -26,11 +26,17 @@ enum-known-v c = search needs
 same-length : tie.Need-same-length
 same-length c = search needs
 
+same-length-2 : tie.Need-same-length-2
+same-length-2 c = search (bit-laws, copy-laws, needs)
+
 returns : tie.Need-returns
 returns c = search (bit-laws, copy-laws, needs)
 
-same-length-2 : tie.Need-same-length-2
-same-length-2 c = search needs
+same-length-3 : tie.Need-same-length-3
+same-length-3 c = search needs
+
+same-length-4 : tie.Need-same-length-4
+same-length-4 c = search (bit-laws, copy-laws, needs)
 
 returns-2 : tie.Need-returns-2
 returns-2 c = search (bit-laws, copy-laws, needs)
@@ -45,6 +51,8 @@ new-target-spec =
     enum-known-n
     enum-known-v
     same-length
-    returns
     same-length-2
+    returns
+    same-length-3
+    same-length-4
     returns-2)

@@ -16,104 +16,105 @@ use Rattle.stmt_bodies.proofs.statements.+body+call_statement+enter+mac
 use Rattle.stmt_bodies.proofs.statements.statement.Reads as statement′
 use Rattle.stmt_bodies.proofs.statements.statement.Kinds as statement-kinds
 use Rattle.stmt_bodies.proofs.statements.+body+call_statement+enter+macro_statement+statement.Lts-statement as statement-lts
+use Rattle.access.proofs.byte.Reads as byte-reads
+use Rattle.access.proofs.u16_in.Reads as u16-in-reads
+use Rattle.expr_terms.proofs.answers.after.Reads as after-reads
+use Rattle.std.proofs.num.wrapping_add_u64.Reads as wrapping-add-u64-reads
 use Rattle.stmt_bodies.proofs.statements.begin.Reads as begin-reads
 use Rattle.stmt_bodies.proofs.statements.body_at.Reads as body-at-reads
-use Rattle.stmt_bodies.proofs.statements.entered.Reads as entered-reads
 use Rattle.stmt_bodies.proofs.statements.first_ordinal.Reads as first-ordinal-reads
 use Rattle.stmt_bodies.proofs.statements.forward.Reads as forward-reads
 use Rattle.stmt_bodies.proofs.statements.macro_env.Reads as macro-env-reads
 use Rattle.stmt_bodies.proofs.statements.other_statement.Reads as other-statement-reads
 use Rattle.stmt_bodies.proofs.statements.returned.Reads as returned-reads
-use Rattle.access.proofs.byte.Reads as byte-reads
-use Rattle.access.proofs.u16_in.Reads as u16-in-reads
 use Rattle.stmt_simple.proofs.calls.called_of.Reads as called-of-reads
+use Rattle.stmt_simple.proofs.calls.delay_slot.Reads as delay-slot-reads
 use Rattle.stmt_simple.proofs.calls.macro_args.Reads as macro-args-reads
 use Rattle.stmt_simple.proofs.calls.macro_at.Reads as macro-at-reads
-use Rattle.stmt_simple.proofs.calls.other_call.Reads as other-call-reads
-use Rattle.std.proofs.num.wrapping_add_u64.Reads as wrapping-add-u64-reads
-use Rattle.expr_terms.proofs.answers.after.Reads as after-reads
+use Rattle.stmt_simple.proofs.calls.user_op_statement.Reads as user-op-statement-reads
 use Rattle.stmt_walk.proofs.walk.stop.Reads as stop-reads
+use Rattle.stmt_walk.proofs.walk.with_state.Reads as with-state-reads
 use Rattle.stmt_bodies.proofs.statements.+body+call_statement+enter+macro_statement+statement.{statement}
 use Rattle.stmt_bodies.proofs.statements.+body+call_statement+enter+macro_statement+statement.Tie.{close}
 use borrow.Author.Needs.{needs}
 use mathlib.Core.Path.{_≡_}
 use lib.ListN.{length}
 use Rattle.stmt_bodies.specs.Statements.{enterMacro, resolveStatement, resolveAll, resolveBody}
-use Rattle.stmt_bodies.proofs.StatementLaws.{statement-laws, enter-body, bytes-fall, body-cut, body-next}
+use Rattle.stmt_bodies.proofs.StatementLaws.{statement-laws, enter-body, bytes-fall, body-cut, body-next, call-none}
 use native.Mathlib.Omega.{arith}
 
-abbrev μ-body : Measures 6 body-kinds.ps ℕ
+abbrev μ-body : Measures 5 body-kinds.ps ℕ
 μ-body κs a = 5 * a .0 + 4
 
-abbrev μ-call-statement : Measures 6 call-statement-kinds.ps ℕ
+abbrev μ-call-statement : Measures 5 call-statement-kinds.ps ℕ
 μ-call-statement κs a = 5 * a .0 + 2
 
-abbrev μ-enter : Measures 6 enter-kinds.ps ℕ
+abbrev μ-enter : Measures 5 enter-kinds.ps ℕ
 μ-enter κs a = 5 * a .0
 
-abbrev μ-macro-statement : Measures 6 macro-statement-kinds.ps ℕ
+abbrev μ-macro-statement : Measures 5 macro-statement-kinds.ps ℕ
 μ-macro-statement κs a = 5 * a .0 + 1
 
-abbrev μ-statement : Measures 6 statement-kinds.ps ℕ
+abbrev μ-statement : Measures 5 statement-kinds.ps ℕ
 μ-statement κs a = 5 * a .0 + 3
 
-abbrev body-at : ℕ → In 6 body-kinds.ps
-body-at t = and 6 body-kinds.ps (is 6 body-kinds.ps μ-body t) body.Pre
+abbrev body-at : ℕ → In 5 body-kinds.ps
+body-at t = and 5 body-kinds.ps (is 5 body-kinds.ps μ-body t) body.Pre
 
-abbrev body-below : ℕ → In 6 body-kinds.ps
-body-below t = and 6 body-kinds.ps (falls 6 body-kinds.ps _<_ μ-body t) body.Pre
+abbrev body-below : ℕ → In 5 body-kinds.ps
+body-below t = and 5 body-kinds.ps (falls 5 body-kinds.ps _<_ μ-body t) body.Pre
 
-abbrev call-statement-at : ℕ → In 6 call-statement-kinds.ps
+abbrev call-statement-at : ℕ → In 5 call-statement-kinds.ps
 call-statement-at t =
     and
-    6
+    5
     call-statement-kinds.ps
-    (is 6 call-statement-kinds.ps μ-call-statement t)
+    (is 5 call-statement-kinds.ps μ-call-statement t)
     call-statement.Pre
 
-abbrev call-statement-below : ℕ → In 6 call-statement-kinds.ps
+abbrev call-statement-below : ℕ → In 5 call-statement-kinds.ps
 call-statement-below t =
     and
-    6
+    5
     call-statement-kinds.ps
-    (falls 6 call-statement-kinds.ps _<_ μ-call-statement t)
+    (falls 5 call-statement-kinds.ps _<_ μ-call-statement t)
     call-statement.Pre
 
-abbrev enter-at : ℕ → In 6 enter-kinds.ps
-enter-at t = and 6 enter-kinds.ps (is 6 enter-kinds.ps μ-enter t) enter.Pre
+abbrev enter-at : ℕ → In 5 enter-kinds.ps
+enter-at t = and 5 enter-kinds.ps (is 5 enter-kinds.ps μ-enter t) enter.Pre
 
-abbrev enter-below : ℕ → In 6 enter-kinds.ps
-enter-below t = and 6 enter-kinds.ps (falls 6 enter-kinds.ps _<_ μ-enter t) enter.Pre
+abbrev enter-below : ℕ → In 5 enter-kinds.ps
+enter-below t = and 5 enter-kinds.ps (falls 5 enter-kinds.ps _<_ μ-enter t) enter.Pre
 
-abbrev macro-statement-at : ℕ → In 6 macro-statement-kinds.ps
+abbrev macro-statement-at : ℕ → In 5 macro-statement-kinds.ps
 macro-statement-at t =
     and
-    6
+    5
     macro-statement-kinds.ps
-    (is 6 macro-statement-kinds.ps μ-macro-statement t)
+    (is 5 macro-statement-kinds.ps μ-macro-statement t)
     macro-statement.Pre
 
-abbrev macro-statement-below : ℕ → In 6 macro-statement-kinds.ps
+abbrev macro-statement-below : ℕ → In 5 macro-statement-kinds.ps
 macro-statement-below t =
     and
-    6
+    5
     macro-statement-kinds.ps
-    (falls 6 macro-statement-kinds.ps _<_ μ-macro-statement t)
+    (falls 5 macro-statement-kinds.ps _<_ μ-macro-statement t)
     macro-statement.Pre
 
-abbrev statement-at : ℕ → In 6 statement-kinds.ps
-statement-at t = and 6 statement-kinds.ps (is 6 statement-kinds.ps μ-statement t) statement′.Pre
+abbrev statement-at : ℕ → In 5 statement-kinds.ps
+statement-at t = and 5 statement-kinds.ps (is 5 statement-kinds.ps μ-statement t) statement′.Pre
 
-abbrev statement-below : ℕ → In 6 statement-kinds.ps
+abbrev statement-below : ℕ → In 5 statement-kinds.ps
 statement-below t =
-    and 6 statement-kinds.ps (falls 6 statement-kinds.ps _<_ μ-statement t) statement′.Pre
+    and 5 statement-kinds.ps (falls 5 statement-kinds.ps _<_ μ-statement t) statement′.Pre
 
 abbrev body-Inv-loop : body-lts.InvT-loop
-body-Inv-loop deep s t p l₀ a₀ m₀ e pos n ordinal at₀ w₀ i₀ l a m at w i = (length l ≡ length l₀) × (length a ≡ length a₀) × (length m ≡ length m₀)
-    × (resolveAll (resolveStatement (enterMacro deep s t) s t p e) (length s) (n - i) i ordinal at l a m w ≡ resolveBody deep s t p l₀ a₀ m₀ e pos n ordinal w₀)
+body-Inv-loop deep s t p₀ a₀ m₀ e pos n ordinal at₀ w₀ i₀ p a m at w i = (length p ≡ length p₀) × (length a ≡ length a₀) × (length m ≡ length m₀)
+    × (resolveAll (resolveStatement (enterMacro deep s t) s t e) (length s) (n - i) i ordinal at p a m w ≡ resolveBody deep s t p₀ a₀ m₀ e pos n ordinal w₀)
 
 abbrev body-μ-loop : body-lts.MeasureT-loop
-body-μ-loop deep s t p l₀ a₀ m₀ e pos n ordinal at₀ w₀ i₀ l a m at w i = length s - at
+body-μ-loop deep s t p₀ a₀ m₀ e pos n ordinal at₀ w₀ i₀ p a m at w i = length s - at
 
 body-loop-holds : (t : ℕ) → body-lts.Need-loop-holds (
   wrapping-add-u64-reads.Asked,
@@ -257,7 +258,7 @@ body-same-length-4 : (t : ℕ) → body-lts.Need-same-length-4 (
   stop-reads.Asked,
   stop-reads.Learnt,
 ) (body-at t) body.Post body-Inv-loop body-μ-loop
-body-same-length-4 t c = search (c .before .before .before .before .before .before .before .before .before .before .before .labels .given, c .before .before .before .before .before .before .before .before .before .before .before .before .before .before .before .before .before .before .loop .inv .0, needs)
+body-same-length-4 t c = search (c .before .before .before .before .before .before .before .before .before .before .before .scope .given, c .before .before .before .before .before .before .before .before .before .before .before .before .before .before .before .before .before .before .loop .inv .0, needs)
 
 body-same-length-5 : (t : ℕ) → body-lts.Need-same-length-5 (
   wrapping-add-u64-reads.Asked,
@@ -305,7 +306,7 @@ body-add-i : (t : ℕ) → body-lts.Need-add-i (
   stop-reads.Asked,
   stop-reads.Learnt,
 ) (body-at t) body.Post body-Inv-loop body-μ-loop
-body-add-i t c = omega (arith, c .before .before .before .before .before .before .before .before .before .before .before .before .before .before .before .before .loop-test .taken, c .before .before .before .before .before .before .before .before .before .before .before .before .before .before .before .before .before .before .before .before .before .before .before .fits)
+body-add-i t c = omega (arith, c .before .before .before .before .before .before .before .before .before .before .before .before .before .before .before .before .loop-test .taken, c .before .before .before .before .before .before .before .before .before .before .before .before .before .before .before .before .before .before .before .before .before .before .fits)
 
 body-loop-less : (t : ℕ) → body-lts.Need-loop-less (
   wrapping-add-u64-reads.Asked,
@@ -329,7 +330,7 @@ body-loop-again : (t : ℕ) → body-lts.Need-loop-again (
   stop-reads.Asked,
   stop-reads.Learnt,
 ) (body-at t) body.Post body-Inv-loop body-μ-loop
-body-loop-again t c = (search (c .before .before .before .before .before .before .before .before .before .before .labels .given, c .before .before .before .before .before .before .before .before .before .before .before .before .before .before .before .before .before .loop .inv .0, needs), search (c .before .before .before .before .before .before .before .before .actions .given, c .before .before .before .before .before .before .before .before .before .before .before .before .before .before .before .before .before .loop .inv .1, needs), search (c .before .before .before .before .before .before .temporaries .given, c .before .before .before .before .before .before .before .before .before .before .before .before .before .before .before .before .before .loop .inv .2, needs), body-next _ _ _ _ _ _ _ _ _ _ _ (c .before .before .before .before .before .before .before .before .before .before .before .before .before .before .before .before .before .loop .inv .3) (c .before .before .before .before .before .before .before .before .before .before .before .before .before .before .before .before .loop-test .taken) _ (c .before .before .before .before .before .before .before .before .before .before .before .before .before .before .before .wrapping-add-u64 .ensures) _ _ _ _ (c .before .before .before .before .before .before .before .before .before .before .before .statement .ensures) _ _ (search needs) _ (c .before .forward .ensures) (c .if1 .left))
+body-loop-again t c = (search (c .before .before .before .before .before .before .before .before .before .before .scope .given, c .before .before .before .before .before .before .before .before .before .before .before .before .before .before .before .before .before .loop .inv .0, needs), search (c .before .before .before .before .before .before .before .before .actions .given, c .before .before .before .before .before .before .before .before .before .before .before .before .before .before .before .before .before .loop .inv .1, needs), search (c .before .before .before .before .before .before .temporaries .given, c .before .before .before .before .before .before .before .before .before .before .before .before .before .before .before .before .before .loop .inv .2, needs), body-next _ _ _ _ _ _ _ _ _ _ _ (c .before .before .before .before .before .before .before .before .before .before .before .before .before .before .before .before .before .loop .inv .3) (c .before .before .before .before .before .before .before .before .before .before .before .before .before .before .before .before .loop-test .taken) _ (c .before .before .before .before .before .before .before .before .before .before .before .before .before .before .before .wrapping-add-u64 .ensures) _ _ _ _ (c .before .before .before .before .before .before .before .before .before .before .before .statement .ensures) _ _ (search needs) _ (c .before .forward .ensures) (c .if1 .left))
 
 body-same-length-7 : (t : ℕ) → body-lts.Need-same-length-7 (
   wrapping-add-u64-reads.Asked,
@@ -386,10 +387,14 @@ call-statement-byte-requires : (t : ℕ) → call-statement-lts.Need-byte-requir
   u16-in-reads.Learnt,
   called-of-reads.Asked,
   called-of-reads.Learnt,
+  delay-slot-reads.Asked,
+  delay-slot-reads.Learnt,
+  user-op-statement-reads.Asked,
+  user-op-statement-reads.Learnt,
   macro-statement-below t,
   macro-statement.Post,
-  other-call-reads.Asked,
-  other-call-reads.Learnt,
+  stop-reads.Asked,
+  stop-reads.Learnt,
 ) (call-statement-at t) call-statement.Post
 call-statement-byte-requires t c κs = search (statement-laws, needs)
 
@@ -400,10 +405,14 @@ call-statement-u16-in-requires : (t : ℕ) → call-statement-lts.Need-u16-in-re
   u16-in-reads.Learnt,
   called-of-reads.Asked,
   called-of-reads.Learnt,
+  delay-slot-reads.Asked,
+  delay-slot-reads.Learnt,
+  user-op-statement-reads.Asked,
+  user-op-statement-reads.Learnt,
   macro-statement-below t,
   macro-statement.Post,
-  other-call-reads.Asked,
-  other-call-reads.Learnt,
+  stop-reads.Asked,
+  stop-reads.Learnt,
 ) (call-statement-at t) call-statement.Post
 call-statement-u16-in-requires t c κs = search (statement-laws, needs)
 
@@ -414,12 +423,107 @@ call-statement-called-of-requires : (t : ℕ) → call-statement-lts.Need-called
   u16-in-reads.Learnt,
   called-of-reads.Asked,
   called-of-reads.Learnt,
+  delay-slot-reads.Asked,
+  delay-slot-reads.Learnt,
+  user-op-statement-reads.Asked,
+  user-op-statement-reads.Learnt,
   macro-statement-below t,
   macro-statement.Post,
-  other-call-reads.Asked,
-  other-call-reads.Learnt,
+  stop-reads.Asked,
+  stop-reads.Learnt,
 ) (call-statement-at t) call-statement.Post
 call-statement-called-of-requires t c κs = search (statement-laws, needs)
+
+call-statement-enum-told : (t : ℕ) → call-statement-lts.Need-enum-told (
+  byte-reads.Asked,
+  byte-reads.Learnt,
+  u16-in-reads.Asked,
+  u16-in-reads.Learnt,
+  called-of-reads.Asked,
+  called-of-reads.Learnt,
+  delay-slot-reads.Asked,
+  delay-slot-reads.Learnt,
+  user-op-statement-reads.Asked,
+  user-op-statement-reads.Learnt,
+  macro-statement-below t,
+  macro-statement.Post,
+  stop-reads.Asked,
+  stop-reads.Learnt,
+) (call-statement-at t) call-statement.Post
+call-statement-enum-told t c = search (statement-laws, needs)
+
+call-statement-delay-slot-requires : (t : ℕ) → call-statement-lts.Need-delay-slot-requires (
+  byte-reads.Asked,
+  byte-reads.Learnt,
+  u16-in-reads.Asked,
+  u16-in-reads.Learnt,
+  called-of-reads.Asked,
+  called-of-reads.Learnt,
+  delay-slot-reads.Asked,
+  delay-slot-reads.Learnt,
+  user-op-statement-reads.Asked,
+  user-op-statement-reads.Learnt,
+  macro-statement-below t,
+  macro-statement.Post,
+  stop-reads.Asked,
+  stop-reads.Learnt,
+) (call-statement-at t) call-statement.Post
+call-statement-delay-slot-requires t c κs = search (statement-laws, needs)
+
+call-statement-enum-known-id : (t : ℕ) → call-statement-lts.Need-enum-known-id (
+  byte-reads.Asked,
+  byte-reads.Learnt,
+  u16-in-reads.Asked,
+  u16-in-reads.Learnt,
+  called-of-reads.Asked,
+  called-of-reads.Learnt,
+  delay-slot-reads.Asked,
+  delay-slot-reads.Learnt,
+  user-op-statement-reads.Asked,
+  user-op-statement-reads.Learnt,
+  macro-statement-below t,
+  macro-statement.Post,
+  stop-reads.Asked,
+  stop-reads.Learnt,
+) (call-statement-at t) call-statement.Post
+call-statement-enum-known-id t c = search (statement-laws, needs)
+
+call-statement-user-op-statement-requires :
+    (t : ℕ) → call-statement-lts.Need-user-op-statement-requires (
+      byte-reads.Asked,
+      byte-reads.Learnt,
+      u16-in-reads.Asked,
+      u16-in-reads.Learnt,
+      called-of-reads.Asked,
+      called-of-reads.Learnt,
+      delay-slot-reads.Asked,
+      delay-slot-reads.Learnt,
+      user-op-statement-reads.Asked,
+      user-op-statement-reads.Learnt,
+      macro-statement-below t,
+      macro-statement.Post,
+      stop-reads.Asked,
+      stop-reads.Learnt,
+    ) (call-statement-at t) call-statement.Post
+call-statement-user-op-statement-requires t c κs = search (statement-laws, needs)
+
+call-statement-enum-known-id-2 : (t : ℕ) → call-statement-lts.Need-enum-known-id-2 (
+  byte-reads.Asked,
+  byte-reads.Learnt,
+  u16-in-reads.Asked,
+  u16-in-reads.Learnt,
+  called-of-reads.Asked,
+  called-of-reads.Learnt,
+  delay-slot-reads.Asked,
+  delay-slot-reads.Learnt,
+  user-op-statement-reads.Asked,
+  user-op-statement-reads.Learnt,
+  macro-statement-below t,
+  macro-statement.Post,
+  stop-reads.Asked,
+  stop-reads.Learnt,
+) (call-statement-at t) call-statement.Post
+call-statement-enum-known-id-2 t c = search (statement-laws, needs)
 
 call-statement-macro-statement-requires :
     (t : ℕ) → call-statement-lts.Need-macro-statement-requires (
@@ -429,12 +533,52 @@ call-statement-macro-statement-requires :
       u16-in-reads.Learnt,
       called-of-reads.Asked,
       called-of-reads.Learnt,
+      delay-slot-reads.Asked,
+      delay-slot-reads.Learnt,
+      user-op-statement-reads.Asked,
+      user-op-statement-reads.Learnt,
       macro-statement-below t,
       macro-statement.Post,
-      other-call-reads.Asked,
-      other-call-reads.Learnt,
+      stop-reads.Asked,
+      stop-reads.Learnt,
     ) (call-statement-at t) call-statement.Post
 call-statement-macro-statement-requires t c κs = search (statement-laws, needs)
+
+call-statement-enum-known-k : (t : ℕ) → call-statement-lts.Need-enum-known-k (
+  byte-reads.Asked,
+  byte-reads.Learnt,
+  u16-in-reads.Asked,
+  u16-in-reads.Learnt,
+  called-of-reads.Asked,
+  called-of-reads.Learnt,
+  delay-slot-reads.Asked,
+  delay-slot-reads.Learnt,
+  user-op-statement-reads.Asked,
+  user-op-statement-reads.Learnt,
+  macro-statement-below t,
+  macro-statement.Post,
+  stop-reads.Asked,
+  stop-reads.Learnt,
+) (call-statement-at t) call-statement.Post
+call-statement-enum-known-k t c = search (statement-laws, needs)
+
+call-statement-stop-requires : (t : ℕ) → call-statement-lts.Need-stop-requires (
+  byte-reads.Asked,
+  byte-reads.Learnt,
+  u16-in-reads.Asked,
+  u16-in-reads.Learnt,
+  called-of-reads.Asked,
+  called-of-reads.Learnt,
+  delay-slot-reads.Asked,
+  delay-slot-reads.Learnt,
+  user-op-statement-reads.Asked,
+  user-op-statement-reads.Learnt,
+  macro-statement-below t,
+  macro-statement.Post,
+  stop-reads.Asked,
+  stop-reads.Learnt,
+) (call-statement-at t) call-statement.Post
+call-statement-stop-requires t c κs = search (statement-laws, needs)
 
 call-statement-same-length : (t : ℕ) → call-statement-lts.Need-same-length (
   byte-reads.Asked,
@@ -443,12 +587,34 @@ call-statement-same-length : (t : ℕ) → call-statement-lts.Need-same-length (
   u16-in-reads.Learnt,
   called-of-reads.Asked,
   called-of-reads.Learnt,
+  delay-slot-reads.Asked,
+  delay-slot-reads.Learnt,
+  user-op-statement-reads.Asked,
+  user-op-statement-reads.Learnt,
   macro-statement-below t,
   macro-statement.Post,
-  other-call-reads.Asked,
-  other-call-reads.Learnt,
+  stop-reads.Asked,
+  stop-reads.Learnt,
 ) (call-statement-at t) call-statement.Post
 call-statement-same-length t c = search (statement-laws, needs)
+
+call-statement-returns : (t : ℕ) → call-statement-lts.Need-returns (
+  byte-reads.Asked,
+  byte-reads.Learnt,
+  u16-in-reads.Asked,
+  u16-in-reads.Learnt,
+  called-of-reads.Asked,
+  called-of-reads.Learnt,
+  delay-slot-reads.Asked,
+  delay-slot-reads.Learnt,
+  user-op-statement-reads.Asked,
+  user-op-statement-reads.Learnt,
+  macro-statement-below t,
+  macro-statement.Post,
+  stop-reads.Asked,
+  stop-reads.Learnt,
+) (call-statement-at t) call-statement.Post
+call-statement-returns t c = search (statement-laws, needs)
 
 call-statement-same-length-2 : (t : ℕ) → call-statement-lts.Need-same-length-2 (
   byte-reads.Asked,
@@ -457,10 +623,14 @@ call-statement-same-length-2 : (t : ℕ) → call-statement-lts.Need-same-length
   u16-in-reads.Learnt,
   called-of-reads.Asked,
   called-of-reads.Learnt,
+  delay-slot-reads.Asked,
+  delay-slot-reads.Learnt,
+  user-op-statement-reads.Asked,
+  user-op-statement-reads.Learnt,
   macro-statement-below t,
   macro-statement.Post,
-  other-call-reads.Asked,
-  other-call-reads.Learnt,
+  stop-reads.Asked,
+  stop-reads.Learnt,
 ) (call-statement-at t) call-statement.Post
 call-statement-same-length-2 t c = search (statement-laws, needs)
 
@@ -471,40 +641,34 @@ call-statement-same-length-3 : (t : ℕ) → call-statement-lts.Need-same-length
   u16-in-reads.Learnt,
   called-of-reads.Asked,
   called-of-reads.Learnt,
+  delay-slot-reads.Asked,
+  delay-slot-reads.Learnt,
+  user-op-statement-reads.Asked,
+  user-op-statement-reads.Learnt,
   macro-statement-below t,
   macro-statement.Post,
-  other-call-reads.Asked,
-  other-call-reads.Learnt,
+  stop-reads.Asked,
+  stop-reads.Learnt,
 ) (call-statement-at t) call-statement.Post
 call-statement-same-length-3 t c = search (statement-laws, needs)
 
-call-statement-returns : (t : ℕ) → call-statement-lts.Need-returns (
+call-statement-returns-2 : (t : ℕ) → call-statement-lts.Need-returns-2 (
   byte-reads.Asked,
   byte-reads.Learnt,
   u16-in-reads.Asked,
   u16-in-reads.Learnt,
   called-of-reads.Asked,
   called-of-reads.Learnt,
+  delay-slot-reads.Asked,
+  delay-slot-reads.Learnt,
+  user-op-statement-reads.Asked,
+  user-op-statement-reads.Learnt,
   macro-statement-below t,
   macro-statement.Post,
-  other-call-reads.Asked,
-  other-call-reads.Learnt,
+  stop-reads.Asked,
+  stop-reads.Learnt,
 ) (call-statement-at t) call-statement.Post
-call-statement-returns t c = search (statement-laws, needs)
-
-call-statement-other-call-requires : (t : ℕ) → call-statement-lts.Need-other-call-requires (
-  byte-reads.Asked,
-  byte-reads.Learnt,
-  u16-in-reads.Asked,
-  u16-in-reads.Learnt,
-  called-of-reads.Asked,
-  called-of-reads.Learnt,
-  macro-statement-below t,
-  macro-statement.Post,
-  other-call-reads.Asked,
-  other-call-reads.Learnt,
-) (call-statement-at t) call-statement.Post
-call-statement-other-call-requires t c κs = search (statement-laws, needs)
+call-statement-returns-2 t c = search (statement-laws, needs)
 
 call-statement-same-length-4 : (t : ℕ) → call-statement-lts.Need-same-length-4 (
   byte-reads.Asked,
@@ -513,10 +677,14 @@ call-statement-same-length-4 : (t : ℕ) → call-statement-lts.Need-same-length
   u16-in-reads.Learnt,
   called-of-reads.Asked,
   called-of-reads.Learnt,
+  delay-slot-reads.Asked,
+  delay-slot-reads.Learnt,
+  user-op-statement-reads.Asked,
+  user-op-statement-reads.Learnt,
   macro-statement-below t,
   macro-statement.Post,
-  other-call-reads.Asked,
-  other-call-reads.Learnt,
+  stop-reads.Asked,
+  stop-reads.Learnt,
 ) (call-statement-at t) call-statement.Post
 call-statement-same-length-4 t c = search (statement-laws, needs)
 
@@ -527,34 +695,58 @@ call-statement-same-length-5 : (t : ℕ) → call-statement-lts.Need-same-length
   u16-in-reads.Learnt,
   called-of-reads.Asked,
   called-of-reads.Learnt,
+  delay-slot-reads.Asked,
+  delay-slot-reads.Learnt,
+  user-op-statement-reads.Asked,
+  user-op-statement-reads.Learnt,
   macro-statement-below t,
   macro-statement.Post,
-  other-call-reads.Asked,
-  other-call-reads.Learnt,
+  stop-reads.Asked,
+  stop-reads.Learnt,
 ) (call-statement-at t) call-statement.Post
 call-statement-same-length-5 t c = search (statement-laws, needs)
 
-call-statement-returns-2 : (t : ℕ) → call-statement-lts.Need-returns-2 (
+call-statement-returns-3 : (t : ℕ) → call-statement-lts.Need-returns-3 (
   byte-reads.Asked,
   byte-reads.Learnt,
   u16-in-reads.Asked,
   u16-in-reads.Learnt,
   called-of-reads.Asked,
   called-of-reads.Learnt,
+  delay-slot-reads.Asked,
+  delay-slot-reads.Learnt,
+  user-op-statement-reads.Asked,
+  user-op-statement-reads.Learnt,
   macro-statement-below t,
   macro-statement.Post,
-  other-call-reads.Asked,
-  other-call-reads.Learnt,
+  stop-reads.Asked,
+  stop-reads.Learnt,
 ) (call-statement-at t) call-statement.Post
-call-statement-returns-2 t c = search (statement-laws, needs)
+call-statement-returns-3 t c = search (statement-laws, needs)
+
+call-statement-returns-4 : (t : ℕ) → call-statement-lts.Need-returns-4 (
+  byte-reads.Asked,
+  byte-reads.Learnt,
+  u16-in-reads.Asked,
+  u16-in-reads.Learnt,
+  called-of-reads.Asked,
+  called-of-reads.Learnt,
+  delay-slot-reads.Asked,
+  delay-slot-reads.Learnt,
+  user-op-statement-reads.Asked,
+  user-op-statement-reads.Learnt,
+  macro-statement-below t,
+  macro-statement.Post,
+  stop-reads.Asked,
+  stop-reads.Learnt,
+) (call-statement-at t) call-statement.Post
+call-statement-returns-4 t c = call-none _ _ _ _ _ _ _ _ _ _ _ _ (c .before .before .before .before .before .before .byte .ensures) (c .before .before .before .before .before .u16-in .ensures) (c .before .before .before .before .called-of .ensures) _ (c .before .before .k .given .0 .0) (search needs) (c .stop .ensures)
 
 enter-stop-requires : (t : ℕ) → enter-lts.Need-stop-requires (
   stop-reads.Asked,
   stop-reads.Learnt,
   macro-at-reads.Asked,
   macro-at-reads.Learnt,
-  wrapping-add-u64-reads.Asked,
-  wrapping-add-u64-reads.Learnt,
   body-at-reads.Asked,
   body-at-reads.Learnt,
   u16-in-reads.Asked,
@@ -565,8 +757,8 @@ enter-stop-requires : (t : ℕ) → enter-lts.Need-stop-requires (
   first-ordinal-reads.Learnt,
   after-reads.Asked,
   after-reads.Learnt,
-  entered-reads.Asked,
-  entered-reads.Learnt,
+  with-state-reads.Asked,
+  with-state-reads.Learnt,
   body-below t,
   body.Post,
   returned-reads.Asked,
@@ -579,8 +771,6 @@ enter-returns : (t : ℕ) → enter-lts.Need-returns (
   stop-reads.Learnt,
   macro-at-reads.Asked,
   macro-at-reads.Learnt,
-  wrapping-add-u64-reads.Asked,
-  wrapping-add-u64-reads.Learnt,
   body-at-reads.Asked,
   body-at-reads.Learnt,
   u16-in-reads.Asked,
@@ -591,8 +781,8 @@ enter-returns : (t : ℕ) → enter-lts.Need-returns (
   first-ordinal-reads.Learnt,
   after-reads.Asked,
   after-reads.Learnt,
-  entered-reads.Asked,
-  entered-reads.Learnt,
+  with-state-reads.Asked,
+  with-state-reads.Learnt,
   body-below t,
   body.Post,
   returned-reads.Asked,
@@ -605,8 +795,6 @@ enter-macro-at-requires : (t : ℕ) → enter-lts.Need-macro-at-requires (
   stop-reads.Learnt,
   macro-at-reads.Asked,
   macro-at-reads.Learnt,
-  wrapping-add-u64-reads.Asked,
-  wrapping-add-u64-reads.Learnt,
   body-at-reads.Asked,
   body-at-reads.Learnt,
   u16-in-reads.Asked,
@@ -617,8 +805,8 @@ enter-macro-at-requires : (t : ℕ) → enter-lts.Need-macro-at-requires (
   first-ordinal-reads.Learnt,
   after-reads.Asked,
   after-reads.Learnt,
-  entered-reads.Asked,
-  entered-reads.Learnt,
+  with-state-reads.Asked,
+  with-state-reads.Learnt,
   body-below t,
   body.Post,
   returned-reads.Asked,
@@ -626,39 +814,11 @@ enter-macro-at-requires : (t : ℕ) → enter-lts.Need-macro-at-requires (
 ) (enter-at t) enter.Post
 enter-macro-at-requires t c κs = search (statement-laws, needs)
 
-enter-wrapping-add-u64-requires : (t : ℕ) → enter-lts.Need-wrapping-add-u64-requires (
-  stop-reads.Asked,
-  stop-reads.Learnt,
-  macro-at-reads.Asked,
-  macro-at-reads.Learnt,
-  wrapping-add-u64-reads.Asked,
-  wrapping-add-u64-reads.Learnt,
-  body-at-reads.Asked,
-  body-at-reads.Learnt,
-  u16-in-reads.Asked,
-  u16-in-reads.Learnt,
-  macro-env-reads.Asked,
-  macro-env-reads.Learnt,
-  first-ordinal-reads.Asked,
-  first-ordinal-reads.Learnt,
-  after-reads.Asked,
-  after-reads.Learnt,
-  entered-reads.Asked,
-  entered-reads.Learnt,
-  body-below t,
-  body.Post,
-  returned-reads.Asked,
-  returned-reads.Learnt,
-) (enter-at t) enter.Post
-enter-wrapping-add-u64-requires t c κs = search (statement-laws, needs)
-
 enter-body-at-requires : (t : ℕ) → enter-lts.Need-body-at-requires (
   stop-reads.Asked,
   stop-reads.Learnt,
   macro-at-reads.Asked,
   macro-at-reads.Learnt,
-  wrapping-add-u64-reads.Asked,
-  wrapping-add-u64-reads.Learnt,
   body-at-reads.Asked,
   body-at-reads.Learnt,
   u16-in-reads.Asked,
@@ -669,8 +829,8 @@ enter-body-at-requires : (t : ℕ) → enter-lts.Need-body-at-requires (
   first-ordinal-reads.Learnt,
   after-reads.Asked,
   after-reads.Learnt,
-  entered-reads.Asked,
-  entered-reads.Learnt,
+  with-state-reads.Asked,
+  with-state-reads.Learnt,
   body-below t,
   body.Post,
   returned-reads.Asked,
@@ -683,8 +843,6 @@ enter-u16-in-requires : (t : ℕ) → enter-lts.Need-u16-in-requires (
   stop-reads.Learnt,
   macro-at-reads.Asked,
   macro-at-reads.Learnt,
-  wrapping-add-u64-reads.Asked,
-  wrapping-add-u64-reads.Learnt,
   body-at-reads.Asked,
   body-at-reads.Learnt,
   u16-in-reads.Asked,
@@ -695,8 +853,8 @@ enter-u16-in-requires : (t : ℕ) → enter-lts.Need-u16-in-requires (
   first-ordinal-reads.Learnt,
   after-reads.Asked,
   after-reads.Learnt,
-  entered-reads.Asked,
-  entered-reads.Learnt,
+  with-state-reads.Asked,
+  with-state-reads.Learnt,
   body-below t,
   body.Post,
   returned-reads.Asked,
@@ -709,8 +867,6 @@ enter-macro-env-requires : (t : ℕ) → enter-lts.Need-macro-env-requires (
   stop-reads.Learnt,
   macro-at-reads.Asked,
   macro-at-reads.Learnt,
-  wrapping-add-u64-reads.Asked,
-  wrapping-add-u64-reads.Learnt,
   body-at-reads.Asked,
   body-at-reads.Learnt,
   u16-in-reads.Asked,
@@ -721,8 +877,8 @@ enter-macro-env-requires : (t : ℕ) → enter-lts.Need-macro-env-requires (
   first-ordinal-reads.Learnt,
   after-reads.Asked,
   after-reads.Learnt,
-  entered-reads.Asked,
-  entered-reads.Learnt,
+  with-state-reads.Asked,
+  with-state-reads.Learnt,
   body-below t,
   body.Post,
   returned-reads.Asked,
@@ -735,8 +891,6 @@ enter-first-ordinal-requires : (t : ℕ) → enter-lts.Need-first-ordinal-requir
   stop-reads.Learnt,
   macro-at-reads.Asked,
   macro-at-reads.Learnt,
-  wrapping-add-u64-reads.Asked,
-  wrapping-add-u64-reads.Learnt,
   body-at-reads.Asked,
   body-at-reads.Learnt,
   u16-in-reads.Asked,
@@ -747,8 +901,8 @@ enter-first-ordinal-requires : (t : ℕ) → enter-lts.Need-first-ordinal-requir
   first-ordinal-reads.Learnt,
   after-reads.Asked,
   after-reads.Learnt,
-  entered-reads.Asked,
-  entered-reads.Learnt,
+  with-state-reads.Asked,
+  with-state-reads.Learnt,
   body-below t,
   body.Post,
   returned-reads.Asked,
@@ -761,8 +915,6 @@ enter-sub-below : (t : ℕ) → enter-lts.Need-sub-below (
   stop-reads.Learnt,
   macro-at-reads.Asked,
   macro-at-reads.Learnt,
-  wrapping-add-u64-reads.Asked,
-  wrapping-add-u64-reads.Learnt,
   body-at-reads.Asked,
   body-at-reads.Learnt,
   u16-in-reads.Asked,
@@ -773,8 +925,8 @@ enter-sub-below : (t : ℕ) → enter-lts.Need-sub-below (
   first-ordinal-reads.Learnt,
   after-reads.Asked,
   after-reads.Learnt,
-  entered-reads.Asked,
-  entered-reads.Learnt,
+  with-state-reads.Asked,
+  with-state-reads.Learnt,
   body-below t,
   body.Post,
   returned-reads.Asked,
@@ -787,8 +939,6 @@ enter-after-requires : (t : ℕ) → enter-lts.Need-after-requires (
   stop-reads.Learnt,
   macro-at-reads.Asked,
   macro-at-reads.Learnt,
-  wrapping-add-u64-reads.Asked,
-  wrapping-add-u64-reads.Learnt,
   body-at-reads.Asked,
   body-at-reads.Learnt,
   u16-in-reads.Asked,
@@ -799,8 +949,8 @@ enter-after-requires : (t : ℕ) → enter-lts.Need-after-requires (
   first-ordinal-reads.Learnt,
   after-reads.Asked,
   after-reads.Learnt,
-  entered-reads.Asked,
-  entered-reads.Learnt,
+  with-state-reads.Asked,
+  with-state-reads.Learnt,
   body-below t,
   body.Post,
   returned-reads.Asked,
@@ -808,13 +958,11 @@ enter-after-requires : (t : ℕ) → enter-lts.Need-after-requires (
 ) (enter-at t) enter.Post
 enter-after-requires t c κs = search (statement-laws, needs)
 
-enter-entered-requires : (t : ℕ) → enter-lts.Need-entered-requires (
+enter-with-state-requires : (t : ℕ) → enter-lts.Need-with-state-requires (
   stop-reads.Asked,
   stop-reads.Learnt,
   macro-at-reads.Asked,
   macro-at-reads.Learnt,
-  wrapping-add-u64-reads.Asked,
-  wrapping-add-u64-reads.Learnt,
   body-at-reads.Asked,
   body-at-reads.Learnt,
   u16-in-reads.Asked,
@@ -825,22 +973,20 @@ enter-entered-requires : (t : ℕ) → enter-lts.Need-entered-requires (
   first-ordinal-reads.Learnt,
   after-reads.Asked,
   after-reads.Learnt,
-  entered-reads.Asked,
-  entered-reads.Learnt,
+  with-state-reads.Asked,
+  with-state-reads.Learnt,
   body-below t,
   body.Post,
   returned-reads.Asked,
   returned-reads.Learnt,
 ) (enter-at t) enter.Post
-enter-entered-requires t c κs = search (statement-laws, needs)
+enter-with-state-requires t c κs = search (statement-laws, needs)
 
 enter-body-requires : (t : ℕ) → enter-lts.Need-body-requires (
   stop-reads.Asked,
   stop-reads.Learnt,
   macro-at-reads.Asked,
   macro-at-reads.Learnt,
-  wrapping-add-u64-reads.Asked,
-  wrapping-add-u64-reads.Learnt,
   body-at-reads.Asked,
   body-at-reads.Learnt,
   u16-in-reads.Asked,
@@ -851,22 +997,20 @@ enter-body-requires : (t : ℕ) → enter-lts.Need-body-requires (
   first-ordinal-reads.Learnt,
   after-reads.Asked,
   after-reads.Learnt,
-  entered-reads.Asked,
-  entered-reads.Learnt,
+  with-state-reads.Asked,
+  with-state-reads.Learnt,
   body-below t,
   body.Post,
   returned-reads.Asked,
   returned-reads.Learnt,
 ) (enter-at t) enter.Post
-enter-body-requires t c κs = search (c .before .before .before .before .before .before .before .before .before .before .before .if1 .left, c .before .before .before .before .before .before .before .before .before .before .before .before .before .before .before .before .before .pre, needs)
+enter-body-requires t c κs = search (c .before .before .before .before .before .before .before .before .before .before .if1 .left, c .before .before .before .before .before .before .before .before .before .before .before .before .before .before .before .pre, needs)
 
 enter-returned-requires : (t : ℕ) → enter-lts.Need-returned-requires (
   stop-reads.Asked,
   stop-reads.Learnt,
   macro-at-reads.Asked,
   macro-at-reads.Learnt,
-  wrapping-add-u64-reads.Asked,
-  wrapping-add-u64-reads.Learnt,
   body-at-reads.Asked,
   body-at-reads.Learnt,
   u16-in-reads.Asked,
@@ -877,8 +1021,8 @@ enter-returned-requires : (t : ℕ) → enter-lts.Need-returned-requires (
   first-ordinal-reads.Learnt,
   after-reads.Asked,
   after-reads.Learnt,
-  entered-reads.Asked,
-  entered-reads.Learnt,
+  with-state-reads.Asked,
+  with-state-reads.Learnt,
   body-below t,
   body.Post,
   returned-reads.Asked,
@@ -891,8 +1035,6 @@ enter-same-length : (t : ℕ) → enter-lts.Need-same-length (
   stop-reads.Learnt,
   macro-at-reads.Asked,
   macro-at-reads.Learnt,
-  wrapping-add-u64-reads.Asked,
-  wrapping-add-u64-reads.Learnt,
   body-at-reads.Asked,
   body-at-reads.Learnt,
   u16-in-reads.Asked,
@@ -903,8 +1045,8 @@ enter-same-length : (t : ℕ) → enter-lts.Need-same-length (
   first-ordinal-reads.Learnt,
   after-reads.Asked,
   after-reads.Learnt,
-  entered-reads.Asked,
-  entered-reads.Learnt,
+  with-state-reads.Asked,
+  with-state-reads.Learnt,
   body-below t,
   body.Post,
   returned-reads.Asked,
@@ -917,8 +1059,6 @@ enter-same-length-2 : (t : ℕ) → enter-lts.Need-same-length-2 (
   stop-reads.Learnt,
   macro-at-reads.Asked,
   macro-at-reads.Learnt,
-  wrapping-add-u64-reads.Asked,
-  wrapping-add-u64-reads.Learnt,
   body-at-reads.Asked,
   body-at-reads.Learnt,
   u16-in-reads.Asked,
@@ -929,8 +1069,8 @@ enter-same-length-2 : (t : ℕ) → enter-lts.Need-same-length-2 (
   first-ordinal-reads.Learnt,
   after-reads.Asked,
   after-reads.Learnt,
-  entered-reads.Asked,
-  entered-reads.Learnt,
+  with-state-reads.Asked,
+  with-state-reads.Learnt,
   body-below t,
   body.Post,
   returned-reads.Asked,
@@ -943,8 +1083,6 @@ enter-same-length-3 : (t : ℕ) → enter-lts.Need-same-length-3 (
   stop-reads.Learnt,
   macro-at-reads.Asked,
   macro-at-reads.Learnt,
-  wrapping-add-u64-reads.Asked,
-  wrapping-add-u64-reads.Learnt,
   body-at-reads.Asked,
   body-at-reads.Learnt,
   u16-in-reads.Asked,
@@ -955,8 +1093,8 @@ enter-same-length-3 : (t : ℕ) → enter-lts.Need-same-length-3 (
   first-ordinal-reads.Learnt,
   after-reads.Asked,
   after-reads.Learnt,
-  entered-reads.Asked,
-  entered-reads.Learnt,
+  with-state-reads.Asked,
+  with-state-reads.Learnt,
   body-below t,
   body.Post,
   returned-reads.Asked,
@@ -969,8 +1107,6 @@ enter-returns-2 : (t : ℕ) → enter-lts.Need-returns-2 (
   stop-reads.Learnt,
   macro-at-reads.Asked,
   macro-at-reads.Learnt,
-  wrapping-add-u64-reads.Asked,
-  wrapping-add-u64-reads.Learnt,
   body-at-reads.Asked,
   body-at-reads.Learnt,
   u16-in-reads.Asked,
@@ -981,14 +1117,14 @@ enter-returns-2 : (t : ℕ) → enter-lts.Need-returns-2 (
   first-ordinal-reads.Learnt,
   after-reads.Asked,
   after-reads.Learnt,
-  entered-reads.Asked,
-  entered-reads.Learnt,
+  with-state-reads.Asked,
+  with-state-reads.Learnt,
   body-below t,
   body.Post,
   returned-reads.Asked,
   returned-reads.Learnt,
 ) (enter-at t) enter.Post
-enter-returns-2 t c = enter-body _ _ _ _ _ _ _ _ _ _ _ _ _ _ _ _ _ _ _ _ _ _ _ _ _ _ (c .before .before .before .before .before .before .before .before .before .before .before .before .before .before .before .before .before .before .before .if1 .left) (c .before .before .before .before .before .before .before .before .before .before .before .before .before .before .before .before .before .before .macro-at .ensures) (c .before .before .before .before .before .before .before .before .before .before .before .before .before .before .before .before .before .wrapping-add-u64 .ensures) (c .before .before .before .before .before .before .before .before .before .before .before .before .before .before .before .before .body-at .ensures) (c .before .before .before .before .before .before .before .before .before .before .before .before .before .before .before .u16-in .ensures) (c .before .before .before .before .before .before .before .before .before .before .before .before .before .before .macro-env .ensures) (c .before .before .before .before .before .before .before .before .before .before .before .before .before .first-ordinal .ensures) (c .before .before .before .before .before .before .before .before .before .before .before .before .after .ensures) (c .before .before .before .before .before .before .before .before .before .before .before .entered .ensures) (c .before .before .before .before .before .before .before .body .ensures) (c .returned .ensures)
+enter-returns-2 t c = enter-body _ _ _ _ _ _ _ _ _ _ _ _ _ _ _ _ _ _ _ _ _ _ _ _ (c .before .before .before .before .before .before .before .before .before .before .before .before .before .before .before .before .before .before .if1 .left) (c .before .before .before .before .before .before .before .before .before .before .before .before .before .before .before .before .before .macro-at .ensures) (c .before .before .before .before .before .before .before .before .before .before .before .before .before .before .before .before .body-at .ensures) (c .before .before .before .before .before .before .before .before .before .before .before .before .before .before .before .u16-in .ensures) (c .before .before .before .before .before .before .before .before .before .before .before .before .before .before .macro-env .ensures) (c .before .before .before .before .before .before .before .before .before .before .before .before .before .first-ordinal .ensures) (c .before .before .before .before .before .before .before .before .before .before .before .before .after .ensures) (c .before .before .before .before .before .before .before .before .before .before .before .with-state .ensures) (c .before .before .before .before .before .before .before .body .ensures) (c .returned .ensures)
 
 macro-statement-slice-aggregate-macro-args :
     (t : ℕ) → macro-statement-lts.Need-slice-aggregate-macro-args (
@@ -1110,16 +1246,6 @@ macro-statement-same-length-4 : (t : ℕ) → macro-statement-lts.Need-same-leng
   enter.Post,
 ) (macro-statement-at t) macro-statement.Post
 macro-statement-same-length-4 t c = search (statement-laws, needs)
-
-macro-statement-same-length-5 : (t : ℕ) → macro-statement-lts.Need-same-length-5 (
-  macro-args-reads.Asked,
-  macro-args-reads.Learnt,
-  stop-reads.Asked,
-  stop-reads.Learnt,
-  enter-below t,
-  enter.Post,
-) (macro-statement-at t) macro-statement.Post
-macro-statement-same-length-5 t c = search (statement-laws, needs)
 
 macro-statement-returns-2 : (t : ℕ) → macro-statement-lts.Need-returns-2 (
   macro-args-reads.Asked,
@@ -1356,32 +1482,42 @@ pub +body+call-statement+enter+macro-statement+statement-spec : {M : Type 1} →
       u16-in-reads.Learnt,
       called-of-reads.Asked,
       called-of-reads.Learnt,
+      delay-slot-reads.Asked,
+      delay-slot-reads.Learnt,
+      user-op-statement-reads.Asked,
+      user-op-statement-reads.Learnt,
       macro-statement-below t,
       macro-statement.Post,
-      other-call-reads.Asked,
-      other-call-reads.Learnt,
+      stop-reads.Asked,
+      stop-reads.Learnt,
     )
     (call-statement-at t)
     call-statement.Post
     (call-statement-byte-requires t)
     (call-statement-u16-in-requires t)
     (call-statement-called-of-requires t)
+    (call-statement-enum-told t)
+    (call-statement-delay-slot-requires t)
+    (call-statement-enum-known-id t)
+    (call-statement-user-op-statement-requires t)
+    (call-statement-enum-known-id-2 t)
     (call-statement-macro-statement-requires t)
+    (call-statement-enum-known-k t)
+    (call-statement-stop-requires t)
     (call-statement-same-length t)
+    (call-statement-returns t)
     (call-statement-same-length-2 t)
     (call-statement-same-length-3 t)
-    (call-statement-returns t)
-    (call-statement-other-call-requires t)
+    (call-statement-returns-2 t)
     (call-statement-same-length-4 t)
     (call-statement-same-length-5 t)
-    (call-statement-returns-2 t))
+    (call-statement-returns-3 t)
+    (call-statement-returns-4 t))
     (λ t. enter-lts.spec (
       stop-reads.Asked,
       stop-reads.Learnt,
       macro-at-reads.Asked,
       macro-at-reads.Learnt,
-      wrapping-add-u64-reads.Asked,
-      wrapping-add-u64-reads.Learnt,
       body-at-reads.Asked,
       body-at-reads.Learnt,
       u16-in-reads.Asked,
@@ -1392,8 +1528,8 @@ pub +body+call-statement+enter+macro-statement+statement-spec : {M : Type 1} →
       first-ordinal-reads.Learnt,
       after-reads.Asked,
       after-reads.Learnt,
-      entered-reads.Asked,
-      entered-reads.Learnt,
+      with-state-reads.Asked,
+      with-state-reads.Learnt,
       body-below t,
       body.Post,
       returned-reads.Asked,
@@ -1404,14 +1540,13 @@ pub +body+call-statement+enter+macro-statement+statement-spec : {M : Type 1} →
     (enter-stop-requires t)
     (enter-returns t)
     (enter-macro-at-requires t)
-    (enter-wrapping-add-u64-requires t)
     (enter-body-at-requires t)
     (enter-u16-in-requires t)
     (enter-macro-env-requires t)
     (enter-first-ordinal-requires t)
     (enter-sub-below t)
     (enter-after-requires t)
-    (enter-entered-requires t)
+    (enter-with-state-requires t)
     (enter-body-requires t)
     (enter-returned-requires t)
     (enter-same-length t)
@@ -1440,7 +1575,6 @@ pub +body+call-statement+enter+macro-statement+statement-spec : {M : Type 1} →
     (macro-statement-returns t)
     (macro-statement-same-length-3 t)
     (macro-statement-same-length-4 t)
-    (macro-statement-same-length-5 t)
     (macro-statement-returns-2 t))
     λ t. statement-lts.spec (
       begin-reads.Asked,

@@ -63,6 +63,9 @@ same-length-10 c = search needs
 same-length-11 : tie.Need-same-length-11
 same-length-11 c = search needs
 
+same-length-12 : tie.Need-same-length-12
+same-length-12 c = search (code-laws, begin-laws, needs)
+
 returns-4 : tie.Need-returns-4
 returns-4 c = search (code-laws, begin-laws, needs)
 
@@ -88,4 +91,5 @@ other-statement-spec =
     returns-3
     same-length-10
     same-length-11
+    same-length-12
     returns-4)

@@ -3,8 +3,8 @@ use Rattle.stmt_branches.proofs.branches.cond_branch.Statement.{stateme
 use Rattle.stmt_branches.proofs.branches.cond_branch.Tie as tie
 use Rattle.stmt_branches.proofs.branches.cond_branch.Reads as reads
 use Rattle.stmt_branches.proofs.branches.cond_branch.Lts as lts
-use Rattle.expr_terms.proofs.answers.after.Reads as after-reads
 use Rattle.expr_resolver.proofs.expr.expr_value.Reads as expr-value-reads
+use Rattle.expr_terms.proofs.answers.after.Reads as after-reads
 use Rattle.stmt_branches.proofs.branches.resolve_branch.Reads as resolve-branch-reads
 use Rattle.stmt_walk.proofs.walk.stop.Reads as stop-reads
 use Rattle.stmt_branches.proofs.BranchLaws.{branch-laws}
@@ -33,17 +33,20 @@ same-length c = search needs
 same-length-2 : tie.Need-same-length-2
 same-length-2 c = search needs
 
+same-length-3 : tie.Need-same-length-3
+same-length-3 c = search (branch-laws, needs)
+
 returns : tie.Need-returns
 returns c = search (branch-laws, needs)
-
-same-length-3 : tie.Need-same-length-3
-same-length-3 c = search needs
 
 same-length-4 : tie.Need-same-length-4
 same-length-4 c = search needs
 
 same-length-5 : tie.Need-same-length-5
 same-length-5 c = search needs
+
+same-length-6 : tie.Need-same-length-6
+same-length-6 c = search needs
 
 returns-2 : tie.Need-returns-2
 returns-2 c = search (branch-laws, needs)
@@ -60,8 +63,9 @@ cond-branch-spec =
     resolve-branch-requires
     same-length
     same-length-2
-    returns
     same-length-3
+    returns
     same-length-4
     same-length-5
+    same-length-6
     returns-2)

@@ -35,17 +35,14 @@ after-jump-requires c κs = search needs
 jump-to-requires : tie.Need-jump-to-requires
 jump-to-requires c κs = search needs
 
-same-length : tie.Need-same-length
-same-length c = search needs
-
 returns : tie.Need-returns
 returns c = search (branch-laws, needs)
 
+same-length : tie.Need-same-length
+same-length c = search needs
+
 same-length-2 : tie.Need-same-length-2
 same-length-2 c = search needs
-
-same-length-3 : tie.Need-same-length-3
-same-length-3 c = search needs
 
 returns-2 : tie.Need-returns-2
 returns-2 c = search (branch-laws, needs)
@@ -62,8 +59,7 @@ jump-spec =
     enum-known-x
     after-jump-requires
     jump-to-requires
-    same-length
     returns
+    same-length
     same-length-2
-    same-length-3
     returns-2)

@@ -35,8 +35,11 @@ same-length-4 c = search needs
 same-length-5 : tie.Need-same-length-5
 same-length-5 c = search needs
 
+same-length-6 : tie.Need-same-length-6
+same-length-6 c = search (branch-laws, needs)
+
 returns-2 : tie.Need-returns-2
-returns-2 c = to-jump _ _ _ _ _ _ _ _ _ _ _ _ (c .before .before .before .before .before .before .before .before .byte .ensures) _ _ _ (c .before .before .before .before .before .before .before .if1 .left) (c .before .before .before .before .jump .ensures)
+returns-2 c = to-jump _ _ _ _ _ _ _ _ _ _ _ (c .before .before .before .before .before .before .before .before .before .byte .ensures) _ _ _ (c .before .before .before .before .before .before .before .before .if1 .left) (c .before .before .before .before .jump .ensures)
 
 pub resolve-branch-spec : {M : Type 1} → statement M
 resolve-branch-spec =
@@ -51,4 +54,5 @@ resolve-branch-spec =
     jump-requires
     same-length-4
     same-length-5
+    same-length-6
     returns-2)

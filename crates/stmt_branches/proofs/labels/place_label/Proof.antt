@@ -3,31 +3,31 @@ use Rattle.stmt_branches.proofs.labels.place_label.Statement.{statement
 use Rattle.stmt_branches.proofs.labels.place_label.Tie as tie
 use Rattle.stmt_branches.proofs.labels.place_label.Reads as reads
 use Rattle.stmt_branches.proofs.labels.place_label.Lts as lts
-use Rattle.access.proofs.get.Reads as get-reads
-use Rattle.access.proofs.put.Reads as put-reads
-use Rattle.stmt_branches.proofs.labels.key.Reads as key-reads
+use Rattle.expr_scope.proofs.smalls.put_small.Reads as put-small-reads
+use Rattle.expr_scope.proofs.smalls.small.Reads as small-reads
+use Rattle.stmt_branches.proofs.labels.label_place.Reads as label-place-reads
 use Rattle.stmt_branches.proofs.LabelLaws.{label-laws}
 
-get-requires : tie.Need-get-requires
-get-requires c κs = search (label-laws, needs)
+label-place-requires : tie.Need-label-place-requires
+label-place-requires c κs = search (label-laws, needs)
+
+small-requires : tie.Need-small-requires
+small-requires c κs = search (label-laws, needs)
 
 same-length : tie.Need-same-length
-same-length c = search needs
+same-length c = search (label-laws, needs)
 
 returns : tie.Need-returns
 returns c = search (label-laws, needs)
 
-key-requires : tie.Need-key-requires
-key-requires c κs = search needs
+add-put-small : tie.Need-add-put-small
+add-put-small c = search (label-laws, needs)
 
-add-put : tie.Need-add-put
-add-put c = search (label-laws, needs)
-
-put-requires : tie.Need-put-requires
-put-requires c κs = search (label-laws, needs)
+put-small-requires : tie.Need-put-small-requires
+put-small-requires c κs = search (label-laws, needs)
 
 same-length-2 : tie.Need-same-length-2
-same-length-2 c = search needs
+same-length-2 c = search (label-laws, needs)
 
 returns-2 : tie.Need-returns-2
 returns-2 c = search (label-laws, needs)
@@ -36,11 +36,11 @@ pub place-label-spec : {M : Type 1} → statement M
 place-label-spec =
     tie.close
     (tie.spec
-    get-requires
+    label-place-requires
+    small-requires
     same-length
     returns
-    key-requires
-    add-put
-    put-requires
+    add-put-small
+    put-small-requires
     same-length-2
     returns-2)

@@ -4,8 +4,8 @@ use Rattle.stmt_simple.proofs.simple.local_assignment.Tie as tie
 use Rattle.stmt_simple.proofs.simple.local_assignment.Reads as reads
 use Rattle.stmt_simple.proofs.simple.local_assignment.Lts as lts
 use Rattle.access.proofs.u16_in.Reads as u16-in-reads
-use Rattle.expr_terms.proofs.answers.after.Reads as after-reads
 use Rattle.expr_scope.proofs.scope.named_tmp.Reads as named-tmp-reads
+use Rattle.expr_terms.proofs.answers.after.Reads as after-reads
 use Rattle.stmt_simple.proofs.simple.assign.Reads as assign-reads
 use Rattle.stmt_walk.proofs.walk.stop.Reads as stop-reads
 use Rattle.stmt_simple.proofs.SimpleLaws.{simple-laws}
@@ -37,14 +37,20 @@ assign-requires c κs = search needs
 same-length : tie.Need-same-length
 same-length c = search needs
 
+same-length-2 : tie.Need-same-length-2
+same-length-2 c = search (simple-laws, needs)
+
 returns : tie.Need-returns
 returns c = search (simple-laws, needs)
 
-same-length-2 : tie.Need-same-length-2
-same-length-2 c = search needs
-
 same-length-3 : tie.Need-same-length-3
 same-length-3 c = search needs
+
+same-length-4 : tie.Need-same-length-4
+same-length-4 c = search needs
+
+same-length-5 : tie.Need-same-length-5
+same-length-5 c = search (simple-laws, needs)
 
 returns-2 : tie.Need-returns-2
 returns-2 c = search (simple-laws, needs)
@@ -62,7 +68,9 @@ local-assignment-spec =
     after-requires
     assign-requires
     same-length
-    returns
     same-length-2
+    returns
     same-length-3
+    same-length-4
+    same-length-5
     returns-2)

@@ -3,9 +3,9 @@ use Rattle.stmt_simple.proofs.simple.local_statement.Statement.{stateme
 use Rattle.stmt_simple.proofs.simple.local_statement.Tie as tie
 use Rattle.stmt_simple.proofs.simple.local_statement.Reads as reads
 use Rattle.stmt_simple.proofs.simple.local_statement.Lts as lts
-use Rattle.expr_terms.proofs.answers.after.Reads as after-reads
-use Rattle.expr_scope.proofs.scope.named_tmp.Reads as named-tmp-reads
 use Rattle.access.proofs.u16_in.Reads as u16-in-reads
+use Rattle.expr_scope.proofs.scope.named_tmp.Reads as named-tmp-reads
+use Rattle.expr_terms.proofs.answers.after.Reads as after-reads
 use Rattle.stmt_walk.proofs.walk.read_then.Reads as read-then-reads
 use Rattle.stmt_simple.proofs.SimpleLaws.{simple-laws}
 
@@ -27,6 +27,9 @@ read-then-requires c κs = search needs
 same-length : tie.Need-same-length
 same-length c = search needs
 
+same-length-2 : tie.Need-same-length-2
+same-length-2 c = search (simple-laws, needs)
+
 returns : tie.Need-returns
 returns c = search (simple-laws, needs)
 
@@ -40,4 +43,5 @@ local-statement-spec =
     after-requires
     read-then-requires
     same-length
+    same-length-2
     returns)
