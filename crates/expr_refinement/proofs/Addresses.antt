@@ -35,12 +35,12 @@ use Rattle.expr_terms.specs.declared.address.Space.{Space}
 use Rattle.expr_terms.specs.Answers.{ExprOut, resolved, exprOf}
 use Rattle.expr_reading.specs.Reading.{readOperand}
 use Rattle.expr_terms.specs.Addresses.{orSize, inConstSpace, kindOfSpace, spaceOf, namedSpace, defaultSpace, resolveSpace, referenceTo, reference, inSpace, addressIn, resolveAddress}
-use Rattle.expr_refinement.proofs.Encodings.{encX, Small, SoundX, count, Stood}
 use Rattle.expr_refinement.proofs.Answers.{bind, acts, temps, word, seenExpr, refines-stopped}
 use Rattle.expr_refinement.proofs.Below.{Spare, Below}
-use Rattle.expr_refinement.proofs.Scopes.{eqb-swap, encSymbol, lookup-is}
+use Rattle.expr_refinement.proofs.Scopes.{eqb-swap, lookup-is}
 use Rattle.expr_refinement.proofs.Reading.{read-operand}
 use Rattle.expr_refinement.proofs.Slices.{Means, means-done}
+use Rattle.expr_refinement.specs.Encoding.{encX, Small, SoundX, count, Stood, encSymbol}
 
 -- the byte of a kind; all but two are others
 pub data IsKind : SpaceKind → ℕ → Type 0 where

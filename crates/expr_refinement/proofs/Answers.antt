@@ -24,7 +24,8 @@ use Rattle.expr_terms.specs.declared.answers.Expr.{Expr}
 use Rattle.expr_terms.specs.declared.answers.Operand.{Operand}
 use Rattle.expr_scope.specs.declared.args.Args.{Args}
 use Rattle.expr_terms.specs.Answers.{ExprOut, resolved, onExpr, OperandOut, operand, onOperand, ArgsOut, passed, onArgs}
-use Rattle.expr_refinement.proofs.Encodings.{count, Stood, Later, later-refl, later-trans}
+use Rattle.expr_refinement.proofs.Encodings.{later-refl, later-trans}
+use Rattle.expr_refinement.specs.Encoding.{count, Stood, Later}
 
 -- the value and the position behind it
 unfoldable pub seenExpr : ExprOut → Seen (WordExpr × ℕ)

@@ -1,15 +1,15 @@
 -- What expressions need of the level below: temporaries and pushes, each as the definition has it. And setting a size
 -- outside of a push.
-use Prim.Native.Nat.{ℕ, zero, suc, _+_, _*_, _^_, _≤_, _<_}
+use Prim.Native.Nat.{ℕ, suc, _+_, _*_, _^_, _≤_, _<_}
 use mathlib.Core.Path.{_≡_, refl, subst}
 use mathlib.Core.Bool.{Bool, true, false, _||_}
 use mathlib.Core.List.{List, [], _∷_}
 use mathlib.Core.Option.{Option, none, some}
 use native.Mathlib.Omega.{arith}
-use lib.ListN.{length, getElem?, set}
+use lib.ListN.{length, getElem?}
 use lib.Dec.{eqb}
 use Rattle.prelude.specs.Base as definition
-use Rattle.prelude.specs.Base.{orElse, andThen, if_then_else_}
+use Rattle.prelude.specs.Base.{orElse, if_then_else_}
 use Rattle.definition.specs.Operations.{Operation, operationNumber}
 use Rattle.definition.specs.Value.{Kind, kindNumber, Value, truncate, isKind, SemanticAction, operationOf, Temporary}
 use Rattle.definition.specs.Ast.{Section}
@@ -24,14 +24,14 @@ use Rattle.list_pushes.specs.declared.push.Env.{Env as WordEnv}
 use Rattle.list_values.specs.Base.{Listed, listed, thenL}
 use Rattle.list_values.specs.Values.{absent, noOutput}
 use Rattle.list_pushes.specs.Pushes.{addTmp, push, pushOp, opTo}
-use Rattle.list_refinement.specs.Encoding.{encV, temporariesIn, encZ, Sound, Each, SoundAction, SizesHold}
+use Rattle.list_refinement.specs.Encoding.{encV, temporariesIn, encZ, Sound, Each, SoundAction, SizesHold, firstOf, secondOf, outputOf}
 use Rattle.list_refinement.proofs.Settled.{size-is, known-small, settled-is, settled-sets}
-use Rattle.list_refinement.proofs.Lists.{firstOf, secondOf, outputOf}
 use Rattle.list_refinement.proofs.Seen.{Seen, yes, seenRead, seenPushed, seenTmp, seenPush}
 use Rattle.expr_reading.specs.declared.read.Stated.{Stated}
 use Rattle.expr_reading.specs.Reading.{setSize}
-use Rattle.expr_refinement.proofs.Encodings.{Small, Applies, tmps, count, Stood, sound-more, params-more, mapping-more, actions-more}
+use Rattle.expr_refinement.proofs.Encodings.{sound-more, params-more, mapping-more, actions-more}
 use Rattle.expr_refinement.proofs.Answers.{acts, temps, word, Refines, refines-at}
+use Rattle.expr_refinement.specs.Encoding.{Small, Applies, tmps, count, Stood}
 
 -- so many errors may be to spare that their count stays below 2^64
 abbrev pub Spare : ℕ → List ℕ → Type 0

@@ -1,6 +1,6 @@
 -- Calls in expressions: whom a name calls, the arguments of a user op from the third on and then the first two, and a
 -- part of a local, each as the definition has it.
-use Prim.Native.Nat.{ℕ, zero, suc, _+_, _-_, _*_, _%_, _≤_, _<_}
+use Prim.Native.Nat.{ℕ, zero, suc, _+_, _-_, _%_, _≤_, _<_}
 use mathlib.Core.Path.{_≡_, refl, _∙_, ap}
 use mathlib.Core.List.{List, [], _∷_}
 use mathlib.Core.Option.{Option, none, some}
@@ -25,10 +25,8 @@ use Rattle.prelude.specs.Base.{if_then_else_}
 use Rattle.list_values.specs.Values.{absent}
 use Rattle.list_pushes.specs.Pushes.{ReadOut, read, PushedOut}
 use Rattle.file_refinement.specs.Holds.{Holds, spelledAt}
-use Rattle.expr_inbuilts.specs.Inbuilts.{inbuiltOf, inbuiltAt}
-use Rattle.list_refinement.specs.Encoding.{encV, Sound, Each}
-use Rattle.list_refinement.proofs.RuleKinds.{kindOf}
-use Rattle.list_refinement.proofs.Lists.{firstOf, secondOf}
+use Rattle.expr_inbuilts.specs.Inbuilts.{inbuiltAt}
+use Rattle.list_refinement.specs.Encoding.{encV, Sound, Each, firstOf, secondOf}
 use Rattle.list_refinement.proofs.Seen.{yes, no, seenRead, seenPushed}
 use Rattle.expr_terms.specs.declared.answers.Expr.{Expr}
 use Rattle.expr_scope.specs.Slots.{argAt}
@@ -36,12 +34,14 @@ use Rattle.expr_terms.specs.Answers.{ExprOut, resolved, exprOf, after}
 use Rattle.expr_reading.specs.Reading.{readOperand}
 use Rattle.expr_terms.specs.Calls.{inbuiltOr, calleeOf, passArg, passFrom, passArgs, applied, userOpTwo, userOpSome, callUserOp, onlyInteger, subpieceFrom, subpieceOf, subpieceMeant, subpiece}
 use Rattle.expr_refinement.proofs.Inbuilts.{inbuiltWords, inbuilt-found}
-use Rattle.expr_refinement.proofs.Encodings.{encX, SoundX, Applies, sound-more, x-more, each-more, count, Stood}
+use Rattle.expr_refinement.proofs.Encodings.{sound-more, x-more, each-more}
 use Rattle.expr_refinement.proofs.Answers.{bind, bind-read, bind-pushed, bind-unless, acts, temps, word, seenExpr, Refines, refines-done, refines-stopped}
 use Rattle.expr_refinement.proofs.Below.{Spare, Below}
-use Rattle.expr_refinement.proofs.Scopes.{meaning-sound, encM, Scoped, encSymbol, BitRangesFit, SoundM, ident-is, lookup-is}
+use Rattle.expr_refinement.proofs.Scopes.{meaning-sound, ident-is, lookup-is}
 use Rattle.expr_refinement.proofs.Reading.{read-operand}
 use Rattle.expr_refinement.proofs.Slices.{not-less, less, Means, means-done}
+use Rattle.list_refinement.specs.RuleKinds.{kindOf}
+use Rattle.expr_refinement.specs.Encoding.{encX, SoundX, Applies, count, Stood, encM, Scoped, encSymbol, BitRangesFit, SoundM}
 
 -- the arguments stand in their slots, the first of these in slot i
 abbrev pub ArgsIn : List ℕ → ℕ → List ExprValue → Type 0

@@ -1,55 +1,16 @@
--- How the code's values of expressions hold the definition's, and what has to be true of a state and of what an
--- expression means for that.
-use Prim.Native.Nat.{ℕ, _+_, _*_, _≤_, _<_}
+-- What is sound stays so with more temporaries and more actions.
+use Prim.Native.Nat.{ℕ, _+_, _≤_}
 use mathlib.Core.Path.{_≡_, refl, _∙_}
-use mathlib.Core.Bool.{false}
 use mathlib.Core.List.{List, [], _∷_, _++_}
 use mathlib.Core.Option.{Option, none, some}
 use native.Mathlib.Omega.{arith}
-use lib.ListN.{length}
-use Rattle.prelude.specs.Base.{if_then_else_, orElse, sum}
-use Rattle.definition.specs.Operations.{Operation, operationNumber, isOp}
-use Rattle.definition.specs.Value.{Kind, Value, ActionKind, SemanticAction, Temporary}
+use Rattle.prelude.specs.Base.{if_then_else_, sum}
+use Rattle.definition.specs.Value.{Kind, Value, SemanticAction}
 use Rattle.definition.specs.Ast.{Section}
 use Rattle.definition.specs.Walk.{ExprValue, State}
-use Rattle.definition.specs.ActionList.{orNone, placesLabel, labelsPlaced}
-use Rattle.list_refinement.specs.Encoding.{encV, Within, Sound, SoundTmp, Each, EachOption, SoundAction}
-use Rattle.list_refinement.proofs.Lists.{firstOf, secondOf}
-use Rattle.list_refinement.proofs.RuleKinds.{kindOf, Operands}
-use Rattle.expr_scope.specs.declared.scope.ExprValue.{ExprValue as WordExpr}
-
--- what an expression means; Apply has its inputs, none, one or two, with absent ones behind them
-unfoldable pub encX : ExprValue → WordExpr
-encX (ExprValue.Local v) = WordExpr.Local (encV v)
-encX (ExprValue.Unbound v) = WordExpr.Unbound (encV v)
-encX (ExprValue.Const n size) = WordExpr.Const n (orNone size)
-encX (ExprValue.Apply op n vs) = WordExpr.Apply (operationNumber op) n (length vs) (firstOf vs) (secondOf vs)
-encX (ExprValue.RamRef v size) = WordExpr.RamRef (encV v) size
-encX (ExprValue.RegisterRef v size) = WordExpr.RegisterRef (encV v) size
-encX (ExprValue.AddressOf v size) = WordExpr.AddressOf (encV v) (orNone size)
-encX (ExprValue.BitRange v from bits) = WordExpr.BitRange (encV v) from bits
-
--- an action that an operation makes
-abbrev pub opAction : Operation → ℕ → List Value → Option Value → SemanticAction
-opAction op n vs to = record { kind = ActionKind.Op op; number = n; inputs = vs; output = to }
-
--- with any output, the inputs are those that the operation's rule needs; and no label is placed
-abbrev pub Applies : Operation → List Value → Type 0
-Applies op vs = (n : ℕ) (to : Value) → Operands (kindOf op) (opAction op n vs (some to)) × (isOp Operation.PcodeLabel op ≡ false)
-
-abbrev pub Small : Option ℕ → Type 0
-Small z = orElse 0 z < 65535
-
--- an expression's value that its words hold
-abbrev pub SoundX : Section → ℕ → ExprValue → Type 0
-SoundX sec n (ExprValue.Local v) = Sound sec n v
-SoundX sec n (ExprValue.Unbound v) = Sound sec n v
-SoundX sec n (ExprValue.Const c z) = Small z
-SoundX sec n (ExprValue.Apply op c vs) = (length vs ≤ 2) × Applies op vs × Each (Sound sec n) vs
-SoundX sec n (ExprValue.RamRef v z) = Sound sec n v × (z < 65535)
-SoundX sec n (ExprValue.RegisterRef v z) = Sound sec n v × (z < 65535)
-SoundX sec n (ExprValue.AddressOf v z) = Sound sec n v × Small z
-SoundX sec n (ExprValue.BitRange v from bits) = Sound sec n v × (from + bits ≤ 16384)
+use Rattle.definition.specs.ActionList.{placesLabel, labelsPlaced}
+use Rattle.list_refinement.specs.Encoding.{Within, Sound, Each, EachOption, SoundAction}
+use Rattle.expr_refinement.specs.Encoding.{SoundX, Stood, Later}
 
 -- more temporaries
 
@@ -80,38 +41,8 @@ x-more sec n k l (ExprValue.RegisterRef v z) h = (sound-more sec n k l v (h .0),
 x-more sec n k l (ExprValue.AddressOf v z) h = (sound-more sec n k l v (h .0), h .1)
 x-more sec n k l (ExprValue.BitRange v from bits) h = (sound-more sec n k l v (h .0), h .1)
 
--- states
-
-abbrev pub tmps : State → List Temporary
-tmps st = st .sizing .temporaries
-
-abbrev pub count : State → ℕ
-count st = length (tmps st)
-
--- A state that the lent words hold: the actions and temporaries have room there, their values and those of the scope are
--- sound, and there are at most four errors for each action, and so many to spare.
-pub record Stood (sec : Section) (tail rest : List ℕ) (spare : ℕ) (st : State) : Type 0 where
-  pub actions : 24 * length (st .actions) ≤ length tail
-  pub temporaries : count st ≤ length rest
-  pub sizes : Each SoundTmp (tmps st)
-  pub errors : length (st .sizing .errors) ≤ spare + 4 * length (st .actions)
-  pub sound : Each (SoundAction sec (count st)) (st .actions)
-  pub params : Each (λ (p : ℕ × ExprValue). SoundX sec (count st) (p .1)) (st .scope .params)
-  pub mapping : Each (λ (p : ℕ × Value). Sound sec (count st) (p .1)) (st .scope .mapping)
-
 pub stood-more : {sec : Section} {tail rest : List ℕ} {spare : ℕ} (more : ℕ) {st : State} → spare ≤ more → Stood sec tail rest spare st → Stood sec tail rest more st
 stood-more more h f = record { actions = f .actions; temporaries = f .temporaries; sizes = f .sizes; errors = omega (arith, f .errors); sound = f .sound; params = f .params; mapping = f .mapping }
-
--- From one state to a later one an expression changes only actions, temporaries and errors.
-pub record Later (from st : State) : Type 0 where
-  pub temporaries : count from ≤ count st
-  pub statements : st .statements ≡ from .statements
-  pub scope : st .scope ≡ from .scope
-  pub nextLabel : st .nextLabel ≡ from .nextLabel
-  pub export : st .export ≡ from .export
-  pub begun : st .sizing .begun ≡ from .sizing .begun
-  pub actions : length (from .actions) ≤ length (st .actions)
-  pub placed : labelsPlaced (st .actions) ≡ labelsPlaced (from .actions)
 
 pub later-refl : (st : State) → Later st st
 later-refl st = record { temporaries = omega arith; statements = refl; scope = refl; nextLabel = refl; export = refl; begun = refl; actions = omega arith; placed = refl }

@@ -35,8 +35,7 @@ use Rattle.list_pushes.specs.Pushes.{ReadOut, read}
 use Rattle.file_syntax.specs.declared.cursor.Cursor.{Cursor}
 use Rattle.file_refinement.specs.Holds.{Holds, absentAt}
 use Rattle.file_refinement.proofs.Inversion.{OpAt, CallAt, expr-begun, nothing-deeper, ident-at, integer-at, address-of-at, truncate-at, slice-bits-at, op-at, deref-at, constant-pool-at, call-at, arg-at, no-arg-at}
-use Rattle.list_refinement.specs.Encoding.{encV, Sound, Each}
-use Rattle.list_refinement.proofs.Lists.{firstOf, secondOf}
+use Rattle.list_refinement.specs.Encoding.{encV, Sound, Each, firstOf, secondOf}
 use Rattle.list_refinement.proofs.Seen.{yes, no, seenRead, outcome}
 use Rattle.expr_scope.specs.declared.scope.ExprValue.{ExprValue as WordExpr}
 use Rattle.expr_terms.specs.declared.answers.Expr.{Expr}
@@ -53,10 +52,10 @@ use Rattle.expr_terms.specs.Addresses.{resolveAddress}
 use Rattle.expr_resolver.specs.Expressions as words
 use Rattle.expr_resolver.specs.Expressions.{valueThen, localAddress, addressMeant, addressOf, atom, later, skipExpr, order, orderOf, operandsAround, operandsOf, apply1, apply2, partAt, withPart, exprValue, part, binary, byCode, resolveExpr}
 use Rattle.expr_refinement.proofs.Inbuilts.{inbuiltWords}
-use Rattle.expr_refinement.proofs.Encodings.{encX, SoundX, Applies, sound-more, x-more, count, Stood}
+use Rattle.expr_refinement.proofs.Encodings.{sound-more, x-more}
 use Rattle.expr_refinement.proofs.Answers.{bind, bind-expr, bind-operand, bind-args, acts, temps, word, seenExpr, seenOperand, seenArgs, Refines, refines-done, refines-stopped, refines-map, weaken}
 use Rattle.expr_refinement.proofs.Below.{Spare, Below}
-use Rattle.expr_refinement.proofs.Scopes.{meaning-sound, ident, eqb-swap, encM, Scoped, scoped-later, encSymbol, BitRangesFit, SoundM, ident-is}
+use Rattle.expr_refinement.proofs.Scopes.{meaning-sound, ident, eqb-swap, scoped-later, ident-is}
 use Rattle.expr_refinement.proofs.Reading.{read-operand}
 use Rattle.expr_refinement.proofs.Slices.{means-done, slice-bits}
 use Rattle.expr_refinement.proofs.Addresses.{address}
@@ -64,6 +63,7 @@ use Rattle.expr_refinement.proofs.Operators.{Applies2, OrderIs, order-i
 use Rattle.expr_refinement.proofs.Slots.{arg-length, arg-again, arg-other, arg-behind}
 use Rattle.expr_refinement.proofs.Calls.{user-op, ArgsIn, on-assoc, callee-is, Only, sub-piece}
 use Rattle.expr_refinement.proofs.Positions.{starts, ident-ends, integer-ends, address-of-ends, truncate-ends, slice-ends, call-inside, drop-same, ends, end-behind, deeper, begins}
+use Rattle.expr_refinement.specs.Encoding.{encX, SoundX, Applies, count, Stood, encM, Scoped, encSymbol, BitRangesFit, SoundM}
 
 pub after-is : (pos n : ℕ) → pos < 65536 → n < 65536 → after pos n ≡ pos + n
 unfolding after if_then_else_

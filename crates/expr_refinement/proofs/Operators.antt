@@ -16,10 +16,10 @@ use Rattle.definition.specs.SectionFile.{pcodeOps}
 use Rattle.definition.specs.Spellings.{Inbuilt, inbuilt, inbuilts, translateInbuiltFunc}
 use Rattle.definition.proofs.Openers.{operations-opens}
 use Rattle.definition_guarantee.proofs.Tests.{and-true, all-at, first-from, chosen}
-use Rattle.list_refinement.proofs.RuleKinds.{kindOf}
 use Rattle.list_refinement.proofs.FromWalk.{suits, suited}
 use Rattle.expr_resolver.specs.Expressions.{operationOf}
-use Rattle.expr_refinement.proofs.Encodings.{opAction, Applies}
+use Rattle.list_refinement.specs.RuleKinds.{kindOf}
+use Rattle.expr_refinement.specs.Encoding.{opAction, Applies}
 
 -- an operation with so many inputs and an output has what its rule needs, and places no label
 takes : Operation → ℕ → Bool

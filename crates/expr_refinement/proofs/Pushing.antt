@@ -1,6 +1,6 @@
 -- The level below does what expressions need of it: temporaries and pushes are the definition's, and keep a state that
 -- the lent words hold.
-use Prim.Native.Nat.{ℕ, zero, suc, _+_, _*_, _^_, _≤_, _<_}
+use Prim.Native.Nat.{ℕ, suc, _+_, _*_, _^_, _≤_, _<_}
 use mathlib.Core.Path.{_≡_, refl, sym, _∙_, ap, subst}
 use mathlib.Core.Bool.{Bool, true, false}
 use mathlib.Core.List.{List, [], _∷_, _++_}
@@ -13,7 +13,7 @@ use Rattle.prelude.specs.Base as definition
 use Rattle.prelude.specs.Base.{orElse, andThen, isSome, all, contains}
 use Rattle.definition.specs.Refusals.{listFull, tooManyTemporaries}
 use Rattle.definition.specs.Operations.{Operation, operationNumber, isOp}
-use Rattle.definition.specs.Value.{Kind, Value, local, ActionKind, SemanticAction, operationOf, Temporary}
+use Rattle.definition.specs.Value.{Kind, Value, local, ActionKind, SemanticAction, operationOf}
 use Rattle.definition.specs.Ast.{Section}
 use Rattle.definition.specs.Sizes as sizes
 use Rattle.definition.specs.Sizes.{Operand, Step, equal, exactly, byDefault, Sizing, pointerSize}
@@ -25,14 +25,14 @@ use Rattle.list_pushes.specs.declared.push.Env.{Env as WordEnv}
 use Rattle.list_pushes.specs.Pushes.{addTmp, push, pushOp, opTo}
 use Rattle.list_values.specs.Values.{absent, noOutput}
 use Rattle.list_refinement.proofs.Seen.{seenRead, seenPushed, seenTmp, seenPush}
-use Rattle.list_refinement.proofs.Lists.{firstOf, secondOf, outputOf}
-use Rattle.list_refinement.specs.Encoding.{encV, Sound, SoundTmp, Each, EachOption, SoundAction, SizesHold}
+use Rattle.list_refinement.specs.Encoding.{encV, Sound, SoundTmp, Each, EachOption, SoundAction, SizesHold, firstOf, secondOf, outputOf, Lent}
 use Rattle.list_refinement.proofs.After.{After}
-use Rattle.list_refinement.proofs.RuleKinds.{kindOf, Operands}
-use Rattle.list_refinement.proofs.Pushes.{update-after, push-op-is, push-op-done, op-to-is, Lent, Stands, unnamed-is, push-is, add-done}
-use Rattle.expr_refinement.proofs.Encodings.{Small, Applies, sound-more, tmps, count, Stood, stood-more, params-more, mapping-more, actions-more, each-last, placed-last}
+use Rattle.list_refinement.proofs.Pushes.{update-after, push-op-is, push-op-done, op-to-is, Stands, unnamed-is, push-is, add-done}
+use Rattle.expr_refinement.proofs.Encodings.{sound-more, stood-more, params-more, mapping-more, actions-more, each-last, placed-last}
 use Rattle.expr_refinement.proofs.Answers.{acts, temps, word, Halts, halts-done, halts-here, Reached, Refines, refines-map}
 use Rattle.expr_refinement.proofs.Below.{Spare, Below, settled-begun}
+use Rattle.list_refinement.specs.RuleKinds.{kindOf, Operands}
+use Rattle.expr_refinement.specs.Encoding.{Small, Applies, tmps, count, Stood}
 
 -- No rule changes the statement begun last.
 

@@ -32,17 +32,17 @@ use Rattle.list_values.specs.Values as words
 use Rattle.list_values.specs.Values.{absent}
 use Rattle.list_values.specs.Sizes.{sizeOf}
 use Rattle.list_pushes.specs.Pushes.{ReadOut, read, onRead, outputOr, push, opTo, op}
-use Rattle.list_refinement.specs.Encoding.{encV, Sound, Each, EachOption}
+use Rattle.list_refinement.specs.Encoding.{encV, Sound, Each, EachOption, firstOf, secondOf, outputOf}
 use Rattle.list_refinement.proofs.Settled.{size-is, known-small}
-use Rattle.list_refinement.proofs.RuleKinds.{kindOf}
-use Rattle.list_refinement.proofs.Lists.{firstOf, secondOf, outputOf}
 use Rattle.list_refinement.proofs.Seen.{yes, no, seenRead, seenTmp, seenPush}
 use Rattle.expr_reading.specs.declared.read.Stated.{Stated}
 use Rattle.expr_reading.specs.Reading.{neededBytes, setStated, takeStated, copyTo, byteAligned, sliceRead, sliced, shiftTo, shiftAndMask, partOf, readSlice, pushedTo, pushedOut, readAddress, loadTo, load, loadRegisterTo, loadRegister, readValue, readOperand}
-use Rattle.expr_refinement.proofs.Encodings.{encX, Applies, Small, SoundX, sound-more, each-more, tmps, count, Stood, stood-more}
+use Rattle.expr_refinement.proofs.Encodings.{sound-more, each-more, stood-more}
 use Rattle.expr_refinement.proofs.Answers.{bind, bind-read, bind-tmp, bind-require, acts, temps, word, Refines, refines-done, refines-stopped}
 use Rattle.expr_refinement.proofs.Below.{Spare, Below, seenStated}
 use Rattle.expr_refinement.proofs.Stated.{set-stated, take-stated}
+use Rattle.list_refinement.specs.RuleKinds.{kindOf}
+use Rattle.expr_refinement.specs.Encoding.{encX, Applies, Small, SoundX, tmps, count, Stood}
 
 -- the value that stands for an output that may be given
 unfoldable pub toOf : Option Value → WordValue

@@ -12,16 +12,14 @@ use Rattle.definition.specs.Walk.{ExprValue, State, Env}
 use Rattle.definition.specs.Expressions as d
 use Rattle.list_pushes.specs.declared.push.Env.{Env as WordEnv}
 use Rattle.file_refinement.specs.Holds.{Holds}
-use Rattle.list_refinement.specs.Encoding.{actionsIn, temporariesIn, encS, SizesHold}
-use Rattle.list_refinement.proofs.Pushes.{Lent}
+use Rattle.list_refinement.specs.Encoding.{actionsIn, temporariesIn, encS, SizesHold, Lent}
 use Rattle.list_refinement.proofs.Seen.{outcome}
 use Rattle.expr_resolver.specs.Expressions.{resolveExpr}
-use Rattle.expr_refinement.proofs.Encodings.{encX, SoundX, Stood}
 use Rattle.expr_refinement.proofs.Answers.{seenExpr, Refines}
 use Rattle.expr_refinement.proofs.Below.{Spare}
-use Rattle.expr_refinement.proofs.Scopes.{Scoped, BitRangesFit}
 use Rattle.expr_refinement.proofs.Pushing.{level-below}
 use Rattle.expr_refinement.proofs.Expressions.{resolve-expr}
+use Rattle.expr_refinement.specs.Encoding.{encX, SoundX, Stood, Scoped, BitRangesFit}
 
 module _ (s t : List ℕ) (e : Env) (p front tail rest : List ℕ) (we : WordEnv) (lent : Lent e front tail rest) (sizes : SizesHold s t (e .section)) (pointer-is : we .pointer ≡ pointerSize (e .section))
     (holds : Holds s t (e .section)) (ranges : BitRangesFit (e .section)) (spare : ℕ) (room : Spare spare tail) (short : length s ≤ 65280)

@@ -24,18 +24,17 @@ use Rattle.list_values.specs.Sizes.{entry}
 use Rattle.file_refinement.specs.Holds.{Holds, bitRangeAt, symbolWord}
 use Rattle.definition_guarantee.proofs.Tests.{some-same}
 use Rattle.definition_guarantee.proofs.Globals.{place-below, FoundPlaced, found-placed}
-use Rattle.list_refinement.specs.Encoding.{encV, Sound, Each}
+use Rattle.list_refinement.specs.Encoding.{Sound, Each}
 use Rattle.expr_scope.specs.declared.scope.ExprValue.{ExprValue as WordExpr}
 use Rattle.expr_scope.specs.declared.scope.Meaning.{Meaning as WordMeaning}
-use Rattle.expr_scope.specs.declared.symbols.Symbol.{Symbol as WordSymbol}
 use Rattle.expr_terms.specs.Answers.{resolved}
 use Rattle.expr_resolver.specs.Expressions.{meansAt}
 use Rattle.expr_scope.specs.Slots.{ofSlot, slotAt, paramPlace}
 use Rattle.expr_scope.specs.Scopes as words
 use Rattle.expr_scope.specs.Symbols.{ofKind, symbolOf, lookup}
-use Rattle.expr_scope.specs.Scopes.{Found, findParam, lookupLocal, bitsAt, bitRange, foundOr, paramOr}
-use Rattle.expr_refinement.proofs.Encodings.{encX, SoundX, count, Stood, Later}
+use Rattle.expr_scope.specs.Scopes.{findParam, bitsAt, bitRange, foundOr, paramOr}
 use Rattle.expr_refinement.proofs.Answers.{acts, temps, word, Refines, refines-done, refines-stopped, seenExpr}
+use Rattle.expr_refinement.specs.Encoding.{encX, SoundX, count, Stood, Later, encM, encF, ParamsIn, Scoped, encSymbol, BitRangesFit, SoundM}
 
 pub eqb-swap : (a b : ℕ) → eqb a b ≡ eqb b a
 eqb-swap a b = go (eqb b a) refl
@@ -43,19 +42,6 @@ eqb-swap a b = go (eqb b a) refl
     go : (c : Bool) → eqb b a ≡ c → eqb a b ≡ c
     go true h = eq-eqb a b (sym (eqb-true b a h))
     go false h = ne-eqb a b (λ q. eqb-false b a h (sym q))
-
-unfoldable pub encM : Meaning → WordMeaning
-encM (means x) = WordMeaning.Means (encX x)
-encM (wrong r) = WordMeaning.Wrong (refusalNumber r)
-
-unfoldable pub encF : Option Value → Found
-encF none = Found.Nothing
-encF (some v) = Found.Is (encV v)
-
--- Parameters: the last one is in front. The slot of each has its name and what it means.
-abbrev pub ParamsIn : List ℕ → List (ℕ × ExprValue) → Type 0
-ParamsIn p [] = Unit {0}
-ParamsIn p (x ∷ xs) = (getD p (paramPlace (length xs) + 0) 0 ≡ x .0) × (ofSlot (slotAt p (paramPlace (length xs))) ≡ encX (x .1)) × ParamsIn p xs
 
 -- what an option holds, as a meaning
 unfoldable pub meansOr : Option ExprValue → WordMeaning → WordMeaning
@@ -80,12 +66,6 @@ param-is (x ∷ xs) p name other h = rw (h .0, eqb-swap (x .0) name) (go (eqb na
         rw (i, j, h .1)
     go false q = q
 
--- The words hold the scope: its parameters stand in their slots, and the table and the scope's list give its locals.
-pub record Scoped (t p : List ℕ) (we : WordEnv) (st : State) : Type 0 where
-  pub params : ParamsIn p (st .scope .params)
-  pub counted : we .count ≡ length (st .scope .params)
-  pub locals : (name : ℕ) → name < 1024 → lookupLocal t p (we .own) name ≡ encF (find name (st .scope .mapping))
-
 pub scoped-later : (t p : List ℕ) (we : WordEnv) (from st : State) → Later from st → Scoped t p we from → Scoped t p we st
 scoped-later t p we from st l h = record {
   params = rw (l .scope) (h .params);
@@ -103,17 +83,6 @@ find-each {A} P n (x ∷ xs) a h q = go (eqb n (x .0)) (find-each P n xs a (h .1
     go : (b : Bool) → (find n xs ≡ some a → P a) → (definition.if_then_else_ b (some (x .1)) none) or (find n xs) ≡ some a → P a
     go true f q = let r : x .1 ≡ a = cc in subst P r (h .0)
     go false f q = f q
-
--- the global of a name, as its word in the table tells it
-unfoldable pub encSymbol : Option Symbol → WordSymbol
-encSymbol none = WordSymbol.Undefined
-encSymbol (some (Symbol.Space i x)) = WordSymbol.Space i
-encSymbol (some (Symbol.Register i x)) = WordSymbol.Register i
-encSymbol (some (Symbol.BitRange i x)) = WordSymbol.BitRange i
-encSymbol (some (Symbol.Table i x)) = WordSymbol.Table i
-encSymbol (some (Symbol.UserOp i)) = WordSymbol.UserOp i
-encSymbol (some (Symbol.Macro i x)) = WordSymbol.Macro i
-encSymbol (some (Symbol.Other i)) = WordSymbol.Other i
 
 word-parts : (k i : ℕ) → k < 8 → symbolOf (1 + k + 8 * i) ≡ ofKind k i
 unfolding symbolOf if_then_else_
@@ -133,11 +102,6 @@ symbol-is (some (Symbol.Table i x)) = word-parts 3 i (omega arith) ∙ (unfold o
 symbol-is (some (Symbol.UserOp i)) = word-parts 4 i (omega arith) ∙ (unfold ofKind if_then_else_ in refl)
 symbol-is (some (Symbol.Macro i x)) = word-parts 5 i (omega arith) ∙ (unfold ofKind if_then_else_ in refl)
 symbol-is (some (Symbol.Other i)) = word-parts 6 i (omega arith) ∙ (unfold ofKind if_then_else_ in refl)
-
--- the bit ranges name registers, and their bits are within limits
-pub record BitRangesFit (sec : Section) : Type 0 where
-  pub register : (i : ℕ) (b : BitRangeEntry) → getElem? (sec .bitRanges) i ≡ some b → b .register < length (sec .registers)
-  pub bits : (i : ℕ) (b : BitRangeEntry) → getElem? (sec .bitRanges) i ≡ some b → b .firstBit + b .bitCount ≤ 16384
 
 module _ (s t : List ℕ) (sec : Section) (holds : Holds s t sec) where
   pub lookup-is : (name : ℕ) → name < 1024 → lookup t name ≡ encSymbol (find name (globals sec))
@@ -200,11 +164,6 @@ module _ (s t : List ℕ) (e : Env) (p : List ℕ) (we : WordEnv) (holds : Holds
           or (andThen (find name (st .scope .mapping)) λ v. some (ExprValue.Local v))) name)
       go (some x) = unfold meansOr _or_ meaningOf encM in refl
       go none = unfold meansOr _or_ in inner-is
-
--- what a name means is sound
-abbrev pub SoundM : Section → ℕ → Meaning → Type 0
-SoundM sec n (means x) = SoundX sec n x
-SoundM sec n (wrong r) = Unit {0}
 
 module _ (sec : Section) (tail rest : List ℕ) (spare : ℕ) (st : State) (name : ℕ) (ranges : BitRangesFit sec) (stood : Stood sec tail rest spare st) where
   global-sound : (y : Option Symbol) → FoundPlaced sec y → SoundM sec (count st) (globalMeaning y)

@@ -26,10 +26,10 @@ use Rattle.expr_terms.specs.declared.answers.Expr.{Expr}
 use Rattle.expr_terms.specs.Answers.{ExprOut, resolved, exprOf}
 use Rattle.expr_reading.specs.Reading.{neededBytes, readSlice}
 use Rattle.expr_terms.specs.Slices.{lowBits, unboundThen, sliceRead, constBytes, sliceConst, sliceRange, sliceBits}
-use Rattle.expr_refinement.proofs.Encodings.{encX, Small, SoundX, count, Stood}
 use Rattle.expr_refinement.proofs.Answers.{bind, bind-read, bind-unless, acts, temps, word, seenExpr, Refines, refines-done}
 use Rattle.expr_refinement.proofs.Below.{Spare, Below}
 use Rattle.expr_refinement.proofs.Reading.{toOf, read-operand, read-slice}
+use Rattle.expr_refinement.specs.Encoding.{encX, Small, SoundX, count, Stood}
 
 -- a test of a sum against a limit, the other way round
 pub not-less : (a b : ℕ) → ltb a b ≡ false → leb b a ≡ true

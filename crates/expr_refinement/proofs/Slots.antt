@@ -17,13 +17,12 @@ use Rattle.definition.specs.Walk.{ExprValue}
 use Rattle.prelude.specs.Base.{if_then_else_}
 use Rattle.definition.proofs.Openers.{operations-opens}
 use Rattle.list_values.specs.Values.{absent, word, valueOf, valueAt, putValue}
-use Rattle.list_refinement.specs.Encoding.{encV, Sound, Each}
+use Rattle.list_refinement.specs.Encoding.{encV, Sound, Each, firstOf, secondOf}
 use Rattle.list_refinement.proofs.Operands.{word-is, value-back}
-use Rattle.list_refinement.proofs.Lists.{firstOf, secondOf}
 use Rattle.expr_scope.specs.declared.scope.ExprValue.{ExprValue as WordExpr}
 use Rattle.expr_scope.specs.declared.scope.Slot.{Slot}
 use Rattle.expr_scope.specs.Slots.{slot, slotOf, ofParts, ofSlot, putSlot, slotAt, paramPlace, argAt, putArg}
-use Rattle.expr_refinement.proofs.Encodings.{encX, SoundX}
+use Rattle.expr_refinement.specs.Encoding.{encX, SoundX}
 
 -- writing one word after another
 

@@ -18,7 +18,7 @@ use Rattle.definition.proofs.Openers.{base-opens}
 use Rattle.file_refinement.specs.Holds.{Holds, localWord}
 use Rattle.expr_scope.specs.Smalls.{unit, smallOf, small}
 use Rattle.expr_scope.specs.Scopes.{Found, ownOf, ownLocal, tmpOf, tmpLocal, orTmp, lookupLocal}
-use Rattle.expr_refinement.proofs.Scopes.{encF}
+use Rattle.expr_refinement.specs.Encoding.{encF}
 
 -- in the words of a scope that begins, every small number is 0
 zero-word : (n i : ℕ) → _≡_ {A = ℕ} (getD (replicate n 0) i 0) 0

@@ -23,9 +23,10 @@ use Rattle.list_refinement.specs.Encoding.{SizesHold, encV, Sound}
 use Rattle.list_refinement.proofs.Settled.{size-is, known-small}
 use Rattle.expr_reading.specs.declared.read.Stated.{Stated}
 use Rattle.expr_reading.specs.Reading.{stated, setSize, setStated, takeStated}
-use Rattle.expr_refinement.proofs.Encodings.{Small, tmps, count, Stood, stood-more}
+use Rattle.expr_refinement.proofs.Encodings.{stood-more}
 use Rattle.expr_refinement.proofs.Answers.{acts, temps, word, Refines, refines-done}
 use Rattle.expr_refinement.proofs.Below.{Spare, seenStated, set-size}
+use Rattle.expr_refinement.specs.Encoding.{Small, tmps, count, Stood}
 
 module _ (s t : List ℕ) (e : Env) (front tail rest : List ℕ) (holds : SizesHold s t (e .section)) (spare : ℕ) (room : Spare spare tail) where
   abbrev A : State → List ℕ

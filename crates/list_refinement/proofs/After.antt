@@ -14,8 +14,9 @@ use Rattle.definition.specs.Sizes as d
 use Rattle.definition.specs.Sizes.{Operand, in0, in1, out, FixedSize, one, pointer, Step, equal, exactly, byDefault, at, put, Sizing, butFirst, knownAt, setSize, setGiven, setOperand, setOperands, shareSize, setSizeOfAll, fallbackSize, pointerSize, fixedSize, setUnsized, applyStep, applySteps}
 use Rattle.definition.proofs.Openers.{base-opens}
 use Rattle.list_refinement.specs.Encoding.{SoundTmp, Each, SoundAction, SizesHold}
-use Rattle.list_refinement.proofs.Settled.{known-small, settled-sets, Ready, operand-sound, has, put-sound, put-has}
+use Rattle.list_refinement.proofs.Settled.{known-small, settled-sets, Ready, operand-sound, put-sound, put-has}
 use Rattle.list_refinement.proofs.Focus.{truncate-sound}
+use Rattle.list_refinement.specs.RuleKinds.{has}
 
 -- at most so many errors were added
 pub record After (sec : Section) (cost : ℕ) (x : SemanticAction) (z : Sizing) (y : SemanticAction) (w : Sizing) : Type 0 where

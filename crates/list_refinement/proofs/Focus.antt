@@ -17,7 +17,8 @@ use Rattle.list_values.specs.Values.{valueAt}
 use Rattle.list_values.specs.Sizes.{Sized, sized, sizeOf, sizeAt, setOperand}
 use Rattle.list_refinement.specs.Encoding.{encV, temporariesIn, encZ, Sound, SoundAction, SizesHold}
 use Rattle.list_refinement.proofs.Operands.{operandAt, value-at, put-size}
-use Rattle.list_refinement.proofs.Settled.{size-is, known-small, settled-is, settled-sets, Ready, operand-sound, has, present, put-sound, put-has}
+use Rattle.list_refinement.proofs.Settled.{size-is, known-small, settled-is, settled-sets, Ready, operand-sound, present, put-sound, put-has}
+use Rattle.list_refinement.specs.RuleKinds.{has}
 
 -- An action's words between others, a sizing's temporaries, and both as a rule leaves them.
 

@@ -19,10 +19,9 @@ use Rattle.definition_guarantee.proofs.Tests.{clash, eq-of, le-of, lt-of, and-t
 use Rattle.definition_guarantee.proofs.Words.{Fits, fits-parts, Laid, subpiece-shapeless}
 use Rattle.definition_guarantee.proofs.Layouts.{Rough, laidOut, subpiece}
 use Rattle.list_refinement.specs.Encoding.{Within, Sound, Each, EachOption, SoundAction}
-use Rattle.list_refinement.proofs.Settled.{has}
-use Rattle.list_refinement.proofs.RuleKinds.{RuleKind, kindOf, Operands}
 use Rattle.list_refinement.proofs.Rules.{Ruled}
 use Rattle.list_refinement.proofs.Finishing.{Piece, Finishable}
+use Rattle.list_refinement.specs.RuleKinds.{has, RuleKind, kindOf, Operands}
 
 -- whether so many inputs, and an output or none, are what a rule needs
 unfoldable pub suits : RuleKind → ℕ → Bool → Bool

@@ -12,9 +12,9 @@ use Rattle.definition.specs.Ast.{Section}
 use Rattle.definition.specs.ActionList.{inputWords, valueWords, actionKindNumber, operationWord, filled, actionWords, listWords}
 use Rattle.list_values.specs.declared.value.Value.{Value as WordValue}
 use Rattle.access.specs.Loops.{run}
-use Rattle.list_values.specs.Values.{absent, noOutput, word, putValue}
+use Rattle.list_values.specs.Values.{word, putValue}
 use Rattle.list_pushes.specs.Pushes.{writeOperands, writeZeros, writeHead, write}
-use Rattle.list_refinement.specs.Encoding.{encV, packed, actionsIn, Sound, Each, EachOption, SoundAction}
+use Rattle.list_refinement.specs.Encoding.{encV, packed, actionsIn, Sound, Each, EachOption, SoundAction, firstOf, secondOf, outputOf}
 use Rattle.list_refinement.proofs.Operands.{word-is, words-of, outNumber, outWord, action-length}
 use Rattle.list_refinement.proofs.Focus.{wordsOf}
 
@@ -70,21 +70,6 @@ write-is : (p rest : List ℕ) (at kind op number count : ℕ) (out x y : WordVa
     → write (p ++ rest) at kind op number count out x y ≡ p ++ (written kind op number count out x y ++ drop 24 rest)
 unfolding write writeZeros writeOperands writeHead putValue run fill
 write-is p rest at kind op number count out x y e h = fill-is (written kind op number count out x y) p rest at 0 (e ∙ omega arith) h
-
--- the values that a push is given
-unfoldable pub firstOf : List Value → WordValue
-firstOf [] = absent
-firstOf (v ∷ vs) = encV v
-
-unfoldable pub secondOf : List Value → WordValue
-secondOf [] = absent
-secondOf (u ∷ []) = absent
-secondOf (u ∷ v ∷ vs) = encV v
-
-unfoldable pub outputOf : Option Operation → Option Value → WordValue
-outputOf o (some v) = encV v
-outputOf (some op) none = noOutput
-outputOf none none = absent
 
 sound-word : {sec : Section} {n : ℕ} {v : Value} → Sound sec n v → word (encV v) ≡ packed v
 sound-word {sec} {n} {v} f = word-is v (f .offset) (f .size)

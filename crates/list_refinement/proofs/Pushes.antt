@@ -1,5 +1,5 @@
 -- Temporaries and pushes: what the words answer is what the definition answers.
-use Prim.Native.Nat.{ℕ, zero, suc, _+_, _*_, _/_, _%_, _^_, _≤_, _<_, min}
+use Prim.Native.Nat.{ℕ, suc, _+_, _*_, _^_, _≤_, _<_, min}
 use mathlib.Core.Path.{_≡_, refl, sym, _∙_, ap, subst}
 use mathlib.Core.Bool.{Bool, true, false}
 use mathlib.Core.List.{List, [], _∷_, _++_, map, append-assoc}
@@ -28,15 +28,15 @@ use Rattle.list_values.specs.Values.{valueAt}
 use Rattle.list_values.specs.Sizes.{sized, thenS}
 use Rattle.list_pushes.specs.Rules.{updateOperandSizes}
 use Rattle.list_pushes.specs.Pushes.{read, pushed, onPush, onState, tmpWord, addTmp, outputOr, write, push, updateLast, pushOp, opTo, op}
-use Rattle.list_refinement.specs.Encoding.{encV, actionsIn, temporariesIn, encZ, encS, Within, Sound, SoundTmp, Each, EachOption, SoundAction, SizesHold}
+use Rattle.list_refinement.specs.Encoding.{encV, actionsIn, temporariesIn, encZ, encS, Within, Sound, SoundTmp, Each, EachOption, SoundAction, SizesHold, firstOf, secondOf, outputOf, Lent}
 use Rattle.list_refinement.proofs.Operands.{size-word}
 use Rattle.list_refinement.proofs.Settled.{Ready, present}
 use Rattle.list_refinement.proofs.Focus.{value-of, wordsOf}
-use Rattle.list_refinement.proofs.RuleKinds.{kindOf, Operands}
 use Rattle.list_refinement.proofs.After.{After, after-ready}
 use Rattle.list_refinement.proofs.Rules.{update-is, Ruled, ruled-after, updated-after}
-use Rattle.list_refinement.proofs.Lists.{list-length, list-focus, focus-at, firstOf, secondOf, outputOf, write-action}
+use Rattle.list_refinement.proofs.Lists.{list-length, list-focus, focus-at, write-action}
 use Rattle.list_refinement.proofs.Seen.{bind-tmp, bind-pushed, yes, seenRead, seenPushed, seenTmp, seenPush, outcome, outcome-map}
+use Rattle.list_refinement.specs.RuleKinds.{kindOf, Operands}
 
 -- temporaries
 
@@ -68,12 +68,6 @@ module _ (rest : List ℕ) (ts : List Temporary) (t : Temporary) where
         c,
       )
       (sym (append-assoc (map temporaryWord ts) (temporaryWord t ∷ []) (drop (suc (length ts)) rest)))
-
--- What is lent: words for the actions, the first of them for the Builds, and words for the temporaries.
-pub record Lent (e : Env) (front tail rest : List ℕ) : Type 0 where
-  pub builds : length front ≡ 24 * length (e .section .subtables)
-  pub actionRoom : e .actionRoom ≡ (length front + length tail) / 24
-  pub temporaryRoom : e .temporaryRoom ≡ min (length rest) 512
 
 -- A state that the lent words hold.
 pub record Stands (tail rest : List ℕ) (s : State) : Type 0 where

@@ -18,11 +18,12 @@ use Rattle.list_pushes.specs.Rules.{ruleOf, shift, comparison, boolNot, branch,
 use Rattle.list_refinement.specs.Encoding.{encZ, SizesHold}
 use Rattle.list_refinement.proofs.Framing.{get-in}
 use Rattle.list_refinement.proofs.Operands.{words-of, action-length}
-use Rattle.list_refinement.proofs.Settled.{Ready, has}
+use Rattle.list_refinement.proofs.Settled.{Ready}
 use Rattle.list_refinement.proofs.Focus.{set-is, wordsOf, temporariesOf, held}
 use Rattle.list_refinement.proofs.After.{After, after-ready, after-more, stepCost, stepsCost, Fit, Gives, set-after, all-after, steps-after}
 use Rattle.list_refinement.proofs.Shares.{pair-is, triple-is, three-is, unsized-is}
-use Rattle.list_refinement.proofs.RuleKinds.{RuleKind, ruleNumber, ruleSteps, kindOf, Operands, ruled}
+use Rattle.list_refinement.proofs.RuleKinds.{ruled}
+use Rattle.list_refinement.specs.RuleKinds.{has, RuleKind, ruleNumber, ruleSteps, kindOf, Operands}
 
 -- the operands that the action's rule needs
 abbrev pub Ruled : ActionKind → SemanticAction → Type 0

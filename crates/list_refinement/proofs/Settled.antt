@@ -22,6 +22,7 @@ use Rattle.list_values.specs.Sizes.{tmpSize, listedSize, sizeOfLocal, sizeOf, s
 use Rattle.list_values.proofs.SizeLaws.{sum-below}
 use Rattle.list_refinement.specs.Encoding.{encV, temporariesIn, firstError, encZ, Within, Sound, SoundTmp, Each, EachOption, SoundAction, SizesHold}
 use Rattle.list_refinement.proofs.Operands.{size-word}
+use Rattle.list_refinement.specs.RuleKinds.{has}
 
 -- temporaries
 
@@ -256,10 +257,6 @@ unfolding at
 operand-sound {sec} {n} in0 x v f e = each-at (Sound sec n) (x .inputs) 0 v (f .inputs) e
 operand-sound {sec} {n} in1 x v f e = each-at (Sound sec n) (x .inputs) 1 v (f .inputs) e
 operand-sound {sec} {n} out x v f e = option-at (Sound sec n) (x .output) v (f .output) e
-
--- whether an action has an operand
-abbrev pub has : Operand → SemanticAction → Bool
-has p x = isSome (at p x)
 
 pub present : {A : Type 0} (y : Option A) → isSome y ≡ true → (a : A) × (y ≡ some a)
 unfolding isSome

@@ -20,8 +20,9 @@ use Rattle.list_values.specs.Values.{valueAt}
 use Rattle.list_values.specs.Sizes.{Sized, thenS, setOperand, setTwo, setThree, fallsBack, pairFallback, sharePair, setSizeOfPair, tripleFallsBack, tripleFallback, shareSize, allEqual, shareTriple, setSizeOfTriple, setUnsized}
 use Rattle.list_refinement.specs.Encoding.{encV, encZ, SizesHold}
 use Rattle.list_refinement.proofs.Operands.{operandAt}
-use Rattle.list_refinement.proofs.Settled.{Ready, has, present}
+use Rattle.list_refinement.proofs.Settled.{Ready, present}
 use Rattle.list_refinement.proofs.Focus.{value-of, known-is, known-fits, set-is, set-ready, set-has, wordsOf, temporariesOf, held}
+use Rattle.list_refinement.specs.RuleKinds.{has}
 
 -- the fallback
 falls-kind : (sec : Section) (k : Kind) (number offset : ℕ) (own : Option ℕ)

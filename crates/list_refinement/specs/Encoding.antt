@@ -1,6 +1,6 @@
 -- How the code's lists, values and states hold the definition's: each is a function of what it holds. And what has to be
 -- true of values, actions and temporaries for that: numbers within their lists, offsets and sizes within their words.
-use Prim.Native.Nat.{ℕ, _+_, _*_, _^_, _≤_, _<_}
+use Prim.Native.Nat.{ℕ, _+_, _*_, _^_, _≤_, _<_, _/_, min}
 use mathlib.Core.Path.{_≡_}
 use mathlib.Core.List.{List, [], _∷_, _++_, map}
 use mathlib.Core.Option.{Option, none, some}
@@ -10,12 +10,14 @@ use Rattle.definition.specs.Value.{Kind, kindNumber, Value, SemanticAction, Tem
 use Rattle.definition.specs.Ast.{Register, Field, Section}
 use Rattle.definition.specs.Sizes as d
 use Rattle.definition.specs.Sizes.{Sizing, pointerSize}
-use Rattle.definition.specs.Walk.{State}
+use Rattle.definition.specs.Walk.{State, Env}
 use Rattle.definition.specs.ActionList.{orNone, listWords, temporaryWord}
 use Rattle.list_values.specs.declared.value.Value.{Value as WordValue}
 use Rattle.list_values.specs.declared.sizes.Sizing.{Sizing as WordSizing}
 use Rattle.list_pushes.specs.declared.push.State.{State as WordState}
 use Rattle.list_values.specs.Sizes.{listSize, exportSizeOf}
+use Rattle.definition.specs.Operations.{Operation}
+use Rattle.list_values.specs.Values.{absent, noOutput}
 
 -- a value; its second word is that of `valueWords`
 abbrev pub encV : Value → WordValue
@@ -88,3 +90,25 @@ pub record SizesHold (s t : List ℕ) (sec : Section) : Type 0 where
   pub fieldsSmall : (i : ℕ) → orElse 0 (andThen (getElem? (sec .fields) i) λ (x : Field). x .size) < 65535
   pub exportsSmall : (i : ℕ) → orElse 0 (d.exportSizeOf sec i) < 65535
   pub pointerSmall : pointerSize sec < 65535
+
+-- the values that a push is given
+-- the values of an action with up to two inputs: absent where there is none, `noOutput` where an operation has no output
+unfoldable pub firstOf : List Value → WordValue
+firstOf [] = absent
+firstOf (v ∷ vs) = encV v
+
+unfoldable pub secondOf : List Value → WordValue
+secondOf [] = absent
+secondOf (u ∷ []) = absent
+secondOf (u ∷ v ∷ vs) = encV v
+
+unfoldable pub outputOf : Option Operation → Option Value → WordValue
+outputOf o (some v) = encV v
+outputOf (some op) none = noOutput
+outputOf none none = absent
+
+-- What is lent: words for the actions, the first of them for the Builds, and words for the temporaries.
+pub record Lent (e : Env) (front tail rest : List ℕ) : Type 0 where
+  pub builds : length front ≡ 24 * length (e .section .subtables)
+  pub actionRoom : e .actionRoom ≡ (length front + length tail) / 24
+  pub temporaryRoom : e .temporaryRoom ≡ min (length rest) 512

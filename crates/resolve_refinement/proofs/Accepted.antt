@@ -1,7 +1,7 @@
 -- A section that is accepted: the final list, the temporaries and the twelve numbers are the definition's.
 use Prim.Native.Nat.{ℕ, _+_, _*_, _^_, _≤_, _<_}
 use mathlib.Core.Path.{_≡_, refl, _∙_, ap}
-use mathlib.Core.List.{List, [], _∷_, _++_}
+use mathlib.Core.List.{List, _++_}
 use mathlib.Core.Option.{Option, none, some}
 use native.Mathlib.Omega.{arith}
 use lib.ListN.{length, length-append}
@@ -23,11 +23,10 @@ use Rattle.resolve_answer.specs.Answers.{pointsOf, words, exportWords, accepted
 use Rattle.list_refinement.specs.Encoding.{encV, packed, actionsIn, temporariesIn, EachOption}
 use Rattle.list_refinement.proofs.Operands.{word-is}
 use Rattle.list_refinement.proofs.Assembling.{implicit-few, assembled-is}
-use Rattle.expr_refinement.proofs.Encodings.{tmps, count}
-use Rattle.stmt_refinement.proofs.Views.{ExportIs}
-use Rattle.stmt_refinement.proofs.Simple.{SoundExport}
 use Rattle.resolve_refinement.specs.Answers.{asAnswer}
 use Rattle.resolve_refinement.proofs.Temporaries.{exit-temporaries}
+use Rattle.expr_refinement.specs.Encoding.{tmps, count}
+use Rattle.stmt_refinement.specs.Standing.{ExportIs, SoundExport}
 
 -- a sound export, and its words
 abbrev pub ExportHeld : Section → ℕ → Option Export → WordExport → Type 0

@@ -9,8 +9,8 @@ use Rattle.definition.specs.SectionFile.{Parsed, parsed, refused, Read, on, ent
 use Rattle.list_refinement.specs.Encoding.{Each}
 use Rattle.list_refinement.proofs.Settled.{each-at}
 use Rattle.list_refinement.proofs.Named.{section-named}
-use Rattle.expr_refinement.proofs.Scopes.{BitRangesFit}
 use Rattle.definition_guarantee.proofs.Readings.{Reading, Reads, bind, returns, passed, passes, reads-bits}
+use Rattle.expr_refinement.specs.Encoding.{BitRangesFit}
 
 abbrev Fits : BitRange → Type 0
 Fits x = x .firstBit + x .bitCount ≤ 16384

@@ -42,15 +42,14 @@ use Rattle.list_refinement.proofs.Passes.{inference-is, place-is, RuledAction, 
 use Rattle.list_refinement.proofs.Fixing.{fix-is, fix-sound}
 use Rattle.list_refinement.proofs.Finishing.{finish-is, finish-done, refusedEnd, ended, seenEnd, ending, Finishable, AfterFinish}
 use Rattle.list_refinement.proofs.FromWalk.{rough-ruled, sound-finishable}
-use Rattle.expr_refinement.proofs.Encodings.{tmps, count, Stood}
 use Rattle.expr_refinement.proofs.Below.{Spare}
-use Rattle.stmt_refinement.proofs.Views.{Beside, encE}
-use Rattle.stmt_refinement.proofs.Given.{walkOf}
 use Rattle.resolve_refinement.specs.Answers.{asAnswer}
 use Rattle.resolve_refinement.proofs.Answers.{refused-is}
 use Rattle.resolve_refinement.proofs.Left.{LeftAs, actions-left, Begun, actions-begun}
 use Rattle.resolve_refinement.proofs.Labels.{labels-kept}
 use Rattle.resolve_refinement.proofs.Accepted.{ExportHeld, semantics, accepted-is}
+use Rattle.expr_refinement.specs.Encoding.{tmps, count, Stood}
+use Rattle.stmt_refinement.specs.Standing.{Beside, encE, walkOf}
 
 -- actions as the walk leaves them can be ruled, and after the passes finished
 

@@ -31,15 +31,14 @@ use Rattle.resolve_answer.specs.Answers.{Resolved, resolvedTo, refused}
 use Rattle.resolve_answer.specs.Ends.{finish}
 use Rattle.resolve_file.specs.Files as w
 use Rattle.resolve_file.specs.Files.{startEnv, walkSection, resolveWalked}
-use Rattle.expr_refinement.proofs.Encodings.{count}
 use Rattle.expr_refinement.proofs.Answers.{acts, temps, word}
-use Rattle.stmt_refinement.proofs.Views.{Beside}
-use Rattle.stmt_refinement.proofs.Given.{walkOf}
-use Rattle.stmt_refinement.proofs.Standing.{Standing, Follows}
+use Rattle.stmt_refinement.proofs.Steps.{Follows}
 use Rattle.resolve_refinement.specs.Answers.{asAnswer}
 use Rattle.resolve_refinement.proofs.Answers.{refused-is}
 use Rattle.resolve_refinement.proofs.Finish.{end-is}
 use Rattle.resolve_refinement.proofs.Start.{pointer-is, startScope, roomOf, startBeside, frontOf, tailOf, front-length, lent-length}
+use Rattle.expr_refinement.specs.Encoding.{count}
+use Rattle.stmt_refinement.specs.Standing.{Beside, walkOf, Standing}
 
 -- A lent list keeps its length: the contract of a function that is lent one knows it.
 abbrev pub Lengths : ℕ → ℕ → Resolved → Type 0

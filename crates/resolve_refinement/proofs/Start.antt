@@ -27,13 +27,10 @@ use Rattle.list_refinement.specs.Encoding.{Sound, Each}
 use Rattle.list_refinement.proofs.FromSection.{TablesNamed, sizes-hold}
 use Rattle.resolve_file.specs.Files as w
 use Rattle.resolve_file.specs.Files.{startEnv}
-use Rattle.expr_refinement.proofs.Scopes.{BitRangesFit}
 use Rattle.expr_refinement.proofs.Start.{none-small, start-locals}
 use Rattle.stmt_branches.specs.Labels.{labelPlace}
-use Rattle.stmt_refinement.proofs.Views.{Beside, beside}
-use Rattle.stmt_refinement.proofs.Given.{Given}
-use Rattle.stmt_refinement.proofs.Labels.{labelNumber, LabelsIn}
-use Rattle.stmt_refinement.proofs.Standing.{Standing}
+use Rattle.expr_refinement.specs.Encoding.{BitRangesFit}
+use Rattle.stmt_refinement.specs.Standing.{Beside, beside, Given, labelNumber, LabelsIn, Standing}
 
 -- the pointer size that the words read
 module _ (s t : List ℕ) (sec : Section) (holds : Holds s t sec) where

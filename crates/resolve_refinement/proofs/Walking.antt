@@ -18,13 +18,13 @@ use Rattle.list_refinement.proofs.FromSection.{TablesNamed}
 use Rattle.resolve_file.specs.Files as w
 use Rattle.resolve_file.specs.Files.{startEnv}
 use Rattle.expr_refinement.proofs.Answers.{acts, temps, word}
-use Rattle.expr_refinement.proofs.Scopes.{BitRangesFit}
-use Rattle.stmt_refinement.proofs.Given.{walkOf}
-use Rattle.stmt_refinement.proofs.Standing.{Follows}
+use Rattle.stmt_refinement.proofs.Steps.{Follows}
 use Rattle.stmt_refinement.proofs.MacroPlaces.{ordinal-is, ordinal-small}
 use Rattle.stmt_refinement.proofs.Bodies.{Between, EnterFollows, StatementFollows, body-follows}
 use Rattle.resolve_refinement.proofs.Start.{startScope, roomOf, startBeside, frontOf, tailOf, start-given, start-standing}
 use Rattle.resolve_refinement.proofs.Sections.{Walks}
+use Rattle.expr_refinement.specs.Encoding.{BitRangesFit}
+use Rattle.stmt_refinement.specs.Standing.{walkOf}
 
 all-taken : {A : Type 0} (xs : List A) → take (length xs) xs ≡ xs
 all-taken [] = refl

@@ -15,8 +15,7 @@ use Rattle.definition.specs.ActionList.{orNone, exportKindNumber}
 use Rattle.list_refinement.specs.Encoding.{encS}
 use Rattle.stmt_walk.specs.declared.walk.Step.{Step}
 use Rattle.stmt_bodies.specs.Statements.{begun, begin}
-use Rattle.stmt_refinement.proofs.Views.{Beside, ExportIs}
-use Rattle.stmt_refinement.proofs.Given.{walkOf}
+use Rattle.stmt_refinement.specs.Standing.{Beside, ExportIs, walkOf}
 
 -- what is beside a walk after one statement more
 abbrev pub oneMore : Beside → Beside

@@ -37,17 +37,15 @@ use Rattle.stmt_walk.specs.declared.walk.Walk.{Walk}
 use Rattle.stmt_walk.specs.declared.walk.Step.{Step}
 use Rattle.stmt_walk.specs.Walks.{Walked, walked, besideP, withoutP, onStep, stop}
 use Rattle.stmt_bodies.specs.Statements.{statementBy, statementBegun, resolveStatement, resolveAll, macroEnv, bodyAt, forward, returned, returnedTo, macroBody, enterMacro, resolveBody}
-use Rattle.expr_refinement.proofs.Encodings.{SoundX, count}
 use Rattle.expr_refinement.proofs.Answers.{acts, temps, word}
 use Rattle.expr_refinement.proofs.Expressions.{after-is}
-use Rattle.expr_refinement.proofs.Scopes.{ParamsIn}
-use Rattle.stmt_refinement.proofs.Views.{Beside}
-use Rattle.stmt_refinement.proofs.Given.{Given, walkOf}
 use Rattle.stmt_refinement.proofs.Begin.{oneMore, started, Begins, begins, refuses, begin-is}
-use Rattle.stmt_refinement.proofs.Standing.{Standing, Framed, Follows}
+use Rattle.stmt_refinement.proofs.Steps.{Follows}
 use Rattle.stmt_refinement.proofs.Frames.{framed-refl, framed-trans, framed-begun, standing-begun}
 use Rattle.stmt_refinement.proofs.MacroPlaces.{macro-place, first-ordinal, parts, ordinal-small}
 use Rattle.stmt_refinement.proofs.Macros.{Fresh, entered-standing, returned-standing, returned-framed, bound-count, bound-each}
+use Rattle.expr_refinement.specs.Encoding.{SoundX, count, ParamsIn}
+use Rattle.stmt_refinement.specs.Standing.{Beside, Given, walkOf, Standing, Framed}
 
 -- what enters a macro in the definition, with so many levels left
 unfoldable pub enterOf : ℕ → ℕ → Macro → List ExprValue → walks.Walk (Unit {0})

@@ -30,9 +30,7 @@ use Rattle.list_pushes.specs.declared.push.Env.{Env as WordEnv}
 use Rattle.list_values.specs.Values.{absent, noOutput}
 use Rattle.list_pushes.specs.Pushes.{PushedOut, pushOp}
 use Rattle.file_refinement.proofs.Inversion.{Begun, jump-begun, jump-name-at, jump-integer-at, hints, direct-at, indirect-at, branch-label-at, branch-dst-begun, branch-at, cond-branch-at, label-at}
-use Rattle.list_refinement.specs.Encoding.{encV, Sound, SoundAction}
-use Rattle.list_refinement.proofs.Lists.{firstOf, secondOf, outputOf}
-use Rattle.list_refinement.proofs.RuleKinds.{kindOf}
+use Rattle.list_refinement.specs.Encoding.{encV, Sound, SoundAction, firstOf, secondOf, outputOf}
 use Rattle.list_refinement.proofs.Seen.{seenPushed, outcome}
 use Rattle.list_refinement.proofs.Pushes.{push-op-is, push-op-done, Stands}
 use Rattle.stmt_walk.specs.declared.walk.Walk.{Walk}
@@ -41,22 +39,25 @@ use Rattle.stmt_branches.specs.Labels.{getOrInsertLabel, onLabel, resolveLabel,
 use Rattle.stmt_branches.specs.Branches.{pushLabel, labelStatement, branchLabel, labelBranch, jumpValue, afterJump, jumpTo, jumpMeant, jump, resolveBranch, branch, condBranch}
 use Rattle.expr_terms.specs.Answers.{after}
 use Rattle.expr_resolver.specs.Expressions.{exprValue, resolveExpr}
-use Rattle.expr_refinement.proofs.Encodings.{encX, SoundX, opAction, each-last, placed-last, count, stood-more}
+use Rattle.expr_refinement.proofs.Encodings.{each-last, placed-last, stood-more}
 use Rattle.expr_refinement.proofs.Answers.{acts, temps, word}
 use Rattle.expr_refinement.proofs.Below.{Spare}
-use Rattle.expr_refinement.proofs.Scopes.{meaning-sound, encM, SoundM, ident-is}
+use Rattle.expr_refinement.proofs.Scopes.{meaning-sound, ident-is}
 use Rattle.expr_refinement.proofs.Positions.{drop-same}
 use Rattle.expr_refinement.proofs.Expressions.{after-is}
 use Rattle.expr_refinement.proofs.Pushing.{push-op-halts, last-halts}
 use Rattle.expr_refinement.proofs.Reading.{constant-sound}
-use Rattle.stmt_refinement.proofs.Views.{Beside, beside, seenStep, begunIn, pushed-seen, mapSeen, Goes, step-pushed}
+use Rattle.stmt_refinement.proofs.Views.{seenStep, begunIn, pushed-seen, mapSeen, Goes, step-pushed}
 use Rattle.stmt_refinement.proofs.Operations.{no-output}
 use Rattle.stmt_refinement.proofs.Jumps.{direct-is, indirect-is}
-use Rattle.stmt_refinement.proofs.Given.{Given, walkOf, operand-of}
+use Rattle.stmt_refinement.proofs.Given.{operand-of}
 use Rattle.stmt_refinement.proofs.Ends.{jump-name-ends, jump-integer-ends, label-dst-ends, starts, branch-ends, cond-branch-ends, label-ends}
-use Rattle.stmt_refinement.proofs.Standing.{Standing, Framed, Steps}
+use Rattle.stmt_refinement.proofs.Steps.{Steps}
 use Rattle.stmt_refinement.proofs.Stepping.{steps-seen, steps-operand, steps-goes, steps-then}
 use Rattle.stmt_refinement.proofs.Labelling.{Labelled, get-or-insert, Placed, resolve-label, Relabels, labelsBeside, relabelled, relabels-stand, relabels-framed}
+use Rattle.list_refinement.specs.RuleKinds.{kindOf}
+use Rattle.expr_refinement.specs.Encoding.{encX, SoundX, opAction, count, encM, SoundM}
+use Rattle.stmt_refinement.specs.Standing.{Beside, beside, Given, walkOf, Standing, Framed}
 
 -- a label has no rule for sizes
 label-unsized : (sec : Section) (n : ℕ) (z : Sizing) → sizes.updateOperandSizes sec false (opAction Operation.PcodeLabel n [] none) z ≡ (opAction Operation.PcodeLabel n [] none, z)

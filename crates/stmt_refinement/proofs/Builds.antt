@@ -26,19 +26,21 @@ use Rattle.list_values.specs.Sizes.{entry}
 use Rattle.file_refinement.specs.Holds.{subtableAt}
 use Rattle.definition_guarantee.proofs.Tests.{some-same}
 use Rattle.definition_guarantee.proofs.Globals.{place-below}
-use Rattle.list_refinement.proofs.Lists.{firstOf, secondOf, outputOf}
 use Rattle.expr_terms.specs.Answers.{after}
 use Rattle.stmt_walk.specs.declared.walk.Walk.{Walk}
 use Rattle.stmt_walk.specs.declared.walk.Step.{Step}
 use Rattle.stmt_walk.specs.Walks.{stepped, stop}
 use Rattle.stmt_simple.specs.Simple.{findSubtable, buildSubtable, buildTable, buildSymbol, build}
-use Rattle.expr_refinement.proofs.Encodings.{Stood, stood-more}
+use Rattle.expr_refinement.proofs.Encodings.{stood-more}
 use Rattle.expr_refinement.proofs.Answers.{acts, temps, word}
 use Rattle.expr_refinement.proofs.Below.{Spare}
-use Rattle.expr_refinement.proofs.Scopes.{eqb-swap, encSymbol, lookup-is}
+use Rattle.expr_refinement.proofs.Scopes.{eqb-swap, lookup-is}
 use Rattle.expr_refinement.proofs.Pushing.{no-operation}
-use Rattle.stmt_refinement.proofs.Views.{Beside, step-stops, Goes, step-push}
-use Rattle.stmt_refinement.proofs.Given.{Given, walkOf, below}
+use Rattle.stmt_refinement.proofs.Views.{step-stops, Goes, step-push}
+use Rattle.stmt_refinement.proofs.Given.{below}
+use Rattle.list_refinement.specs.Encoding.{firstOf, secondOf, outputOf}
+use Rattle.expr_refinement.specs.Encoding.{Stood, encSymbol}
+use Rattle.stmt_refinement.specs.Standing.{Beside, Given, walkOf}
 
 position-below : {A : Type 0} (q : A → Bool) (i : ℕ) (xs : List A) (j : ℕ) → position q i xs ≡ some j → j < i + length xs
 unfolding position base-opens

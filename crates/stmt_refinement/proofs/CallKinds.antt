@@ -1,5 +1,5 @@
 -- Call statements that enter no macro, as steps: the delay slot, user ops, and names that are unknown or of another kind.
-use Prim.Native.Nat.{ℕ, _+_, _*_, _≤_, _<_}
+use Prim.Native.Nat.{ℕ, _+_, _≤_, _<_}
 use mathlib.Core.Path.{_≡_, refl, sym, subst}
 use mathlib.Core.Bool.{Bool, true, false}
 use mathlib.Core.List.{List, []}
@@ -27,7 +27,6 @@ use Rattle.list_pushes.specs.Pushes.{push}
 use Rattle.list_values.specs.Values.{absent}
 use Rattle.file_refinement.proofs.Inversion.{CallStatementAt, call-statement-at}
 use Rattle.list_refinement.proofs.Seen.{seenPush}
-use Rattle.list_refinement.proofs.Lists.{firstOf, secondOf, outputOf}
 use Rattle.expr_terms.specs.Answers.{after}
 use Rattle.expr_terms.specs.Calls.{onlyInteger}
 use Rattle.stmt_walk.specs.declared.walk.Walk.{Walk}
@@ -42,14 +41,17 @@ use Rattle.expr_refinement.proofs.Below.{Spare}
 use Rattle.expr_refinement.proofs.Calls.{Only}
 use Rattle.expr_refinement.proofs.Positions.{drop-same}
 use Rattle.expr_refinement.proofs.Pushing.{no-operation}
-use Rattle.expr_refinement.proofs.Scopes.{encSymbol, lookup-is}
+use Rattle.expr_refinement.proofs.Scopes.{lookup-is}
 use Rattle.expr_refinement.proofs.Expressions.{only-integer}
-use Rattle.stmt_refinement.proofs.Views.{Beside, step-stops, Goes, step-push}
-use Rattle.stmt_refinement.proofs.Given.{Given, walkOf, below}
-use Rattle.stmt_refinement.proofs.Standing.{Standing, Steps}
+use Rattle.stmt_refinement.proofs.Views.{step-stops, Goes, step-push}
+use Rattle.stmt_refinement.proofs.Given.{below}
+use Rattle.stmt_refinement.proofs.Steps.{Steps}
 use Rattle.stmt_refinement.proofs.Stepping.{steps-goes}
 use Rattle.stmt_refinement.proofs.Ends.{call-inside}
 use Rattle.stmt_refinement.proofs.UserOps.{user-op-steps}
+use Rattle.list_refinement.specs.Encoding.{firstOf, secondOf, outputOf}
+use Rattle.expr_refinement.specs.Encoding.{encSymbol}
+use Rattle.stmt_refinement.specs.Standing.{Beside, Given, walkOf, Standing}
 
 -- whether a macro is called
 unfoldable pub isMacro : Called → Bool

@@ -24,10 +24,8 @@ use Rattle.list_pushes.specs.declared.push.State.{State as WordState}
 use Rattle.list_pushes.specs.declared.push.Env.{Env as WordEnv}
 use Rattle.list_pushes.specs.declared.push.Read.{Read}
 use Rattle.list_pushes.specs.Pushes.{ReadOut, read}
-use Rattle.list_refinement.specs.Encoding.{encV, Sound}
+use Rattle.list_refinement.specs.Encoding.{encV, Sound, firstOf, secondOf}
 use Rattle.list_refinement.proofs.Settled.{size-is, known-small}
-use Rattle.list_refinement.proofs.Lists.{firstOf, secondOf}
-use Rattle.list_refinement.proofs.RuleKinds.{kindOf}
 use Rattle.list_refinement.proofs.Seen.{Seen, no, yes, seenRead}
 use Rattle.list_values.specs.Values as words
 use Rattle.list_values.specs.declared.value.Slice.{Slice}
@@ -35,14 +33,17 @@ use Rattle.expr_reading.specs.Reading.{byteAligned, sliceRead, sliced, readValu
 use Rattle.stmt_walk.specs.declared.walk.Walk.{Walk}
 use Rattle.stmt_walk.specs.Walks.{Stepped, stepped, stepRead, stop, readThen}
 use Rattle.stmt_assignments.specs.Copies.{mergeBits, extendBits, insertIn, insertBits, keepBits, writeBits, copyBits, readSliced, copyBytes, copyRange, copyRam, copyInto}
-use Rattle.expr_refinement.proofs.Encodings.{encX, SoundX, Applies, sound-more, tmps, count, Stood, stood-more}
+use Rattle.expr_refinement.proofs.Encodings.{sound-more, stood-more}
 use Rattle.expr_refinement.proofs.Answers.{bind-read, bind-tmp, bind-unless, acts, temps, word, Refines, refines-map, refines-stopped}
 use Rattle.expr_refinement.proofs.Below.{Spare}
 use Rattle.expr_refinement.proofs.Reading.{toOf, and-applies, constant-sound, read-value, read-operand}
-use Rattle.stmt_refinement.proofs.Views.{Beside, beside, seenStep, begunIn, stop-seen, mapSeen, read-seen, refines-as, step-stops, Goes, on-assoc}
-use Rattle.stmt_refinement.proofs.Given.{Given, below}
+use Rattle.stmt_refinement.proofs.Views.{seenStep, begunIn, stop-seen, mapSeen, read-seen, refines-as, step-stops, Goes, on-assoc}
+use Rattle.stmt_refinement.proofs.Given.{below}
 use Rattle.stmt_refinement.proofs.Stores.{store-is}
 use Rattle.stmt_refinement.proofs.ReadInto.{read-to}
+use Rattle.list_refinement.specs.RuleKinds.{kindOf}
+use Rattle.expr_refinement.specs.Encoding.{encX, SoundX, Applies, tmps, count, Stood}
+use Rattle.stmt_refinement.specs.Standing.{Beside, beside, Given}
 
 left-applies : (u v : Value) → Applies Operation.IntLeft (u ∷ v ∷ [])
 unfolding kindOf at isSome operationNumber

@@ -18,9 +18,9 @@ use Rattle.definition_guarantee.proofs.KeptStatements.{keep-statement, Nothing,
 use Rattle.list_pushes.specs.declared.push.Env.{Env as WordEnv}
 use Rattle.stmt_walk.specs.declared.walk.Step.{Step}
 use Rattle.stmt_walk.specs.Walks.{Walked, walked}
-use Rattle.stmt_refinement.proofs.Views.{Beside}
-use Rattle.stmt_refinement.proofs.Standing.{Steps, Follows}
+use Rattle.stmt_refinement.proofs.Steps.{Steps, Follows}
 use Rattle.stmt_refinement.proofs.Bodies.{enterOf, Begun}
+use Rattle.stmt_refinement.specs.Standing.{Beside}
 
 module _ (e : Env) (limits : WithinLimits (e .section)) where
   enters-keep : (deep id : ℕ) (m : Macro) (xs : List ExprValue) (n : ℕ) → tests.Each StatementWithin (m .body) → tests.Each (ExprFits e n) xs → Keeps e n Nothing (enterOf deep id m xs)

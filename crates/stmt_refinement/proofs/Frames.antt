@@ -1,13 +1,12 @@
 -- What statements leave for the callers of a macro, one after another; and a statement that begins.
-use Prim.Native.Nat.{ℕ, _<_}
+use Prim.Native.Nat.{ℕ}
 use mathlib.Core.List.{List}
 use native.Mathlib.Omega.{arith}
 use Rattle.definition.specs.Walk.{State, Env}
 use Rattle.definition.specs.Statements as d
 use Rattle.list_pushes.specs.declared.push.Env.{Env as WordEnv}
-use Rattle.stmt_refinement.proofs.Views.{Beside}
 use Rattle.stmt_refinement.proofs.Begin.{oneMore, started}
-use Rattle.stmt_refinement.proofs.Standing.{Standing, Framed}
+use Rattle.stmt_refinement.specs.Standing.{Beside, Standing, Framed}
 
 pub framed-refl : (b : Beside) (st : State) → Framed b st b st
 framed-refl b st = record { labels = omega arith; temporaries = omega arith }

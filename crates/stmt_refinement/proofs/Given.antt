@@ -1,4 +1,4 @@
--- What statements are given: the stream and its table hold the section, the lists are lent, and the stream is short.
+-- The expressions of a statement, and their values, from what statements are given.
 use Prim.Native.Nat.{ℕ, _≤_}
 use mathlib.Core.Path.{_≡_}
 use mathlib.Core.List.{List}
@@ -8,35 +8,17 @@ use Rattle.access.specs.Le.{le16}
 use Rattle.definition.specs.Value.{Value}
 use Rattle.definition.specs.Ast.{PcodeExpr}
 use Rattle.definition.specs.SectionFile.{parsed, exprWithin}
-use Rattle.definition.specs.Sizes.{pointerSize}
 use Rattle.definition.specs.Walk.{ExprValue, State, Env}
 use Rattle.definition.specs.Expressions as d
-use Rattle.list_pushes.specs.declared.push.State.{State as WordState}
 use Rattle.list_pushes.specs.declared.push.Env.{Env as WordEnv}
-use Rattle.file_refinement.specs.Holds.{Holds}
-use Rattle.list_refinement.specs.Encoding.{encV, Sound, SizesHold}
-use Rattle.list_refinement.proofs.Pushes.{Lent}
+use Rattle.list_refinement.specs.Encoding.{encV, Sound}
 use Rattle.expr_resolver.specs.Expressions.{exprValue, resolveExpr}
-use Rattle.stmt_walk.specs.declared.walk.Walk.{Walk}
-use Rattle.expr_refinement.proofs.Encodings.{encX, SoundX, Stood}
 use Rattle.expr_refinement.proofs.Answers.{acts, temps, word, seenExpr, seenOperand, Refines}
 use Rattle.expr_refinement.proofs.Below.{Spare, Below}
-use Rattle.expr_refinement.proofs.Scopes.{Scoped, BitRangesFit}
 use Rattle.expr_refinement.proofs.Pushing.{level-below}
 use Rattle.expr_refinement.proofs.Expressions.{value-at, resolve-expr}
-use Rattle.stmt_refinement.proofs.Views.{Beside}
-
-pub record Given (s t : List ℕ) (e : Env) (front tail rest : List ℕ) (we : WordEnv) : Type 0 where
-  pub lent : Lent e front tail rest
-  pub sizes : SizesHold s t (e .section)
-  pub holds : Holds s t (e .section)
-  pub ranges : BitRangesFit (e .section)
-  pub short : length s ≤ 65280
-  pub pointer : we .pointer ≡ pointerSize (e .section)
-
--- the walk with this beside a state
-abbrev pub walkOf : Beside → WordState → Walk
-walkOf b st = record { st = st; labels = b .labels; placed = b .placed; statements = b .statements; export = b .export }
+use Rattle.expr_refinement.specs.Encoding.{encX, SoundX, Stood, Scoped}
+use Rattle.stmt_refinement.specs.Standing.{Given}
 
 module _ (s t : List ℕ) (e : Env) (front tail rest : List ℕ) (we : WordEnv) (given : Given s t e front tail rest we) where
   pub below : Below s t e front tail rest we

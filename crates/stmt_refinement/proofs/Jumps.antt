@@ -21,20 +21,21 @@ use Rattle.definition.specs.ActionList.{orNone}
 use Rattle.definition.proofs.Openers.{base-opens}
 use Rattle.list_pushes.specs.declared.push.State.{State as WordState}
 use Rattle.list_pushes.specs.declared.push.Env.{Env as WordEnv}
-use Rattle.list_refinement.specs.Encoding.{encV, Within, Sound}
-use Rattle.list_refinement.proofs.Lists.{firstOf, secondOf}
-use Rattle.list_refinement.proofs.RuleKinds.{kindOf}
+use Rattle.list_refinement.specs.Encoding.{encV, Within, Sound, firstOf, secondOf}
 use Rattle.expr_terms.specs.Answers.{after}
 use Rattle.stmt_walk.specs.declared.walk.Walk.{Walk}
 use Rattle.stmt_walk.specs.Walks.{Stepped, stepped, stop}
 use Rattle.stmt_branches.specs.Branches.{branchTo, directAddress, direct, indirect}
-use Rattle.expr_refinement.proofs.Encodings.{encX, SoundX, sound-more, count, Stood, stood-more}
+use Rattle.expr_refinement.proofs.Encodings.{sound-more, stood-more}
 use Rattle.expr_refinement.proofs.Answers.{bind-read, acts, temps, word}
 use Rattle.expr_refinement.proofs.Below.{Spare}
 use Rattle.expr_refinement.proofs.Reading.{read-operand}
-use Rattle.stmt_refinement.proofs.Views.{beside, seenStep, begunIn, stop-seen, step-stops, Goes, step-pushed}
+use Rattle.stmt_refinement.proofs.Views.{seenStep, begunIn, stop-seen, step-stops, Goes, step-pushed}
 use Rattle.stmt_refinement.proofs.Operations.{no-output}
-use Rattle.stmt_refinement.proofs.Given.{Given, below}
+use Rattle.stmt_refinement.proofs.Given.{below}
+use Rattle.list_refinement.specs.RuleKinds.{kindOf}
+use Rattle.expr_refinement.specs.Encoding.{encX, SoundX, count, Stood}
+use Rattle.stmt_refinement.specs.Standing.{beside, Given}
 
 module _ (s t : List ℕ) (e : Env) (front tail rest : List ℕ) (we : WordEnv) (given : Given s t e front tail rest we) (spare : ℕ) (room : Spare spare tail) (w : Walk) (at-hint : ℕ) (hint : BranchHint) (is-hint : getD s (at-hint + 0) 0 ≡ d.hintNumber hint) where
   abbrev A : State → List ℕ

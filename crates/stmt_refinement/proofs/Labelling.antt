@@ -1,6 +1,6 @@
 -- A label made or placed as part of a step: the scope's list gives the same label, and what it holds besides stays.
-use Prim.Native.Nat.{ℕ, suc, _+_, _/_, _%_, _≤_, _<_}
-use mathlib.Core.Path.{_≡_, refl, sym, _∙_, ap, subst}
+use Prim.Native.Nat.{ℕ, suc, _+_, _%_, _≤_, _<_}
+use mathlib.Core.Path.{_≡_, refl, _∙_, ap}
 use mathlib.Core.Bool.{Bool, true, false, not}
 use mathlib.Core.List.{List}
 use mathlib.Core.Option.{Option, none, some}
@@ -17,17 +17,15 @@ use Rattle.definition.proofs.Openers.{base-opens}
 use Rattle.definition_guarantee.proofs.Entries.{find-put}
 use Rattle.list_pushes.specs.declared.push.Env.{Env as WordEnv}
 use Rattle.list_values.specs.Base.{Listed, listed}
-use Rattle.expr_scope.specs.Smalls.{small, putSmall}
+use Rattle.expr_scope.specs.Smalls.{putSmall}
 use Rattle.expr_scope.proofs.SmallLaws.{small-other, small-slots, small-length}
-use Rattle.expr_scope.specs.Scopes.{lookupLocal}
 use Rattle.stmt_branches.specs.declared.labels.Label.{Label as WordLabel}
 use Rattle.stmt_branches.specs.Labels.{labelPlace, getOrInsertLabel, onLabel, placeLabel, resolveLabel, labelsAfter}
-use Rattle.expr_refinement.proofs.Scopes.{Scoped}
-use Rattle.stmt_refinement.proofs.Views.{Beside}
-use Rattle.stmt_refinement.proofs.Labels.{labelNumber, LabelsIn, label-found, labels-full, label-new, label-once, label-twice, label-put}
+use Rattle.stmt_refinement.proofs.Labels.{label-found, labels-full, label-new, label-once, label-twice, label-put}
 use Rattle.stmt_refinement.proofs.Naming.{lookup-as}
 use Rattle.stmt_refinement.proofs.Params.{params-same}
-use Rattle.stmt_refinement.proofs.Standing.{Standing, Framed}
+use Rattle.expr_refinement.specs.Encoding.{Scoped}
+use Rattle.stmt_refinement.specs.Standing.{Beside, labelNumber, LabelsIn, Standing, Framed}
 
 -- a label's number changes no parameter and no local
 scoped-label : (t p : List ℕ) (we : WordEnv) (st : State) (name k : ℕ) → length p ≡ 406 → Scoped t p we st → Scoped t (putSmall p (labelPlace name) k) we st

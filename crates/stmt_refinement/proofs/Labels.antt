@@ -1,10 +1,10 @@
 -- Labels: a scope's list has for each name one more than the number of the label that the scope has under it, and 512 more
 -- once it is placed; and it still does after a label is added or placed.
-use Prim.Native.Nat.{ℕ, suc, _+_, _-_, _/_, _%_, _≤_, _<_}
-use mathlib.Core.Path.{_≡_, refl, sym, _∙_, ap, subst}
+use Prim.Native.Nat.{ℕ, _+_, _-_, _/_, _%_, _≤_, _<_}
+use mathlib.Core.Path.{_≡_, refl, sym, _∙_, subst}
 use mathlib.Core.Bool.{Bool, true, false}
 use mathlib.Core.List.{List}
-use mathlib.Core.Option.{Option, none, some}
+use mathlib.Core.Option.{none, some}
 use native.Mathlib.Omega.{arith}
 use lib.ListN.{length}
 use lib.Dec.{eqb, leb}
@@ -21,15 +21,7 @@ use Rattle.expr_scope.proofs.SmallLaws.{small-same, small-other}
 use Rattle.stmt_branches.specs.declared.labels.Label.{Label as WordLabel}
 use Rattle.stmt_branches.specs.Labels.{labelPlace, labelOr, getOrInsertLabel, placeLabel}
 use Rattle.expr_refinement.proofs.Scopes.{eqb-swap}
-
-unfoldable pub labelNumber : Option Label → ℕ
-labelNumber none = 0
-labelNumber (some l) = l .id + 1 + (if l .defined then 512 else 0)
-
--- the labels of a scope, all with numbers below n
-pub record LabelsIn (p : List ℕ) (n : ℕ) (labels : List (ℕ × Label)) : Type 0 where
-  pub same : (name : ℕ) → name < 1024 → small p (labelPlace name) ≡ labelNumber (find name labels)
-  pub below : (name : ℕ) (l : Label) → find name labels ≡ some l → l .id < n
+use Rattle.stmt_refinement.specs.Standing.{labelNumber, LabelsIn}
 
 -- a label's number, without and with its mark
 number-is : (l : Label) → l .id < 256 → labelNumber (some l) % 512 ≡ l .id + 1

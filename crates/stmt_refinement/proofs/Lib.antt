@@ -10,7 +10,7 @@ pub mod Copies
 pub mod Jumps
 pub mod Begin
 pub mod Labels
-pub mod Standing
+pub mod Steps
 pub mod Frames
 pub mod Params
 pub mod Macros

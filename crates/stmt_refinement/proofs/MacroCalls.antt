@@ -1,5 +1,5 @@
 -- A statement that calls a macro: its arguments are resolved and counted as in the definition, then the macro is entered.
-use Prim.Native.Nat.{ℕ, _+_, _-_, _*_, _/_, _≤_, _<_}
+use Prim.Native.Nat.{ℕ, _+_, _≤_, _<_}
 use mathlib.Core.Path.{_≡_, refl, sym, _∙_, ap, subst}
 use mathlib.Core.Bool.{Bool, true, false}
 use mathlib.Core.List.{List, []}
@@ -36,24 +36,24 @@ use Rattle.expr_terms.specs.Answers.{ArgsOut, passed, onArgs, after}
 use Rattle.expr_resolver.specs.Expressions.{resolveArgs, resolveExpr}
 use Rattle.stmt_walk.specs.declared.walk.Walk.{Walk}
 use Rattle.stmt_simple.specs.declared.calls.Called.{Called}
-use Rattle.stmt_walk.specs.Walks.{Stepped, stepped, Walked, walked, besideP, withoutP, stop}
+use Rattle.stmt_walk.specs.Walks.{Stepped, stepped, besideP, withoutP, stop}
 use Rattle.stmt_simple.specs.Calls.{symbolCalled, calledOf, macroAt, bindNames, counted, macroCounted, macroArgs}
 use Rattle.stmt_bodies.specs.Statements.{enterMacro, macroStatement, callNamed, callStatement}
-use Rattle.expr_refinement.proofs.Encodings.{SoundX, count}
 use Rattle.expr_refinement.proofs.Answers.{acts, temps, word, seenArgs, Reached, Refines}
 use Rattle.expr_refinement.proofs.Below.{Spare}
 use Rattle.expr_refinement.proofs.Positions.{drop-same}
-use Rattle.expr_refinement.proofs.Scopes.{ParamsIn, encSymbol, lookup-is}
+use Rattle.expr_refinement.proofs.Scopes.{lookup-is}
 use Rattle.expr_refinement.proofs.Expressions.{after-is, filledArgs, filled-in, resolve-args, resolve-expr}
-use Rattle.stmt_refinement.proofs.Views.{Beside}
-use Rattle.stmt_refinement.proofs.Given.{Given, walkOf, below}
-use Rattle.stmt_refinement.proofs.Standing.{Follows}
+use Rattle.stmt_refinement.proofs.Given.{below}
+use Rattle.stmt_refinement.proofs.Steps.{Follows}
 use Rattle.stmt_refinement.proofs.Stepping.{standing-later, framed-later}
 use Rattle.stmt_refinement.proofs.MacroPlaces.{macro-place, parts}
 use Rattle.stmt_refinement.proofs.Macros.{bound-in, bound-fresh}
 use Rattle.stmt_refinement.proofs.CallKinds.{isMacro}
 use Rattle.stmt_refinement.proofs.UserOps.{filled-long}
 use Rattle.stmt_refinement.proofs.Bodies.{follows-after, enterOf, Begun, EnterFollows}
+use Rattle.expr_refinement.specs.Encoding.{SoundX, count, ParamsIn, encSymbol}
+use Rattle.stmt_refinement.specs.Standing.{Beside, Given, walkOf}
 
 module _ (s t : List ℕ) (e : Env) (front tail rest : List ℕ) (spare : ℕ) (room : Spare spare tail) (limits : WithinLimits (e .section)) (deep : ℕ) (enters : EnterFollows s t e front tail rest spare deep)
     (we : WordEnv) (p : List ℕ) (b : Beside) (st : State) (ordinal : ℕ) (h : Begun s t e front tail rest spare we p b st ordinal) (id : ℕ) (m : Macro) (is : getElem? (e .section .macros) id ≡ some m)

@@ -24,16 +24,15 @@ use Rattle.expr_scope.specs.Slots.{ofSlot, slotAt, paramPlace, argAt}
 use Rattle.stmt_simple.specs.Calls.{bindName, bindNames}
 use Rattle.stmt_branches.specs.Labels.{labelPlace}
 use Rattle.stmt_bodies.specs.Statements.{macroEnv}
-use Rattle.expr_refinement.proofs.Encodings.{SoundX, count, params-more, mapping-more}
+use Rattle.expr_refinement.proofs.Encodings.{params-more, mapping-more}
 use Rattle.expr_refinement.proofs.Expressions.{filledArgs, filled-behind}
 use Rattle.expr_refinement.proofs.Start.{none-small}
-use Rattle.expr_refinement.proofs.Scopes.{encF, ParamsIn}
 use Rattle.expr_refinement.proofs.Calls.{ArgsIn}
-use Rattle.stmt_refinement.proofs.Views.{Beside}
-use Rattle.stmt_refinement.proofs.Standing.{Standing, Framed}
 use Rattle.stmt_refinement.proofs.Params.{params-same}
-use Rattle.stmt_refinement.proofs.Labels.{labelNumber, labels-more}
+use Rattle.stmt_refinement.proofs.Labels.{labels-more}
 use Rattle.stmt_refinement.proofs.UserOps.{filled-long}
+use Rattle.expr_refinement.specs.Encoding.{SoundX, count, encF, ParamsIn}
+use Rattle.stmt_refinement.specs.Standing.{Beside, Standing, Framed, labelNumber}
 
 -- Parameters: argument i gets the name of parameter i.
 

@@ -1,6 +1,6 @@
 -- Locals: a temporary is made with its name, then declared in the scope's list; a name is declared once. The words find it
 -- afterwards where the definition does. And a new local as part of a step.
-use Prim.Native.Nat.{ℕ, suc, _+_, _-_, _/_, _%_, _≤_, _<_}
+use Prim.Native.Nat.{ℕ, suc, _+_, _-_, _/_, _%_, _<_}
 use mathlib.Core.Path.{_≡_, refl, sym, _∙_, ap, subst}
 use mathlib.Core.Bool.{Bool, true, false, not}
 use mathlib.Core.List.{List, [], _∷_, _++_}
@@ -35,18 +35,17 @@ use Rattle.expr_scope.proofs.SmallLaws.{small-same, small-other, small-slots, s
 use Rattle.expr_scope.specs.Scopes.{Found, ownLocal, tmpOf, tmpLocal, orTmp, lookupLocal, undeclared, namedTmp}
 use Rattle.stmt_branches.specs.Labels.{labelPlace}
 use Rattle.stmt_walk.specs.declared.walk.Step.{Step}
-use Rattle.stmt_walk.specs.Walks.{Stepped, stepped, Walked, walked, stepRead, readThen}
+use Rattle.stmt_walk.specs.Walks.{Walked, walked, stepRead, readThen}
 use Rattle.stmt_bodies.specs.Statements.{besideA}
-use Rattle.expr_refinement.proofs.Encodings.{Small, tmps, count, params-more, mapping-more, actions-more}
+use Rattle.expr_refinement.proofs.Encodings.{params-more, mapping-more, actions-more}
 use Rattle.expr_refinement.proofs.Answers.{acts, temps, word, Halts}
 use Rattle.expr_refinement.proofs.Pushing.{add-halts}
-use Rattle.expr_refinement.proofs.Scopes.{encF, eqb-swap}
-use Rattle.stmt_refinement.proofs.Views.{Beside}
-use Rattle.stmt_refinement.proofs.Given.{Given, walkOf}
-use Rattle.stmt_refinement.proofs.Labels.{LabelsIn}
+use Rattle.expr_refinement.proofs.Scopes.{eqb-swap}
 use Rattle.stmt_refinement.proofs.Params.{params-same}
-use Rattle.stmt_refinement.proofs.Standing.{Standing, Framed, Steps}
+use Rattle.stmt_refinement.proofs.Steps.{Steps}
 use Rattle.stmt_refinement.proofs.Stepping.{steps-stop, export-more, steps-then}
+use Rattle.expr_refinement.specs.Encoding.{Small, tmps, count, encF}
+use Rattle.stmt_refinement.specs.Standing.{Beside, Given, walkOf, Standing, Framed}
 
 -- a name that was not found is found where the scope's list has it
 lookup-new : (t p q : List ℕ) (own : Bool) (name : ℕ) (x : Found) → lookupLocal t p own name ≡ Found.Nothing → tmpLocal q name ≡ x → lookupLocal t q own name ≡ x

@@ -1,33 +1,29 @@
 -- Operations with no output: the words push the action that the definition pushes, sized by the same rule.
-use Prim.Native.Nat.{ℕ, suc, _+_, _*_, _^_, _≤_, _<_}
-use mathlib.Core.Path.{_≡_, refl, sym, _∙_, subst}
+use Prim.Native.Nat.{ℕ, suc, _+_, _^_, _≤_, _<_}
+use mathlib.Core.Path.{_≡_, refl}
 use mathlib.Core.Bool.{false}
-use mathlib.Core.List.{List, [], _∷_, _++_}
+use mathlib.Core.List.{List}
 use mathlib.Core.Option.{none}
 use native.Mathlib.Omega.{arith}
-use lib.ListN.{length, length-append}
-use Rattle.prelude.specs.Base.{if_then_else_}
+use lib.ListN.{length}
 use Rattle.definition.specs.Operations.{Operation, operationNumber, isOp}
 use Rattle.definition.specs.Value.{Value, SemanticAction}
 use Rattle.definition.specs.Sizes as sizes
-use Rattle.definition.specs.Sizes.{Sizing, pointerSize}
+use Rattle.definition.specs.Sizes.{pointerSize}
 use Rattle.definition.specs.Walk as d
-use Rattle.definition.specs.Walk.{State, Env, withSizing, withAction}
-use Rattle.definition.specs.ActionList.{placesLabel, labelsPlaced}
-use Rattle.definition.proofs.Openers.{base-opens}
+use Rattle.definition.specs.Walk.{State, Env}
 use Rattle.list_pushes.specs.declared.push.Env.{Env as WordEnv}
 use Rattle.list_pushes.specs.Pushes.{pushOp}
 use Rattle.list_values.specs.Values.{noOutput}
 use Rattle.list_refinement.proofs.Seen.{seenPushed}
-use Rattle.list_refinement.proofs.Lists.{firstOf, secondOf, outputOf}
-use Rattle.list_refinement.specs.Encoding.{SoundTmp, Sound, Each, SoundAction, SizesHold}
+use Rattle.list_refinement.specs.Encoding.{Sound, Each, SoundAction, SizesHold, firstOf, secondOf, outputOf, Lent}
 use Rattle.list_refinement.proofs.After.{After}
-use Rattle.list_refinement.proofs.RuleKinds.{kindOf, Operands}
-use Rattle.list_refinement.proofs.Pushes.{update-after, push-op-is, push-op-done, Lent, Stands}
-use Rattle.expr_refinement.proofs.Encodings.{count, Stood, params-more, mapping-more, actions-more, each-last, placed-last, opAction}
-use Rattle.expr_refinement.proofs.Answers.{acts, temps, word, Reached, Refines, refines-map}
+use Rattle.list_refinement.proofs.Pushes.{update-after, push-op-is, push-op-done, Stands}
+use Rattle.expr_refinement.proofs.Answers.{acts, temps, word, Refines, refines-map}
 use Rattle.expr_refinement.proofs.Below.{Spare}
 use Rattle.expr_refinement.proofs.Pushing.{pushed-state, update-keeps, push-op-halts, no-label}
+use Rattle.list_refinement.specs.RuleKinds.{kindOf, Operands}
+use Rattle.expr_refinement.specs.Encoding.{count, Stood, opAction}
 
 module _ (s t : List ℕ) (e : Env) (front tail rest : List ℕ) (we : WordEnv) (lent : Lent e front tail rest) (holds : SizesHold s t (e .section)) (pointer-is : we .pointer ≡ pointerSize (e .section)) where
   stands : (spare : ℕ) (st : State) → Stood (e .section) tail rest spare st → Stands tail rest st

@@ -7,7 +7,7 @@ use lib.ListN.{length, getD}
 use Rattle.definition.specs.Walk.{ExprValue}
 use Rattle.list_values.specs.Values.{valueAt}
 use Rattle.expr_scope.specs.Slots.{slotAt, paramPlace}
-use Rattle.expr_refinement.proofs.Scopes.{ParamsIn}
+use Rattle.expr_refinement.specs.Encoding.{ParamsIn}
 
 pub slot-same : (p q : List ℕ) (at : ℕ) → ((i : ℕ) → i < at + 8 → getD q i 0 ≡ getD p i 0) → slotAt q at ≡ slotAt p at
 unfolding slotAt valueAt

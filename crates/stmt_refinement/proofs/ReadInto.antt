@@ -14,12 +14,13 @@ use Rattle.list_refinement.proofs.Seen.{seenRead}
 use Rattle.expr_reading.specs.Reading.{readValue}
 use Rattle.stmt_walk.specs.declared.walk.Walk.{Walk}
 use Rattle.stmt_walk.specs.Walks.{stepRead, readThen}
-use Rattle.expr_refinement.proofs.Encodings.{encX, SoundX, count, Stood}
 use Rattle.expr_refinement.proofs.Answers.{acts, temps, word}
 use Rattle.expr_refinement.proofs.Below.{Spare}
 use Rattle.expr_refinement.proofs.Reading.{toOf, read-value}
-use Rattle.stmt_refinement.proofs.Views.{beside, begunIn, read-seen, Goes, step-read}
-use Rattle.stmt_refinement.proofs.Given.{Given, below}
+use Rattle.stmt_refinement.proofs.Views.{begunIn, read-seen, Goes, step-read}
+use Rattle.stmt_refinement.proofs.Given.{below}
+use Rattle.expr_refinement.specs.Encoding.{encX, SoundX, count, Stood}
+use Rattle.stmt_refinement.specs.Standing.{beside, Given}
 
 module _ (s t : List ℕ) (e : Env) (front tail rest : List ℕ) (we : WordEnv) (given : Given s t e front tail rest we) (spare : ℕ) (room : Spare spare tail) (w : Walk) (next : ℕ) where
   -- what an expression means, read into a target

@@ -1,5 +1,5 @@
 -- Statements of one step that declare nothing: unimplemented, the export and builds.
-use Prim.Native.Nat.{ℕ, suc, _+_, _≤_, _<_}
+use Prim.Native.Nat.{ℕ, suc, _+_, _≤_}
 use mathlib.Core.Path.{_≡_, refl}
 use mathlib.Core.List.{List, []}
 use mathlib.Core.Option.{none}
@@ -9,7 +9,7 @@ use borrow.Author.Tests.{eq-eqb}
 use Rattle.access.specs.Le.{le16}
 use Rattle.definition.specs.Operations.{Operation, operationNumber}
 use Rattle.definition.specs.Value.{Value, ExportKind, Export}
-use Rattle.definition.specs.Ast.{Section, Statement}
+use Rattle.definition.specs.Ast.{Statement}
 use Rattle.definition.specs.Walk.{ExprValue, State, Env, Outcome, done, on}
 use Rattle.definition.specs.Walk as walks
 use Rattle.definition.specs.Expressions as expressions
@@ -22,29 +22,24 @@ use Rattle.list_pushes.specs.declared.push.Read.{Read}
 use Rattle.prelude.specs.Base.{if_then_else_}
 use Rattle.list_pushes.specs.Pushes.{ReadOut, read}
 use Rattle.file_refinement.proofs.Inversion.{ExportAt}
-use Rattle.list_refinement.specs.Encoding.{encV, Sound}
-use Rattle.list_refinement.proofs.Lists.{firstOf, secondOf}
-use Rattle.list_refinement.proofs.RuleKinds.{kindOf}
+use Rattle.list_refinement.specs.Encoding.{encV, Sound, firstOf, secondOf}
 use Rattle.list_refinement.proofs.Seen.{seenRead}
 use Rattle.expr_terms.specs.Answers.{after}
 use Rattle.expr_reading.specs.Reading.{readOperand}
 use Rattle.stmt_walk.specs.declared.walk.Walk.{Walk}
 use Rattle.stmt_walk.specs.Walks.{Stepped, stepRead}
 use Rattle.stmt_simple.specs.Simple.{unimplemented, exportValue, exportRead, exportOf, exportStatement}
-use Rattle.expr_refinement.proofs.Encodings.{encX, SoundX, count, Stood, stood-more}
+use Rattle.expr_refinement.proofs.Encodings.{stood-more}
 use Rattle.expr_refinement.proofs.Answers.{bind-expr, acts, temps, word, Refines, refines-done, refines-map}
 use Rattle.expr_refinement.proofs.Below.{Spare}
-use Rattle.expr_refinement.proofs.Scopes.{Scoped}
 use Rattle.expr_refinement.proofs.Reading.{read-operand}
 use Rattle.expr_refinement.proofs.Expressions.{after-is}
-use Rattle.stmt_refinement.proofs.Views.{Beside, seenStep, begunIn, stop-seen, mapSeen, withExported, refines-as, Goes, step-pushed}
+use Rattle.stmt_refinement.proofs.Views.{seenStep, begunIn, stop-seen, mapSeen, withExported, refines-as, Goes, step-pushed}
 use Rattle.stmt_refinement.proofs.Operations.{no-output}
-use Rattle.stmt_refinement.proofs.Given.{Given, walkOf, below, expression}
-
--- an export whose value and access size its words hold
-pub record SoundExport (sec : Section) (n : ℕ) (x : Export) : Type 0 where
-  pub value : Sound sec n (x .value)
-  pub size : x .accessSize < 65535
+use Rattle.stmt_refinement.proofs.Given.{below, expression}
+use Rattle.list_refinement.specs.RuleKinds.{kindOf}
+use Rattle.expr_refinement.specs.Encoding.{encX, SoundX, count, Stood, Scoped}
+use Rattle.stmt_refinement.specs.Standing.{Beside, Given, walkOf, beside, SoundExport}
 
 abbrev computed : Value → Export
 computed v = record { kind = ExportKind.PlainValue; value = v; accessSize = 0 }

@@ -31,21 +31,21 @@ use Rattle.stmt_simple.specs.Simple.{unimplemented, exportStatement, localState
 use Rattle.stmt_assignments.specs.Stores.{storeStatement}
 use Rattle.stmt_assignments.specs.Copies.{copyStatement}
 use Rattle.stmt_bodies.specs.Statements.{besideA, simple}
-use Rattle.expr_refinement.proofs.Encodings.{count}
 use Rattle.expr_refinement.proofs.Answers.{acts, temps, word, Refines}
 use Rattle.expr_refinement.proofs.Below.{Spare}
 use Rattle.expr_refinement.proofs.Positions.{drop-same}
 use Rattle.expr_refinement.proofs.Expressions.{after-is, absent-word, small-or}
-use Rattle.stmt_refinement.proofs.Views.{Beside, seenStep, withExported, on-assoc}
-use Rattle.stmt_refinement.proofs.Given.{Given, walkOf}
-use Rattle.stmt_refinement.proofs.Simple.{SoundExport, unimplemented-is, export-is}
+use Rattle.stmt_refinement.proofs.Views.{seenStep, withExported, on-assoc}
+use Rattle.stmt_refinement.proofs.Simple.{unimplemented-is, export-is}
 use Rattle.stmt_refinement.proofs.Builds.{build-is}
 use Rattle.stmt_refinement.proofs.Stores.{store-statement-is}
-use Rattle.stmt_refinement.proofs.Standing.{Standing, Framed, Steps}
+use Rattle.stmt_refinement.proofs.Steps.{Steps}
 use Rattle.stmt_refinement.proofs.Stepping.{steps-stop, seen-next, seen-stop, standing-later, framed-later, steps-goes}
 use Rattle.stmt_refinement.proofs.Naming.{steps-local}
 use Rattle.stmt_refinement.proofs.Targets.{assignment-steps, copy-steps}
 use Rattle.stmt_refinement.proofs.Ends.{starts, unimplemented-ends, local-ends, build-ends}
+use Rattle.expr_refinement.specs.Encoding.{count}
+use Rattle.stmt_refinement.specs.Standing.{Beside, Given, walkOf, SoundExport, Standing, Framed}
 
 module _ (s t : List ℕ) (e : Env) (p front tail rest : List ℕ) (we : WordEnv) (given : Given s t e front tail rest we) (spare : ℕ) (room : Spare spare tail) (b : Beside)
     (from : State) (stand : Standing t e tail rest we spare p b from) where

@@ -18,11 +18,10 @@ use Rattle.file_refinement.proofs.Inversion.{statement-begun}
 use Rattle.stmt_bodies.specs.Statements.{otherStatement}
 use Rattle.expr_refinement.proofs.Answers.{acts, temps, word}
 use Rattle.expr_refinement.proofs.Below.{Spare}
-use Rattle.stmt_refinement.proofs.Views.{Beside}
-use Rattle.stmt_refinement.proofs.Given.{Given, walkOf}
-use Rattle.stmt_refinement.proofs.Standing.{Standing, Steps}
+use Rattle.stmt_refinement.proofs.Steps.{Steps}
 use Rattle.stmt_refinement.proofs.Simples.{simple-steps}
 use Rattle.stmt_refinement.proofs.Branches.{branch-case, cond-branch-case, label-case}
+use Rattle.stmt_refinement.specs.Standing.{Beside, Given, walkOf, Standing}
 
 unfoldable pub labelsOf : ℕ → ℕ
 labelsOf code = if eqb code 10 then 1 else 0

@@ -24,15 +24,14 @@ use Rattle.stmt_simple.specs.Calls.{calledOf}
 use Rattle.stmt_bodies.specs.Statements.{otherStatement, callStatement, statementBy, enterMacro}
 use Rattle.expr_refinement.proofs.Answers.{acts, temps, word}
 use Rattle.expr_refinement.proofs.Below.{Spare}
-use Rattle.stmt_refinement.proofs.Views.{Beside}
-use Rattle.stmt_refinement.proofs.Given.{walkOf}
-use Rattle.stmt_refinement.proofs.Standing.{Steps, Follows}
+use Rattle.stmt_refinement.proofs.Steps.{Steps, Follows}
 use Rattle.stmt_refinement.proofs.Ends.{call-inside}
 use Rattle.stmt_refinement.proofs.StatementKinds.{labelsOf, other-statement-steps}
 use Rattle.stmt_refinement.proofs.CallKinds.{isMacro, other-call-steps}
 use Rattle.stmt_refinement.proofs.Bodies.{enterOf, Begun, StatementFollows, EnterFollows}
 use Rattle.stmt_refinement.proofs.MacroCalls.{macro-statement}
 use Rattle.stmt_refinement.proofs.Following.{steps-follow}
+use Rattle.stmt_refinement.specs.Standing.{Beside, walkOf}
 
 -- no more labels are placed than there are actions
 placed-few : (xs : List SemanticAction) → labelsPlaced xs ≤ length xs

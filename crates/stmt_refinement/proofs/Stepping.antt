@@ -26,15 +26,14 @@ use Rattle.expr_terms.specs.declared.answers.Operand.{Operand}
 use Rattle.expr_terms.specs.Answers.{ExprOut, resolved, onExpr, OperandOut, operand, onOperand}
 use Rattle.stmt_walk.specs.declared.walk.Step.{Step}
 use Rattle.stmt_walk.specs.Walks.{Stepped, stepped, Walked, walked, besideP}
-use Rattle.expr_refinement.proofs.Encodings.{encX, SoundX, count, sound-more}
+use Rattle.expr_refinement.proofs.Encodings.{sound-more}
 use Rattle.expr_refinement.proofs.Answers.{acts, temps, word, seenExpr, seenOperand, Halts, Reached, Refines}
 use Rattle.expr_refinement.proofs.Scopes.{scoped-later}
-use Rattle.stmt_refinement.proofs.Views.{Beside, beside, seenStep, ExportIs, Goes}
-use Rattle.stmt_refinement.proofs.Given.{walkOf}
-use Rattle.stmt_refinement.proofs.Simple.{SoundExport}
-use Rattle.stmt_refinement.proofs.Labels.{LabelsIn}
-use Rattle.stmt_refinement.proofs.Standing.{Standing, Framed, Steps}
+use Rattle.stmt_refinement.proofs.Views.{seenStep, Goes}
+use Rattle.stmt_refinement.proofs.Steps.{Steps}
 use Rattle.stmt_refinement.proofs.Frames.{framed-trans}
+use Rattle.expr_refinement.specs.Encoding.{encX, SoundX, count}
+use Rattle.stmt_refinement.specs.Standing.{Beside, beside, ExportIs, walkOf, SoundExport, LabelsIn, Standing, Framed}
 
 -- What was seen of a step.
 

@@ -27,9 +27,7 @@ use Rattle.list_pushes.specs.Pushes.{push, pushOp}
 use Rattle.file_syntax.specs.declared.cursor.Cursor.{Cursor}
 use Rattle.file_refinement.specs.Holds.{absentAt}
 use Rattle.file_refinement.proofs.Inversion.{StoreAt}
-use Rattle.list_refinement.specs.Encoding.{encV, Sound}
-use Rattle.list_refinement.proofs.Lists.{firstOf, secondOf, outputOf}
-use Rattle.list_refinement.proofs.RuleKinds.{kindOf}
+use Rattle.list_refinement.specs.Encoding.{encV, Sound, firstOf, secondOf, outputOf}
 use Rattle.list_refinement.proofs.Seen.{no, yes}
 use Rattle.expr_reading.specs.declared.read.Stated.{Stated}
 use Rattle.expr_reading.specs.Reading.{setStated, takeStated}
@@ -38,18 +36,21 @@ use Rattle.expr_resolver.specs.Expressions.{skipExpr}
 use Rattle.stmt_walk.specs.declared.walk.Walk.{Walk}
 use Rattle.stmt_walk.specs.Walks.{Stepped, stepped, stepPushed, stop, pushedThen}
 use Rattle.stmt_assignments.specs.Stores.{storeStated, store, registerStated, storeRegister, storeAt, storeIn, storePointer, storeStatement}
-use Rattle.expr_refinement.proofs.Encodings.{encX, Small, SoundX, sound-more, count, Stood, stood-more}
+use Rattle.expr_refinement.proofs.Encodings.{sound-more, stood-more}
 use Rattle.expr_refinement.proofs.Answers.{bind, bind-expr, bind-operand, acts, temps, word, seenExpr, Refines}
 use Rattle.expr_refinement.proofs.Below.{Spare, seenStated}
-use Rattle.expr_refinement.proofs.Scopes.{Scoped, scoped-later}
+use Rattle.expr_refinement.proofs.Scopes.{scoped-later}
 use Rattle.expr_refinement.proofs.Addresses.{address}
 use Rattle.expr_refinement.proofs.Positions.{ends, begins}
 use Rattle.expr_refinement.proofs.Expressions.{after-is, absent-word, small-or}
 use Rattle.expr_refinement.proofs.Pushing.{no-operation}
-use Rattle.stmt_refinement.proofs.Views.{Beside, beside, seenStep, begunIn, stop-seen, push-ends, refines-as, step-stops, Goes, step-pushed, on-assoc}
+use Rattle.stmt_refinement.proofs.Views.{seenStep, begunIn, stop-seen, push-ends, refines-as, step-stops, Goes, step-pushed, on-assoc}
 use Rattle.stmt_refinement.proofs.Operations.{no-output}
-use Rattle.stmt_refinement.proofs.Given.{Given, walkOf, below, expression, operand-of}
+use Rattle.stmt_refinement.proofs.Given.{below, expression, operand-of}
 use Rattle.expr_refinement.proofs.Stated.{set-stated, take-stated}
+use Rattle.list_refinement.specs.RuleKinds.{kindOf}
+use Rattle.expr_refinement.specs.Encoding.{encX, Small, SoundX, count, Stood, Scoped}
+use Rattle.stmt_refinement.specs.Standing.{Beside, beside, Given, walkOf}
 
 module _ (s t : List ℕ) (e : Env) (front tail rest : List ℕ) (we : WordEnv) (given : Given s t e front tail rest we) (spare : ℕ) (room : Spare spare tail) where
   abbrev A : State → List ℕ

@@ -36,19 +36,21 @@ use Rattle.expr_resolver.specs.Expressions.{resolveExpr}
 use Rattle.stmt_walk.specs.Walks.{Walked, walked, besideP, stop}
 use Rattle.stmt_simple.specs.Simple.{assign, localAssignment}
 use Rattle.stmt_assignments.specs.Copies.{copyInto, targetName, targetSize, afterTarget, newTarget, isWrong, isNew, onTarget, besideA, inScope, resolveDst, copyTarget, copyStatement}
-use Rattle.expr_refinement.proofs.Encodings.{encX, SoundX, Small, sound-more, x-more, count}
+use Rattle.expr_refinement.proofs.Encodings.{sound-more, x-more}
 use Rattle.expr_refinement.proofs.Answers.{acts, temps, word}
 use Rattle.expr_refinement.proofs.Below.{Spare}
-use Rattle.expr_refinement.proofs.Scopes.{encM, ident-is}
+use Rattle.expr_refinement.proofs.Scopes.{ident-is}
 use Rattle.expr_refinement.proofs.Positions.{ident-ends, truncate-ends, begins}
 use Rattle.expr_refinement.proofs.Expressions.{after-is, absent-word, small-or}
-use Rattle.stmt_refinement.proofs.Views.{Beside, on-assoc}
-use Rattle.stmt_refinement.proofs.Given.{Given, walkOf, expression}
+use Rattle.stmt_refinement.proofs.Views.{on-assoc}
+use Rattle.stmt_refinement.proofs.Given.{expression}
 use Rattle.stmt_refinement.proofs.ReadInto.{read-to}
 use Rattle.stmt_refinement.proofs.Copies.{copy-into}
-use Rattle.stmt_refinement.proofs.Standing.{Standing, Steps}
+use Rattle.stmt_refinement.proofs.Steps.{Steps}
 use Rattle.stmt_refinement.proofs.Stepping.{steps-expr, steps-goes}
 use Rattle.stmt_refinement.proofs.Naming.{declaredIn, steps-named, Names}
+use Rattle.expr_refinement.specs.Encoding.{encX, SoundX, Small, count, encM}
+use Rattle.stmt_refinement.specs.Standing.{Beside, Given, walkOf, Standing}
 
 module _ (s t : List ℕ) (e : Env) (front tail rest : List ℕ) (we : WordEnv) (given : Given s t e front tail rest we) (spare : ℕ) (room : Spare spare tail) (b : Beside) where
   abbrev Stands : List ℕ → State → Type 0

@@ -42,17 +42,19 @@ use Rattle.expr_resolver.specs.Expressions.{resolveArgs, resolveExpr}
 use Rattle.stmt_walk.specs.declared.walk.Walk.{Walk}
 use Rattle.stmt_walk.specs.Walks.{Stepped, besideP, pushedThen}
 use Rattle.stmt_simple.specs.Calls.{writeInput, writeInputs, ArgsRead, argsRead, readArgs, pushUserOp, userOpRead, userOpArgs, stepArgs, userOpStatement}
-use Rattle.expr_refinement.proofs.Encodings.{encX, SoundX, opAction, sound-more, x-more, each-more, each-last, placed-last, count, Stood}
+use Rattle.expr_refinement.proofs.Encodings.{sound-more, x-more, each-more, each-last, placed-last}
 use Rattle.expr_refinement.proofs.Answers.{bind, bind-read, bind-args, acts, temps, word as stateWord, seenArgs, Reached, Refines, refines-at, refines-done, refines-stopped, refines-map, weaken}
 use Rattle.expr_refinement.proofs.Below.{Spare}
 use Rattle.expr_refinement.proofs.Reading.{read-operand}
 use Rattle.expr_refinement.proofs.Slots.{arg-length}
 use Rattle.expr_refinement.proofs.Calls.{ArgsIn}
 use Rattle.expr_refinement.proofs.Expressions.{after-is, filledArgs, filled-in, resolve-args, resolve-expr}
-use Rattle.stmt_refinement.proofs.Views.{Beside, seenStep, begunIn, stop-seen, mapSeen, refines-as, Goes}
-use Rattle.stmt_refinement.proofs.Given.{Given, walkOf, below}
-use Rattle.stmt_refinement.proofs.Standing.{Standing, Steps}
+use Rattle.stmt_refinement.proofs.Views.{seenStep, begunIn, stop-seen, mapSeen, refines-as, Goes}
+use Rattle.stmt_refinement.proofs.Given.{below}
+use Rattle.stmt_refinement.proofs.Steps.{Steps}
 use Rattle.stmt_refinement.proofs.Stepping.{steps-goes}
+use Rattle.expr_refinement.specs.Encoding.{encX, SoundX, opAction, count, Stood}
+use Rattle.stmt_refinement.specs.Standing.{Beside, Given, walkOf, Standing}
 
 -- the arguments' values stand in their slots, the first of these in slot i
 abbrev ValuesIn : List ℕ → ℕ → List Value → Type 0

@@ -3,37 +3,24 @@
 use Prim.Native.Nat.{ℕ}
 use mathlib.Core.Path.{_≡_, refl, _∙_}
 use mathlib.Core.List.{List}
-use mathlib.Core.Option.{Option, none, some}
 use lib.Dec.{eqb}
 use borrow.Author.Tests.{eq-eqb}
 use Rattle.definition.specs.Refusals.{Refusal, refusalNumber}
-use Rattle.definition.specs.Value.{ExportKind, Export}
+use Rattle.definition.specs.Value.{Export}
 use Rattle.definition.specs.Ast.{Section}
 use Rattle.definition.specs.Walk as walks
 use Rattle.definition.specs.Walk.{State, Env, Outcome, done, stopped, on}
-use Rattle.definition.specs.ActionList.{exportKindNumber}
 use Rattle.list_pushes.specs.declared.push.Read.{Read}
 use Rattle.list_pushes.specs.declared.push.Pushed.{Pushed}
 use Rattle.list_values.specs.Base.{Listed, listed, thenL}
 use Rattle.prelude.specs.Base.{if_then_else_}
 use Rattle.list_pushes.specs.Pushes.{ReadOut, read, PushedOut, pushed}
-use Rattle.list_refinement.specs.Encoding.{encV}
 use Rattle.list_refinement.proofs.Seen.{Seen, no, yes, seenRead, seenPushed, seenPush, outcome}
 use Rattle.stmt_walk.specs.declared.walk.Walk.{Walk}
 use Rattle.stmt_walk.specs.declared.walk.Step.{Step}
-use Rattle.stmt_walk.specs.declared.walk.Export.{Export as WordExport}
 use Rattle.stmt_walk.specs.Walks.{Stepped, stepped, stepPushed, stepRead, stop, pushedThen, readThen}
 use Rattle.expr_refinement.proofs.Answers.{Refines, refines-map, refines-stopped}
-
--- what a walk has beside the state of expressions
-pub record Beside : Type 0 where
-  pub labels : ℕ
-  pub placed : ℕ
-  pub statements : ℕ
-  pub export : WordExport
-
-abbrev pub beside : Walk → Beside
-beside w = record { labels = w .labels; placed = w .placed; statements = w .statements; export = w .export }
+use Rattle.stmt_refinement.specs.Standing.{Beside, beside, encE}
 
 -- A refusal counts with the ordinal of the statement that has begun; with any other it is 0, the number of none.
 unfoldable pub seenStep : ℕ → Stepped → Seen (ℕ × Beside)
@@ -78,15 +65,6 @@ pub on-assoc : {A B C : Type 0} (e : Env) (o : Outcome A) (f : A → walks.Walk 
 unfolding on
 on-assoc e (done a st) f g = refl
 on-assoc e (stopped r ordinal errors) f g = refl
-
--- The export: 0 none, else its kind from 1 on, its value and its access size.
-
-abbrev pub encE : Export → WordExport
-encE x = record { kind = exportKindNumber (x .kind); v = encV (x .value); size = x .accessSize }
-
-abbrev pub ExportIs : Option Export → WordExport → Type 0
-ExportIs none x = (x .kind ≡ 0) × (x .size ≡ 0)
-ExportIs (some y) x = x ≡ encE y
 
 abbrev pub withExported : Export → Beside → Beside
 withExported x b = record { labels = b .labels; placed = b .placed; statements = b .statements; export = encE x }

@@ -1,42 +1,17 @@
--- What the words of a walk and the definition's state have in common between statements, what statements leave for the
--- callers of a macro, and what it means that the words follow the definition.
-use Prim.Native.Nat.{ℕ, _+_, _≤_}
+-- What it means that the words follow the definition.
+use Prim.Native.Nat.{ℕ, _+_}
 use mathlib.Core.Path.{_≡_}
 use mathlib.Core.List.{List}
 use mathlib.Core.Option.{some}
-use lib.ListN.{length}
 use Rattle.definition.specs.Refusals.{Refusal, refusalNumber}
 use Rattle.definition.specs.Walk.{State, Env, Outcome, done, stopped}
 use Rattle.definition.specs.ActionList.{orNone, labelsPlaced}
 use Rattle.definition_guarantee.proofs.Kept.{Kept}
 use Rattle.list_pushes.specs.declared.push.Env.{Env as WordEnv}
-use Rattle.list_refinement.specs.Encoding.{EachOption}
 use Rattle.stmt_walk.specs.declared.walk.Step.{Step}
 use Rattle.stmt_walk.specs.Walks.{Walked, walked}
-use Rattle.expr_refinement.proofs.Encodings.{count, Stood}
 use Rattle.expr_refinement.proofs.Answers.{acts, temps, word}
-use Rattle.expr_refinement.proofs.Scopes.{Scoped}
-use Rattle.stmt_refinement.proofs.Views.{Beside, ExportIs}
-use Rattle.stmt_refinement.proofs.Given.{walkOf}
-use Rattle.stmt_refinement.proofs.Simple.{SoundExport}
-use Rattle.stmt_refinement.proofs.Labels.{LabelsIn}
-
--- The scope's list p, what is beside the state of expressions, and the lent words hold the definition's state.
-pub record Standing (t : List ℕ) (e : Env) (tail rest : List ℕ) (we : WordEnv) (spare : ℕ) (p : List ℕ) (b : Beside) (st : State) : Type 0 where
-  pub stood : Stood (e .section) tail rest spare st
-  pub scoped : Scoped t p we st
-  pub labelled : LabelsIn p (b .labels) (st .scope .labels)
-  pub labels : b .labels ≡ st .nextLabel
-  pub few : b .labels ≤ 256
-  pub statements : b .statements ≡ st .statements
-  pub export : ExportIs (st .export) (b .export)
-  pub exportSound : EachOption (SoundExport (e .section) (count st)) (st .export)
-  pub long : length p ≡ 406
-
--- From b and from to c and u labels and temporaries only grow, so that what a caller knows of its own still holds.
-pub record Framed (b : Beside) (from : State) (c : Beside) (u : State) : Type 0 where
-  pub labels : b .labels ≤ c .labels
-  pub temporaries : count from ≤ count u
+use Rattle.stmt_refinement.specs.Standing.{Beside, walkOf, Standing, Framed}
 
 module _ (t : List ℕ) (e : Env) (front tail rest : List ℕ) (we : WordEnv) (spare : ℕ) where
   -- One statement that enters no macro, and that places so many labels: the words go on behind it, or they refuse at the
