@@ -1,4 +1,5 @@
--- Reading: an expression's value becomes an operand, in the output where one is given.
+-- Reading: an expression's value becomes an operand, in the output where one is given. In all of these s is the stream, t
+-- the section's table, a the actions, m the temporaries, e the environment, st the state.
 use Prim.Native.Nat.{ℕ, _+_, _/_, _%_}
 use mathlib.Core.Bool.{Bool, false}
 use mathlib.Core.List.{List}

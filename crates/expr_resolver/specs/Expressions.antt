@@ -1,4 +1,6 @@
--- Expressions, resolved by a walk over their prefix code. A step takes the walk over a part, one level deeper, as an argument.
+-- Expressions, resolved by a walk over their prefix code. A step takes the walk over a part, one level deeper, as an
+-- argument. In all of these s is the stream, t the section's table, p the scope's list, a the actions, m the temporaries, e
+-- the environment, st the state.
 use Prim.Native.Nat.{ℕ, zero, suc, _+_, _-_, _*_, _/_, _%_}
 use mathlib.Core.List.{List}
 use lib.ListN.{getD, replicate}

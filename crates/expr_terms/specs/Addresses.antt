@@ -1,4 +1,5 @@
--- Addresses: the place that a pointer in a space refers to.
+-- Addresses: the place that a pointer in a space refers to. In all of these s is the stream, t the section's table, a the
+-- actions, m the temporaries, e the environment, st the state.
 use Prim.Native.Nat.{ℕ, _+_, _*_, _%_}
 use mathlib.Core.List.{List}
 use lib.ListN.{getD}

@@ -1,4 +1,5 @@
--- An answer with the two lists that a function was lent, and how a step goes on from it.
+-- An answer with the two lists that a function was lent, and how a step goes on from it. In all of these a is the actions, m
+-- the temporaries, st the state.
 use Prim.Native.Nat.{ℕ, _+_}
 use mathlib.Core.List.{List}
 use lib.Dec.{ltb}

@@ -1,4 +1,6 @@
--- Calls in expressions: built-in functions come before any symbol, then user ops; the rest is a subpiece of a local.
+-- Calls in expressions: built-in functions come before any symbol, then user ops; the rest is a subpiece of a local. In all
+-- of these s is the stream, t the section's table, p the scope's list, a the actions, m the temporaries, e the environment,
+-- st the state.
 use Prim.Native.Nat.{ℕ, zero, suc, _+_, _-_, _%_}
 use mathlib.Core.List.{List}
 use lib.ListN.{getD}

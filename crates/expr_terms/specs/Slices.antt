@@ -1,4 +1,5 @@
--- Slices of bits: a local's has no bound, and what cannot be sliced unread is read first.
+-- Slices of bits: a local's has no bound, and what cannot be sliced unread is read first. In all of these s is the stream, t
+-- the section's table, a the actions, m the temporaries, e the environment, st the state.
 use Prim.Native.Nat.{ℕ, _+_, _*_, _/_, _%_, _^_, min}
 use mathlib.Core.Bool.{false}
 use mathlib.Core.List.{List}

@@ -1,4 +1,4 @@
--- The header, as a cursor passes it.
+-- The header, as a cursor passes it. In all of these s is the stream, c the cursor.
 use Prim.Native.Nat.{ℕ}
 use mathlib.Core.List.{List}
 use Rattle.access.specs.Le.{le16}

@@ -1,4 +1,5 @@
--- The lists of entries: each entry is its name, which the table marks, and what follows it.
+-- The lists of entries: each entry is its name, which the table marks, and what follows it. In all of these s is the stream,
+-- c the cursor, t the table, w the cursor with the table.
 use Prim.Native.Nat.{ℕ, _+_, _-_, _*_, _%_}
 use mathlib.Core.Bool.{Bool}
 use mathlib.Core.List.{List, [], _∷_}

@@ -1,4 +1,5 @@
--- The list of names, and the table that is filled on the way.
+-- The list of names, and the table that is filled on the way. In all of these s is the stream, c the cursor, t the table, w
+-- the cursor with the table.
 use Prim.Native.Nat.{ℕ, zero, suc, _+_, _-_, _%_}
 use mathlib.Core.Bool.{Bool, true, false}
 use mathlib.Core.List.{List}

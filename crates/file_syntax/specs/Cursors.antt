@@ -1,5 +1,6 @@
 -- The stream read in order, by a cursor: where it is, the refusal (0 none), and the number read last. A refused cursor
--- passes every read unchanged, so the first position wins.
+-- passes every read unchanged, so the first position wins. In all of these s is the stream, c the cursor, m the number of
+-- names.
 use Prim.Native.Nat.{ℕ, zero, suc, _+_}
 use mathlib.Core.List.{List}
 use lib.ListN.{length, getD}

@@ -1,4 +1,5 @@
--- Expressions, each ahead of its parts, as a cursor passes them.
+-- Expressions, each ahead of its parts, as a cursor passes them. In all of these s is the stream, c the cursor, m the number
+-- of names.
 use Prim.Native.Nat.{ℕ, zero, suc}
 use mathlib.Core.List.{List, [], _∷_}
 use lib.ListN.{getD}

@@ -1,4 +1,5 @@
--- Statements, and what only they hold, as a cursor passes them.
+-- Statements, and what only they hold, as a cursor passes them. In all of these s is the stream, c the cursor, m the number
+-- of names.
 use Prim.Native.Nat.{ℕ}
 use mathlib.Core.List.{List, [], _∷_}
 use lib.ListN.{getD}

@@ -1,4 +1,5 @@
--- The end: sizes fixed, subpieces turned into copies, the implicit Builds in front, unused words zero.
+-- The end: sizes fixed, subpieces turned into copies, the implicit Builds in front, unused words zero. In all of these s is
+-- the stream, t the section's table, a the actions, m the temporaries, z the record of errors, ptr the pointer size.
 use Prim.Native.Nat.{ℕ, zero, suc, _+_, _-_, _*_, _%_, _^_}
 use mathlib.Core.List.{List, _++_}
 use lib.ListN.{length, getD, set, take, replicate}

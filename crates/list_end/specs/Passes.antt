@@ -1,4 +1,5 @@
--- The two passes over the n actions from a position on.
+-- The two passes over the n actions from a position on. In all of these s is the stream, t the section's table, a the
+-- actions, m the temporaries, z the record of errors, ptr the pointer size.
 use Prim.Native.Nat.{ℕ}
 use mathlib.Core.Bool.{true, false}
 use mathlib.Core.List.{List}

@@ -1,4 +1,5 @@
--- A pass over the n actions from a position on: forward with fallback, or backward without.
+-- A pass over the n actions from a position on: forward with fallback, or backward without. In all of these s is the stream,
+-- t the section's table, a the actions, m the temporaries, z the record of errors, ptr the pointer size.
 use Prim.Native.Nat.{ℕ, _-_}
 use mathlib.Core.Bool.{Bool}
 use mathlib.Core.List.{List}

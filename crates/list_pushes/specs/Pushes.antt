@@ -1,4 +1,5 @@
--- Temporaries and pushes.
+-- Temporaries and pushes. In all of these s is the stream, t the section's table, a the actions, m the temporaries, z the
+-- record of errors, ptr the pointer size, e the environment, st the state.
 use Prim.Native.Nat.{ℕ, _+_, _*_, _%_}
 use mathlib.Core.Bool.{Bool, false}
 use mathlib.Core.List.{List}

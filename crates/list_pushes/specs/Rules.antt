@@ -1,4 +1,5 @@
--- The size rule of each operation, applied to the action at a position.
+-- The size rule of each operation, applied to the action at a position. In all of these s is the stream, t the section's
+-- table, a the actions, m the temporaries, z the record of errors, ptr the pointer size.
 use Prim.Native.Nat.{ℕ, _+_}
 use mathlib.Core.Bool.{Bool, true, false}
 use mathlib.Core.List.{List}

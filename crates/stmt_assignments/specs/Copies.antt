@@ -1,4 +1,6 @@
--- Copies: the target is a local, a place in RAM or a range of bits, which keeps the bits around it.
+-- Copies: the target is a local, a place in RAM or a range of bits, which keeps the bits around it. In all of these s is the
+-- stream, t the section's table, p the scope's list, a the actions, m the temporaries, e the environment, st the state, w
+-- the walk.
 use Prim.Native.Nat.{ℕ, _+_, _-_, _*_, _/_, _%_, _^_}
 use mathlib.Core.Bool.{Bool, true, false}
 use mathlib.Core.List.{List}

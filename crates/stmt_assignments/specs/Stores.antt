@@ -1,4 +1,5 @@
--- Stores: the value is read before the pointer.
+-- Stores: the value is read before the pointer. In all of these s is the stream, t the section's table, p the scope's list,
+-- a the actions, m the temporaries, e the environment, st the state, w the walk.
 use Prim.Native.Nat.{ℕ, _+_}
 use mathlib.Core.List.{List}
 use Rattle.access.specs.Le.{le16}

@@ -1,4 +1,6 @@
--- Statements and macro bodies. A statement takes what enters a macro as an argument; only that goes a level deeper.
+-- Statements and macro bodies. A statement takes what enters a macro as an argument; only that goes a level deeper. In all
+-- of these s is the stream, t the section's table, p the scope's list, a the actions, m the temporaries, e the environment,
+-- st the state, w the walk.
 use Prim.Native.Nat.{ℕ, zero, suc, _+_, _*_, _%_, _^_}
 use mathlib.Core.Bool.{Bool, false, _&&_}
 use mathlib.Core.List.{List}

@@ -1,4 +1,6 @@
--- Branches: to a label of the section, or to an address, which a direct jump takes as it is and an indirect one reads.
+-- Branches: to a label of the section, or to an address, which a direct jump takes as it is and an indirect one reads. In
+-- all of these s is the stream, t the section's table, p the scope's list, a the actions, m the temporaries, e the
+-- environment, st the state, w the walk.
 use Prim.Native.Nat.{ℕ, _+_}
 use mathlib.Core.List.{List}
 use lib.ListN.{getD}

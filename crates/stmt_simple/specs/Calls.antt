@@ -1,4 +1,5 @@
--- Calls that enter no macro: the delay slot and user ops; and what a macro call is given.
+-- Calls that enter no macro: the delay slot and user ops; and what a macro call is given. In all of these s is the stream, t
+-- the section's table, p the scope's list, a the actions, m the temporaries, e the environment, st the state, w the walk.
 use Prim.Native.Nat.{ℕ, zero, suc, _+_, _*_, _%_}
 use mathlib.Core.List.{List}
 use lib.ListN.{getD, set, replicate}

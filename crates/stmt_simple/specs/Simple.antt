@@ -1,4 +1,5 @@
--- Statements of one step: unimplemented, the export, locals, and builds.
+-- Statements of one step: unimplemented, the export, locals, and builds. In all of these s is the stream, t the section's
+-- table, p the scope's list, a the actions, m the temporaries, e the environment, st the state, w the walk.
 use Prim.Native.Nat.{ℕ, zero, suc, _+_, _*_, _%_}
 use mathlib.Core.Bool.{true}
 use mathlib.Core.List.{List}
