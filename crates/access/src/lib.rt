@@ -1,5 +1,7 @@
 // Total access to lent slices: a read past the end is 0 and a write past the end changes nothing, so that callers have no
 // bounds to show. Numbers are little-endian, and `mask` has the low bits set.
+#![tactic(auto)]
+
 ghost use Rattle.std.specs.Prelude.{◌≡◌, ◌++◌, ◌+◌, ◌-◌, ◌<◌, length, get_or, set, take, replicate};
 ghost use Rattle.access.specs.Le.{le16, le32, le64};
 ghost use Rattle.access.specs.Mask.{mask_of};

@@ -1,5 +1,7 @@
 // The numbers that the section file, its table, the action list and the answer give to things, by name. `codes_refinement`
 // shows that those which the definition has too are the definition's.
+#![tactic(auto)]
+
 pub mod action;
 pub mod action_kind;
 pub mod export_kind;

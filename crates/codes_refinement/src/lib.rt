@@ -1,5 +1,7 @@
 // The numbers that the code has by name are the definition's: each function lists the constants of one module, and its promise
 // says that they are the numbers of the definition's things, in order.
+#![tactic(auto)]
+
 ghost use Rattle.std.specs.Prelude.{◌≡◌, map};
 ghost use Rattle.definition.specs.Operations.{operation_number, operations};
 ghost use Rattle.definition.specs.Refusals.{refusal_number};

@@ -1,1 +1,2 @@
 // The guarantee: theorems in proofs/ about the definition. There is no code.
+#![tactic(auto)]

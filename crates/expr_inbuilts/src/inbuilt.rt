@@ -6,7 +6,7 @@ ghost use Rattle.expr_inbuilts.specs.Inbuilts.{attempt, logical, carries, extens
 use codes::operation;
 
 // An operation's number, and its count of arguments; no arguments where the name is none.
-#[derive(Drop)]
+#[derive(Clone, Copy)]
 pub struct Inbuilt {
     pub op: u64,
     pub arguments: u64,

@@ -1,2 +1,4 @@
 // The built-in functions, by their spelling.
+#![tactic(auto)]
+
 pub mod inbuilt;

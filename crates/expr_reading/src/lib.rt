@@ -1,2 +1,4 @@
 // How a value is read: an expression's value becomes an operand.
+#![tactic(auto)]
+
 pub mod read;

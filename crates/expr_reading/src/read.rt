@@ -33,7 +33,7 @@ fn with_sizing(state: State, sizing: Sizing) -> State
     }
 }
 
-#[derive(Drop)]
+#[derive(Clone, Copy)]
 pub struct Stated {
     pub v: Value,
     pub st: State,

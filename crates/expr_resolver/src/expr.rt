@@ -23,7 +23,7 @@ pub const DEPTH: u64 = 32;
 const INTEGER: u64 = 7;
 
 // Where the operands of an operator stand, in the order in which they are resolved.
-#[derive(Drop)]
+#[derive(Clone, Copy)]
 pub struct Order {
     pub op: u64,
     pub first: usize,

@@ -1,2 +1,4 @@
 // The walk over an expression's prefix code.
+#![tactic(auto)]
+
 pub mod expr;

@@ -5,7 +5,7 @@ ghost use Rattle.expr_scope.specs.Slots.{arg_at, put_arg};
 use crate::scope::{ExprValue, of_slot, param_place, put_slot, slot_at, slot_of};
 use list_pushes::push::State;
 
-#[derive(Drop)]
+#[derive(Clone, Copy)]
 pub enum Args {
     Done { next: usize, st: State },
     No(u64),

@@ -49,7 +49,7 @@ const INST_NEXT: u64 = value_kind::INST_NEXT + 8;
 const INST_START: u64 = value_kind::INST_START + 8;
 
 // What an expression means before it is read.
-#[derive(Drop)]
+#[derive(Clone, Copy)]
 pub enum ExprValue {
     Local(Value),
     Unbound(Value),
@@ -83,7 +83,7 @@ pub enum ExprValue {
     },
 }
 
-#[derive(Drop)]
+#[derive(Clone, Copy)]
 pub enum Meaning {
     Means(ExprValue),
     Wrong(u64),
@@ -91,7 +91,7 @@ pub enum Meaning {
 
 // An expression's value as a parameter's slot of eight words keeps it: its name, which constructor, two numbers, two
 // values.
-#[derive(Drop)]
+#[derive(Clone, Copy)]
 pub struct Slot {
     pub tag: u64,
     pub x: u64,

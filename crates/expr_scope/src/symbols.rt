@@ -5,7 +5,7 @@ ghost use Rattle.expr_scope.specs.Symbols.{place_of, lookup};
 use codes::{symbol_kind, table};
 
 // What a global is, and its place in the list of its kind.
-#[derive(Drop)]
+#[derive(Clone, Copy)]
 pub enum Symbol {
     Undefined,
     Space(u64),

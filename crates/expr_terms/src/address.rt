@@ -44,7 +44,7 @@ fn in_const_space(expr: ExprValue, size: u64, next: usize, state: State) -> Expr
     }
 }
 
-#[derive(Drop)]
+#[derive(Clone, Copy)]
 pub enum Space {
     Kind(u64),
     No(u64),

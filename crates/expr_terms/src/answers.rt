@@ -7,7 +7,7 @@ use list_pushes::push::State;
 use list_values::value::Value;
 
 // The place comes first: so the value begins on a boundary of 16 bytes, which makes copies of it faster.
-#[derive(Drop)]
+#[derive(Clone, Copy)]
 pub enum Expr {
     Value {
         next: usize,
@@ -17,7 +17,7 @@ pub enum Expr {
     No(u64),
 }
 
-#[derive(Drop)]
+#[derive(Clone, Copy)]
 pub enum Operand {
     Value { v: Value, next: usize, st: State },
     No(u64),

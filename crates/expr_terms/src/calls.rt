@@ -22,7 +22,7 @@ const NO_INTEGER: u64 = 18446744073709551615;
 const LAST_SUBPIECE: u64 = 255;
 
 // What a call's name is: a built-in function by its operation, a user op by its number, a local, or what is refused.
-#[derive(Drop)]
+#[derive(Clone, Copy)]
 pub enum Callee {
     Inbuilt(u64),
     UserOp(u64),

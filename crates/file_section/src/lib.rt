@@ -10,6 +10,8 @@
 //                subtables, statements
 //   3338         the first ordinal of the section's own statements
 // The header stays in the stream, at its fixed offsets.
+#![tactic(auto)]
+
 ghost use Rattle.std.specs.Prelude.{◌≡◌};
 ghost use Rattle.file_section.specs.Stream.{statements, answer, read_stream};
 ghost use Rattle.file_section.specs.Names.{reading};

@@ -13,7 +13,7 @@ const SIZES: u64 = 1025;
 const BITS: u64 = 8193;
 
 // Where the reading is, the refusal (0 none), and the number read last.
-#[derive(Drop)]
+#[derive(Clone, Copy)]
 pub struct Cursor {
     pub at: usize,
     pub bad: u64,

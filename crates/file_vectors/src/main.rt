@@ -2,6 +2,8 @@
 // The input: a u16 count of descriptions; each is a length byte and a name, the file's length as a u32, a u16 count of runs,
 // the runs, 1 where each block gets its right check, and an amount that is added to the last byte. A run is a place in the
 // stream as a u32, a length byte, and bytes.
+#![tactic(auto)]
+
 ghost use Rattle.std.specs.Prelude.{◌<◌};
 
 use libc::{STDIN_FILENO, STDOUT_FILENO};

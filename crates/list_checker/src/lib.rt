@@ -1,6 +1,8 @@
 // The checker of an action list, whoever made it: each action by itself, and of the whole list that each label is placed at
 // most once and that every subtable is built. An action is 24 words: its kind, operation, number and input count, the output
 // and the inputs of two words each, and zeros. A value's words are its number, and its kind, offset and size in one.
+#![tactic(auto)]
+
 ghost use Rattle.std.specs.Prelude.{◌≡◌, ◌*◌, ◌≤◌, length, replicate};
 ghost use Rattle.definition.specs.Checker.{check};
 ghost use Rattle.list_checker.specs.Action.{zeros, value_fit, inputs_fit, has_output, operation_fit, head_fit, action_fit};

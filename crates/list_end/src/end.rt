@@ -13,7 +13,7 @@ use list_values::value::{
 // The second word of an output.
 const OUTPUT_WORD: usize = action::OUTPUT + 1;
 
-#[derive(Drop)]
+#[derive(Clone, Copy)]
 pub struct Fixed {
     pub v: Value,
     pub z: Sizing,
@@ -184,7 +184,7 @@ fn subpiece_copy(actions: &mut [u64], at: usize) -> u64
     }
 }
 
-#[derive(Drop)]
+#[derive(Clone, Copy)]
 pub struct Finished {
     pub refusal: u64,
     pub z: Sizing,

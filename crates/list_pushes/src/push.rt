@@ -11,7 +11,7 @@ use list_values::value::{Value, local, put, put_value, value_at};
 const MOST_TEMPORARIES: usize = 512;
 
 // Where the list of actions ends, the temporaries made, and the sizing.
-#[derive(Drop)]
+#[derive(Clone, Copy)]
 pub struct State {
     pub end: usize,
     pub temporaries: usize,
@@ -19,20 +19,20 @@ pub struct State {
 }
 
 // What a walk is given: the pointer size, whether the scope is the section's own, and how many parameters it has.
-#[derive(Drop)]
+#[derive(Clone, Copy)]
 pub struct Env {
     pub pointer: u64,
     pub own: bool,
     pub count: usize,
 }
 
-#[derive(Drop)]
+#[derive(Clone, Copy)]
 pub enum Read {
     Value { v: Value, st: State },
     No(u64),
 }
 
-#[derive(Drop)]
+#[derive(Clone, Copy)]
 pub enum Pushed {
     Done(State),
     No(u64),

@@ -1,3 +1,5 @@
 // Values and their sizes.
+#![tactic(auto)]
+
 pub mod sizes;
 pub mod value;

@@ -10,7 +10,7 @@ use codes::{NONE, action, table, value_kind};
 const MOST: u64 = 18446744073709551615;
 
 // The ordinal of the statement begun last, the errors recorded and the first one's ordinal.
-#[derive(Drop)]
+#[derive(Clone, Copy)]
 pub struct Sizing {
     pub begun: u64,
     pub errors: u64,

@@ -15,7 +15,7 @@ pub const NO_OUTPUT: u64 = 255;
 const LAST_OFFSET: u64 = 65535;
 
 // Kinds are 0 to 7 in the order of `Local`; a size of 65,535 is none.
-#[derive(Drop)]
+#[derive(Clone, Copy)]
 pub struct Value {
     pub kind: u64,
     pub number: u64,
@@ -70,7 +70,7 @@ pub fn no_output_lem() -> Value
     }
 }
 
-#[derive(Drop)]
+#[derive(Clone, Copy)]
 pub enum Slice {
     Is(Value),
     No(u64),

@@ -1,5 +1,7 @@
 // Prints the p-code of a section file for a person: a line for each action, then the export, then the counts and whether the
 // checker accepts the list; or a refusal in plain words. What cannot be listed is said in a sentence on standard error.
+#![tactic(auto)]
+
 use actions::actions;
 use codes::{export_kind, table};
 use libc::STDERR_FILENO;

@@ -1,4 +1,6 @@
 // The public face: a section file resolved into lent lists, and the checker of such lists; for Rattle, and as C functions.
+#![tactic(auto)]
+
 ghost use Rattle.std.specs.Prelude.{◌≡◌, length, true};
 ghost use Rattle.definition.specs.ActionList.{numbers, resolve};
 ghost use Rattle.definition.specs.Checker.{check};
@@ -10,7 +12,7 @@ use resolve_answer::answer::Answer;
 use resolve_file::resolve_words;
 
 // An answer, and whether its list passes the checker; a refused section's does not.
-#[derive(Drop)]
+#[derive(Clone, Copy)]
 pub struct Checked {
     pub answer: Answer,
     pub passes: bool,

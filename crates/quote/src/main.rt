@@ -1,5 +1,7 @@
 // Prints the quote of a section file: the first eight numbers of the result on a line, then words 0 to 3 of each action, a
 // line each; after a refusal the first line alone. What cannot be quoted is said in a sentence on standard error.
+#![tactic(auto)]
+
 use libc::{STDERR_FILENO, STDOUT_FILENO};
 use resolve_answer::answer::Answer;
 

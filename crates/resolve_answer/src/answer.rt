@@ -8,7 +8,7 @@ use list_values::value::word;
 use stmt_walk::walk::{Export, Walk};
 
 // The last four are the export's: 0 none, 1 value, 2 RAM, 3 register; its two value words; its access size.
-#[derive(Drop)]
+#[derive(Clone, Copy)]
 pub struct Answer {
     pub refusal: u64,
     pub ordinal: u64,
@@ -63,7 +63,7 @@ fn points(actions: u64, temporaries: u64) -> u64
 }
 
 // The export's two value words, 0 and 0 where there is none.
-#[derive(Drop)]
+#[derive(Clone, Copy)]
 pub struct Words {
     pub number: u64,
     pub second: u64,

@@ -1,5 +1,7 @@
 // What the checker is told of a section file beside its list: how many subtables the section has, and the size of its
 // pointers. Both are 0 where the file is refused.
+#![tactic(auto)]
+
 ghost use Rattle.std.specs.Prelude.{◌≡◌, ◌*◌, ◌/◌, ◌≤◌, length, take};
 ghost use Rattle.definition.specs.SectionFile.{read};
 ghost use Rattle.definition.specs.Passing.{subtable_count, pointer_size_in};
@@ -9,7 +11,7 @@ ghost use Rattle.resolve_counts.specs.Counts.{counts, table_counts, stream_count
 use codes::{header, table};
 use resolve_file::pointer_size;
 
-#[derive(Drop)]
+#[derive(Clone, Copy)]
 pub struct Counts {
     pub subtables: u64,
     pub pointer: u64,

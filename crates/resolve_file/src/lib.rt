@@ -1,5 +1,7 @@
 // A section file resolved into lent lists: the file is read, its statements are walked, the end is run. After a refusal both
 // lists are zero.
+#![tactic(auto)]
+
 ghost use Rattle.std.specs.Prelude.{◌≡◌, ◌*◌, ◌/◌, ◌≤◌, length, take};
 ghost use Rattle.file_blocks.specs.Blocks.{joined};
 ghost use Rattle.stmt_walk.specs.Walks.{stepped};

@@ -1,12 +1,14 @@
 // Resolves the cases on standard input, which have the original's answers beside them, and says where an answer is another
 // one. How the data is written is in compare/README.md, "Data files"; cases are numbered from 0, as `replay` does it there.
+#![tactic(auto)]
+
 ghost use Rattle.std.specs.Prelude.{◌+◌, ◌<◌, ◌≤◌};
 
 use libc::{STDERR_FILENO, STDIN_FILENO, STDOUT_FILENO};
 use resolve_answer::answer::Answer;
 
 // Where a file, its answer and the next case stand in the data: the body, the twelve numbers, the counts before both lists.
-#[derive(Drop)]
+#[derive(Clone, Copy)]
 struct Case {
     length: u64,
     body_length: u64,
@@ -19,7 +21,7 @@ struct Case {
     next: usize,
 }
 
-#[derive(Drop)]
+#[derive(Clone, Copy)]
 enum Outcome {
     Same,
     Differs,

@@ -13,7 +13,7 @@ const MOST_LABELS: u64 = 256;
 // What is added to the number of a label that is placed.
 const PLACED: u64 = 512;
 
-#[derive(Drop)]
+#[derive(Clone, Copy)]
 pub enum Label {
     Is(u64),
     No(u64),

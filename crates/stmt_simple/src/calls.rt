@@ -19,7 +19,7 @@ use list_values::value::{absent, no_output_lem, put, put_value, value_at};
 use stmt_walk::walk::{Step, Walk, pushed_then, stop};
 
 // What a call statement calls: the delay slot, a user op or a macro by its number, or what is refused.
-#[derive(Drop)]
+#[derive(Clone, Copy)]
 pub enum Called {
     DelaySlot,
     UserOp(u64),

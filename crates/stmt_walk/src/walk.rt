@@ -6,7 +6,7 @@ use list_pushes::push::{Pushed, Read, State};
 use list_values::value::Value;
 
 // The export: 0 none, 1 value, 2 RAM, 3 register; its value; its access size.
-#[derive(Drop)]
+#[derive(Clone, Copy)]
 pub struct Export {
     pub kind: u64,
     pub v: Value,
@@ -14,7 +14,7 @@ pub struct Export {
 }
 
 // The walk's state above that of expressions: labels given, labels placed, statements begun, the export.
-#[derive(Drop)]
+#[derive(Clone, Copy)]
 pub struct Walk {
     pub st: State,
     pub labels: u64,
@@ -23,7 +23,7 @@ pub struct Walk {
     pub export: Export,
 }
 
-#[derive(Drop)]
+#[derive(Clone, Copy)]
 pub enum Step {
     Next { next: usize, w: Walk },
     Stop { refusal: u64, ordinal: u64 },

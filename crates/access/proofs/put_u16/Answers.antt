@@ -1,0 +1,7 @@
+use Rattle.std.proofs.Common.{rules}
+use mathlib.Core.Path.{sym}
+use lib.Seq.{set_out}
+use Rattle.access.proofs.put_u16.Goals as goal
+
+pub returns-else-index-list : goal.returns-else-index-list
+returns-else-index-list c = sym (set_out _ _ _ c.if-index-list.false)
