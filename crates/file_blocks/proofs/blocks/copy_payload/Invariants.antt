@@ -1,0 +1,14 @@
+use Rattle.std.proofs.Common.{rules}
+use native.Mathlib.Omega.{arith}
+use Prim.Native.Nat.{◌-◌, ◌≤◌}
+use mathlib.Core.Path.{◌≡◌, refl}
+use mathlib.Core.List.{◌++◌}
+use lib.ListN.{length, take, drop, length-set}
+use Rattle.file_blocks.proofs.BlockLaws.{copy_more, copy_end}
+use Rattle.file_blocks.proofs.blocks.copy_payload.Given as goal
+
+abbrev pub invariant-loop-i : goal.invariant-loop-i
+invariant-loop-i l = (l.i ≤ 510) × (length l.to ≡ length l.initial.to) × (l.to ≡ take l.i l.block ++ drop l.i l.initial.to)
+
+abbrev pub decreases-loop-i : goal.decreases-loop-i
+decreases-loop-i l = 510 - l.i
