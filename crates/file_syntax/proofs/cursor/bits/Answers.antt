@@ -1,0 +1,6 @@
+use Rattle.std.proofs.Common.{rules}
+use mathlib.Core.Path.{◌≡◌, refl}
+use Rattle.file_syntax.proofs.cursor.bits.Goals as goal
+
+pub returns : goal.returns
+returns c = rw c.u16_below.ensures at c.u16_below-2.ensures

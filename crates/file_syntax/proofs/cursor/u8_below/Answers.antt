@@ -1,0 +1,12 @@
+use Rattle.std.proofs.Common.{rules}
+use Rattle.file_syntax.proofs.CursorLaws.{cursor_laws}
+use Rattle.file_syntax.proofs.cursor.u8_below.Goals as goal
+
+pub byte-requires : goal.byte-requires
+byte-requires c = search (cursor_laws, rules)
+
+pub number-requires : goal.number-requires
+number-requires c = search (cursor_laws, rules)
+
+pub returns : goal.returns
+returns c = search (cursor_laws, rules)

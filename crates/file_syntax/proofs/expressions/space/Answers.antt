@@ -1,0 +1,5 @@
+use Rattle.std.proofs.Common.{rules}
+use Rattle.file_syntax.proofs.expressions.space.Goals as goal
+
+pub returns : goal.returns
+returns c = rw c.name_or.ensures at c.size_or.ensures

@@ -1,0 +1,21 @@
+use Rattle.std.proofs.Common.{rules}
+use Rattle.file_syntax.proofs.CodeLaws.{code_laws}
+use Rattle.file_syntax.proofs.statements.jump_label.Goals as goal
+
+pub code-k-requires : goal.code-k-requires
+code-k-requires c = search (code_laws, rules)
+
+pub name-requires : goal.name-requires
+name-requires c = search (code_laws, rules)
+
+pub skip-requires : goal.skip-requires
+skip-requires c = search (code_laws, rules)
+
+pub size-requires : goal.size-requires
+size-requires c = search (code_laws, rules)
+
+pub returns-in-0 : goal.returns-in-0
+returns-in-0 c = search (code_laws, rules)
+
+pub returns-in_default : goal.returns-in_default
+returns-in_default c = search (code_laws, rules)

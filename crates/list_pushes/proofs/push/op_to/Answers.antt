@@ -1,0 +1,33 @@
+use Rattle.std.proofs.Common.{rules}
+use Rattle.list_pushes.proofs.PushLaws.{push_laws}
+use Rattle.list_pushes.proofs.push.op_to.Goals as goal
+
+pub push_op-requires : goal.push_op-requires
+push_op-requires c = search (push_laws, rules)
+
+pub enum_known-n : goal.enum_known-n
+enum_known-n c = search (push_laws, rules)
+
+pub enum_known-next : goal.enum_known-next
+enum_known-next c = search (push_laws, rules)
+
+pub value_at-requires : goal.value_at-requires
+value_at-requires c = search (push_laws, rules)
+
+pub shape_of-actions-in-No : goal.shape_of-actions-in-No
+shape_of-actions-in-No c = search (push_laws, rules)
+
+pub shape_of-temporaries-in-No : goal.shape_of-temporaries-in-No
+shape_of-temporaries-in-No c = search (push_laws, rules)
+
+pub returns-in-No : goal.returns-in-No
+returns-in-No c = search (push_laws, rules)
+
+pub shape_of-actions-in-Done : goal.shape_of-actions-in-Done
+shape_of-actions-in-Done c = search (push_laws, rules)
+
+pub shape_of-temporaries-in-Done : goal.shape_of-temporaries-in-Done
+shape_of-temporaries-in-Done c = search (push_laws, rules)
+
+pub returns-in-Done : goal.returns-in-Done
+returns-in-Done c = search (push_laws, rules)

@@ -1,0 +1,16 @@
+use Rattle.std.proofs.Common.{rules}
+use Prim.Native.Nat.{◌-◌, ◌≤◌}
+use native.Mathlib.Omega.{arith}
+use mathlib.Core.Path.{◌≡◌, refl}
+use lib.ListN.{length}
+use Rattle.access.specs.Loops.{run}
+use Rattle.list_values.specs.Values.{zero_word}
+use Rattle.access.proofs.LoopLaws.{run_again}
+use Rattle.list_pushes.proofs.PushLaws.{write-zeros_law}
+use Rattle.list_pushes.proofs.push.write_zeros.Given as goal
+
+abbrev pub invariant-loop-i : goal.invariant-loop-i
+invariant-loop-i l = (l.i ≤ 24) × (length l.actions ≡ length l.initial.actions) × (run (24 - l.i) l.i (zero_word l.at) l.actions ≡ run 14 10 (zero_word l.at) l.initial.actions)
+
+abbrev pub decreases-loop-i : goal.decreases-loop-i
+decreases-loop-i l = 24 - l.i
