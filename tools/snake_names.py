@@ -142,15 +142,19 @@ def main():
         for old, new in sorted(chosen.items()):
             print(old, new)
         return
+    moved = {}
     for new, olds in fallen.items():
         for old in olds:
-            if "-" in old or old == new and any(CAMEL.match(other) for other in olds) and old not in believed:
+            if "-" in old:
                 chosen[old] = new + "_lem"
+            elif old == new and any(CAMEL.match(other) for other in olds) and old not in believed:
+                moved[old] = new + "_lem"
     for path in sorted(ROOT.glob("crates/*/**/*")):
         if "out" in path.parts or not path.is_file():
             continue
         if path.suffix == ".antt":
-            new = antt_text(path.read_text(), chosen)
+            lemmas = path.parent.name == "proofs"
+            new = antt_text(path.read_text(), chosen | moved if lemmas else chosen)
         elif path.suffix in (".rt", ".edit"):
             new = rt_text(path.read_text(), chosen)
         else:

@@ -100,7 +100,7 @@ pub struct Slot {
     pub b: Value,
 }
 
-fn one_value_lem(tag: u64, first: u64, second: u64, value: Value) -> Slot
+fn one_value(tag: u64, first: u64, second: u64, value: Value) -> Slot
     ensures { result ≡ one_value tag first second value }
 {
     Slot {
@@ -116,9 +116,9 @@ pub fn slot_of(expr: ExprValue) -> Slot
     ensures { result ≡ slot_of expr }
 {
     match expr {
-        ExprValue::Local(v) => one_value_lem(LOCAL, 0, 0, v),
-        ExprValue::Unbound(v) => one_value_lem(UNBOUND, 0, 0, v),
-        ExprValue::Const { value, size } => one_value_lem(CONST, value, size, absent()),
+        ExprValue::Local(v) => one_value(LOCAL, 0, 0, v),
+        ExprValue::Unbound(v) => one_value(UNBOUND, 0, 0, v),
+        ExprValue::Const { value, size } => one_value(CONST, value, size, absent()),
         ExprValue::Apply {
             op,
             number,
@@ -132,10 +132,10 @@ pub fn slot_of(expr: ExprValue) -> Slot
             a,
             b,
         },
-        ExprValue::RamRef { pointer, size } => one_value_lem(RAM_REF, size, 0, pointer),
-        ExprValue::RegisterRef { pointer, size } => one_value_lem(REGISTER_REF, size, 0, pointer),
-        ExprValue::AddressOf { base, size } => one_value_lem(ADDRESS_OF, size, 0, base),
-        ExprValue::BitRange { v, from, bits } => one_value_lem(BIT_RANGE, from, bits, v),
+        ExprValue::RamRef { pointer, size } => one_value(RAM_REF, size, 0, pointer),
+        ExprValue::RegisterRef { pointer, size } => one_value(REGISTER_REF, size, 0, pointer),
+        ExprValue::AddressOf { base, size } => one_value(ADDRESS_OF, size, 0, base),
+        ExprValue::BitRange { v, from, bits } => one_value(BIT_RANGE, from, bits, v),
     }
 }
 

@@ -13,7 +13,7 @@ use expr_scope::args::arg_at;
 use expr_scope::scope::{ExprValue, Meaning, resolve_ident};
 use expr_scope::symbols::{Symbol, lookup};
 use list_pushes::push::{Env, Pushed, Read, State, push_op};
-use list_values::value::{Value, absent, no_output_lem};
+use list_values::value::{Value, absent, no_output};
 
 // What stands for an argument that is not one integer.
 const NO_INTEGER: u64 = 18446744073709551615;
@@ -83,7 +83,7 @@ fn pass_arg(
             operation::ARG,
             index,
             1,
-            no_output_lem(),
+            no_output(),
             v,
             absent(),
             st1,

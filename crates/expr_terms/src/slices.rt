@@ -92,7 +92,7 @@ fn slice_const(value: u64, size: u64, from: u64, bits: u64, next: usize, state: 
     }
 }
 
-fn slice_range_lem(
+fn slice_range(
     value: Value,
     before: u64,
     whole: u64,
@@ -142,7 +142,7 @@ pub fn slice_bits(
             v,
             from: before,
             bits: whole,
-        } => slice_range_lem(v, before, whole, from, bits, next, state),
+        } => slice_range(v, before, whole, from, bits, next, state),
         _ => slice_read(
             stream,
             table,

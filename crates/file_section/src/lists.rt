@@ -7,7 +7,7 @@ ghost use Rattle.file_section.specs.Lists.{slot, stamp, mark, after, params, mac
 use crate::names::low;
 use codes::{header, refusal, symbol_kind, table};
 use file_syntax::cursor::{
-    Cursor, bits, code, name, refuse, size, size_or, small_count_lem, u16_below,
+    Cursor, bits, code, name, refuse, size, size_or, small_count, u16_below,
 };
 use file_syntax::statements::body;
 
@@ -101,7 +101,7 @@ fn macro_head(stream: &[u8], names: u64, cursor: Cursor) -> Cursor
         stream,
         STATEMENTS,
         refusal::OUTSIDE_LIMIT,
-        params(stream, names, small_count_lem(stream, cursor)),
+        params(stream, names, small_count(stream, cursor)),
     )
 }
 

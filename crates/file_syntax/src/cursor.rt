@@ -123,7 +123,7 @@ pub fn code(stream: &[u8], count: u64, cursor: Cursor) -> Cursor
 }
 
 // A count of arguments or parameters.
-pub fn small_count_lem(stream: &[u8], cursor: Cursor) -> Cursor
+pub fn small_count(stream: &[u8], cursor: Cursor) -> Cursor
     ensures { result ≡ small_count stream.now cursor }
 {
     u8_below(stream, 9, refusal::OUTSIDE_LIMIT, cursor)

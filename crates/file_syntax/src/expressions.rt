@@ -5,7 +5,7 @@ ghost use Rattle.file_syntax.specs.Cursors.{cursor, skip};
 ghost use Rattle.file_syntax.specs.Expressions.{address_of, space, call, expr, exprs};
 
 use crate::cursor::{
-    Cursor, bits, code, name, name_or, refuse, size, size_or, skip, small_count_lem,
+    Cursor, bits, code, name, name_or, refuse, size, size_or, skip, small_count,
 };
 use codes::{expression, refusal};
 
@@ -31,7 +31,7 @@ pub fn space(stream: &[u8], names: u64, cursor: Cursor) -> Cursor
 pub fn call(stream: &[u8], names: u64, cursor: Cursor) -> Cursor
     ensures { result ≡ call stream.now names cursor }
 {
-    small_count_lem(stream, name(stream, names, cursor))
+    small_count(stream, name(stream, names, cursor))
 }
 
 // The integer at a place of the stream, after its code, which is 1.
@@ -102,7 +102,7 @@ fn longer(depth: u64, stream: &[u8], names: u64, cursor: Cursor) -> Cursor
             code(stream, 39, expr(d, stream, names, k)),
         ),
         expression::DEREF => expr(d, stream, names, space(stream, names, k)),
-        expression::CONSTANT_POOL_REF => exprs(d, stream, names, small_count_lem(stream, k)),
+        expression::CONSTANT_POOL_REF => exprs(d, stream, names, small_count(stream, k)),
         _ => exprs(d, stream, names, call(stream, names, k)),
     }
 }

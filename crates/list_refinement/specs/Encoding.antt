@@ -90,7 +90,7 @@ pub record SizesHold (s t : List ℕ) (sec : Section) : Type 0 where
   pub pointer_small : pointer_size sec < 65535
 
 -- the values that a push is given
--- the values of an action with up to two inputs: absent where there is none, `no_output_lem` where an operation has no output
+-- the values of an action with up to two inputs: absent where there is none, `no_output` where an operation has no output
 unfoldable pub first_of : List Value → WordValue
 first_of [] = absent
 first_of (v ∷ vs) = enc_v v

@@ -59,7 +59,7 @@ pub fn absent() -> Value
 }
 
 // The output of an Op that has none: 0 and 255.
-pub fn no_output_lem() -> Value
+pub fn no_output() -> Value
     ensures { result ≡ no_output }
 {
     Value {

@@ -11,7 +11,7 @@ use expr_scope::scope::ExprValue;
 use expr_terms::address::resolve_address;
 use expr_terms::answers::{Expr, Operand, after};
 use list_pushes::push::{Env, State, push, push_op};
-use list_values::value::{Value, absent, no_output_lem};
+use list_values::value::{Value, absent, no_output};
 use stmt_walk::walk::{Step, Walk, pushed_then, stop};
 
 pub fn store(
@@ -40,7 +40,7 @@ pub fn store(
             operation::STORE,
             0,
             2,
-            no_output_lem(),
+            no_output(),
             pointer,
             x.v,
             x.st,
@@ -82,7 +82,7 @@ fn store_register(
     )
 }
 
-fn store_at_lem(
+fn store_at(
     stream: &[u8],
     table: &[u16; table::LENGTH],
     actions: &mut [u64],
@@ -126,7 +126,7 @@ fn store_at_lem(
     }
 }
 
-fn store_in_lem(
+fn store_in(
     stream: &[u8],
     table: &[u16; table::LENGTH],
     actions: &mut [u64],
@@ -160,7 +160,7 @@ fn store_in_lem(
             x: to,
             next,
             st: st1,
-        } => store_at_lem(
+        } => store_at(
             stream,
             table,
             actions,
@@ -206,7 +206,7 @@ fn store_pointer(
             x,
             next: _,
             st: st1,
-        } => store_in_lem(
+        } => store_in(
             stream,
             table,
             actions,

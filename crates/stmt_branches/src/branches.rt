@@ -11,7 +11,7 @@ use expr_resolver::expr::{DEPTH, expr_value};
 use expr_scope::scope::{ExprValue, Meaning, resolve_ident};
 use expr_terms::answers::{Operand, after};
 use list_pushes::push::{Env, Read, State, push_op};
-use list_values::value::{Value, absent, no_output_lem};
+use list_values::value::{Value, absent, no_output};
 use stmt_walk::walk::{Step, Walk, pushed_then, stop};
 
 fn push_label(
@@ -37,7 +37,7 @@ fn push_label(
             operation::PCODE_LABEL,
             id,
             0,
-            no_output_lem(),
+            no_output(),
             absent(),
             absent(),
             walk.st,
@@ -74,7 +74,7 @@ pub fn label_statement(
     }
 }
 
-fn branch_to_lem(
+fn branch_to(
     stream: &[u8],
     table: &[u16; table::LENGTH],
     actions: &mut [u64],
@@ -99,7 +99,7 @@ fn branch_to_lem(
             operation::BRANCH,
             number,
             2,
-            no_output_lem(),
+            no_output(),
             cond,
             address,
             state,
@@ -134,7 +134,7 @@ fn branch_label(
             operation::PCODE_BRANCH,
             id,
             2,
-            no_output_lem(),
+            no_output(),
             cond,
             constant(0),
             state,
@@ -233,7 +233,7 @@ fn direct(
     ensures { stepped result actions.new temporaries.new ≡ direct stream.now table.now actions.old temporaries.old env expr cond hint state walk }
 {
     match expr {
-        ExprValue::Local(v) => branch_to_lem(
+        ExprValue::Local(v) => branch_to(
             stream,
             table,
             actions,
@@ -265,7 +265,7 @@ fn indirect(
 {
     match read_operand(stream, table, actions, temporaries, env, expr, state) {
         Read::No(n) => stop(walk, n),
-        Read::Value { v, st: st1 } => branch_to_lem(
+        Read::Value { v, st: st1 } => branch_to(
             stream,
             table,
             actions,

@@ -15,7 +15,7 @@ use expr_scope::symbols::{Symbol, lookup};
 use expr_terms::answers::after;
 use expr_terms::calls::only_integer;
 use list_pushes::push::{Env, Pushed, Read, State, push};
-use list_values::value::{absent, no_output_lem, put, put_value, value_at};
+use list_values::value::{absent, no_output, put, put_value, value_at};
 use stmt_walk::walk::{Step, Walk, pushed_then, stop};
 
 // What a call statement calls: the delay slot, a user op or a macro by its number, or what is refused.
@@ -123,7 +123,7 @@ fn push_user_op(actions: &mut [u64], args: &[u64], id: u64, count: u64, state: S
         operation::PCODE_OP,
         id,
         count,
-        no_output_lem(),
+        no_output(),
         absent(),
         absent(),
         state,

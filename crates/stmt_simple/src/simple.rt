@@ -13,7 +13,7 @@ use expr_scope::symbols::{Symbol, lookup};
 use expr_terms::answers::{Expr, after};
 use list_pushes::push::{Env, Read, State, push, push_op};
 use list_values::sizes::entry;
-use list_values::value::{Value, absent, no_output_lem};
+use list_values::value::{Value, absent, no_output};
 use stmt_walk::walk::{Export, Step, Walk, pushed_then, read_then, stop};
 
 pub fn unimplemented(
@@ -37,7 +37,7 @@ pub fn unimplemented(
             operation::INVALID,
             0,
             0,
-            no_output_lem(),
+            no_output(),
             absent(),
             absent(),
             walk.st,

@@ -1,8 +1,8 @@
 use borrow.Author.Rules.{rules}
-use Rattle.expr_scope.proofs.scope.one_value_lem.Statement.{statement}
-use Rattle.expr_scope.proofs.scope.one_value_lem.Tie as tie
-use Rattle.expr_scope.proofs.scope.one_value_lem.Reads as reads
-use Rattle.expr_scope.proofs.scope.one_value_lem.Lts as lts
+use Rattle.expr_scope.proofs.scope.one_value.Statement.{statement}
+use Rattle.expr_scope.proofs.scope.one_value.Tie as tie
+use Rattle.expr_scope.proofs.scope.one_value.Reads as reads
+use Rattle.expr_scope.proofs.scope.one_value.Lts as lts
 use Rattle.list_values.proofs.value.absent.Reads as absent-reads
 use Rattle.expr_scope.proofs.SlotLaws.{slot_laws}
 

@@ -3,7 +3,7 @@ use Rattle.expr_scope.proofs.scope.slot_of.Statement.{statement}
 use Rattle.expr_scope.proofs.scope.slot_of.Tie as tie
 use Rattle.expr_scope.proofs.scope.slot_of.Reads as reads
 use Rattle.expr_scope.proofs.scope.slot_of.Lts as lts
-use Rattle.expr_scope.proofs.scope.one_value_lem.Reads as one-value-reads
+use Rattle.expr_scope.proofs.scope.one_value.Reads as one-value-reads
 use Rattle.list_values.proofs.value.absent.Reads as absent-reads
 use Rattle.expr_scope.proofs.SlotLaws.{slot_laws}
 

@@ -6,7 +6,7 @@ use Rattle.expr_terms.proofs.calls.pass_arg.Lts as lts
 use Rattle.expr_reading.proofs.read.read_operand.Reads as read-operand-reads
 use Rattle.list_pushes.proofs.push.push_op.Reads as push-op-reads
 use Rattle.list_values.proofs.value.absent.Reads as absent-reads
-use Rattle.list_values.proofs.value.no_output_lem.Reads as no-output-reads
+use Rattle.list_values.proofs.value.no_output.Reads as no-output-reads
 use Rattle.expr_terms.proofs.CallLaws.{call_laws}
 
 read-operand-requires : tie.Need-read-operand-requires

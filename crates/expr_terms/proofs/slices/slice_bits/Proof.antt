@@ -4,7 +4,7 @@ use Rattle.expr_terms.proofs.slices.slice_bits.Tie as tie
 use Rattle.expr_terms.proofs.slices.slice_bits.Reads as reads
 use Rattle.expr_terms.proofs.slices.slice_bits.Lts as lts
 use Rattle.expr_terms.proofs.slices.slice_const.Reads as slice-const-reads
-use Rattle.expr_terms.proofs.slices.slice_range_lem.Reads as slice-range-reads
+use Rattle.expr_terms.proofs.slices.slice_range.Reads as slice-range-reads
 use Rattle.expr_terms.proofs.slices.slice_read.Reads as slice-read-reads
 use Rattle.expr_terms.proofs.SliceLaws.{slice_laws}
 

@@ -1,8 +1,8 @@
 use borrow.Author.Rules.{rules}
-use Rattle.expr_terms.proofs.slices.slice_range_lem.Statement.{statement}
-use Rattle.expr_terms.proofs.slices.slice_range_lem.Tie as tie
-use Rattle.expr_terms.proofs.slices.slice_range_lem.Reads as reads
-use Rattle.expr_terms.proofs.slices.slice_range_lem.Lts as lts
+use Rattle.expr_terms.proofs.slices.slice_range.Statement.{statement}
+use Rattle.expr_terms.proofs.slices.slice_range.Tie as tie
+use Rattle.expr_terms.proofs.slices.slice_range.Reads as reads
+use Rattle.expr_terms.proofs.slices.slice_range.Lts as lts
 use Rattle.expr_terms.proofs.SliceLaws.{slice_laws}
 
 add-if1 : tie.Need-overflow-add-if1

@@ -3,7 +3,7 @@ use Rattle.file_section.proofs.lists.macro_head.Statement.{statement}
 use Rattle.file_section.proofs.lists.macro_head.Tie as tie
 use Rattle.file_section.proofs.lists.macro_head.Reads as reads
 use Rattle.file_section.proofs.lists.macro_head.Lts as lts
-use Rattle.file_syntax.proofs.cursor.small_count_lem.Reads as small-count-reads
+use Rattle.file_syntax.proofs.cursor.small_count.Reads as small-count-reads
 use Rattle.file_syntax.proofs.cursor.u16_below.Reads as u16-below-reads
 use Rattle.file_section.proofs.lists.params.Reads as params-reads
 use Rattle.file_section.proofs.ListLaws.{list_laws}

@@ -16,7 +16,7 @@ use Rattle.file_syntax.proofs.cursor.name.Reads as name-reads
 use Rattle.file_syntax.proofs.cursor.refuse.Reads as refuse-reads
 use Rattle.file_syntax.proofs.cursor.size.Reads as size-reads
 use Rattle.file_syntax.proofs.cursor.skip.Reads as skip-reads
-use Rattle.file_syntax.proofs.cursor.small_count_lem.Reads as small-count-reads
+use Rattle.file_syntax.proofs.cursor.small_count.Reads as small-count-reads
 use Rattle.file_syntax.proofs.expressions.address_of.Reads as address-of-reads
 use Rattle.file_syntax.proofs.expressions.call.Reads as call-reads
 use Rattle.file_syntax.proofs.expressions.integer_here.Reads as integer-here-reads

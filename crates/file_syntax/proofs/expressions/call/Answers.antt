@@ -2,4 +2,4 @@ use Rattle.std.proofs.Common.{rules}
 use Rattle.file_syntax.proofs.expressions.call.Goals as goal
 
 pub returns : goal.returns
-returns c = rw c.name.ensures at c.small_count_lem.ensures
+returns c = rw c.name.ensures at c.small_count.ensures

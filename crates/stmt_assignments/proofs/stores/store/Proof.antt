@@ -5,7 +5,7 @@ use Rattle.stmt_assignments.proofs.stores.store.Reads as reads
 use Rattle.stmt_assignments.proofs.stores.store.Lts as lts
 use Rattle.expr_reading.proofs.read.take_stated.Reads as take-stated-reads
 use Rattle.list_pushes.proofs.push.push_op.Reads as push-op-reads
-use Rattle.list_values.proofs.value.no_output_lem.Reads as no-output-reads
+use Rattle.list_values.proofs.value.no_output.Reads as no-output-reads
 use Rattle.stmt_walk.proofs.walk.pushed_then.Reads as pushed-then-reads
 use Rattle.stmt_assignments.proofs.StoreLaws.{store_laws}
 

@@ -1,8 +1,8 @@
 use borrow.Author.Rules.{rules}
-use Rattle.stmt_assignments.proofs.stores.store_at_lem.Statement.{statement}
-use Rattle.stmt_assignments.proofs.stores.store_at_lem.Tie as tie
-use Rattle.stmt_assignments.proofs.stores.store_at_lem.Reads as reads
-use Rattle.stmt_assignments.proofs.stores.store_at_lem.Lts as lts
+use Rattle.stmt_assignments.proofs.stores.store_at.Statement.{statement}
+use Rattle.stmt_assignments.proofs.stores.store_at.Tie as tie
+use Rattle.stmt_assignments.proofs.stores.store_at.Reads as reads
+use Rattle.stmt_assignments.proofs.stores.store_at.Lts as lts
 use Rattle.stmt_assignments.proofs.stores.store.Reads as store-reads
 use Rattle.stmt_assignments.proofs.stores.store_register.Reads as store-register-reads
 use Rattle.stmt_walk.proofs.walk.stop.Reads as stop-reads

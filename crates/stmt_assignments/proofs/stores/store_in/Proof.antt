@@ -1,9 +1,9 @@
 use borrow.Author.Rules.{rules}
-use Rattle.stmt_assignments.proofs.stores.store_in_lem.Statement.{statement}
-use Rattle.stmt_assignments.proofs.stores.store_in_lem.Tie as tie
-use Rattle.stmt_assignments.proofs.stores.store_in_lem.Reads as reads
-use Rattle.stmt_assignments.proofs.stores.store_in_lem.Lts as lts
-use Rattle.stmt_assignments.proofs.stores.store_at_lem.Reads as store-at-reads
+use Rattle.stmt_assignments.proofs.stores.store_in.Statement.{statement}
+use Rattle.stmt_assignments.proofs.stores.store_in.Tie as tie
+use Rattle.stmt_assignments.proofs.stores.store_in.Reads as reads
+use Rattle.stmt_assignments.proofs.stores.store_in.Lts as lts
+use Rattle.stmt_assignments.proofs.stores.store_at.Reads as store-at-reads
 use Rattle.access.proofs.u16_in.Reads as u16-in-reads
 use Rattle.expr_terms.proofs.address.resolve_address.Reads as resolve-address-reads
 use Rattle.stmt_walk.proofs.walk.stop.Reads as stop-reads

@@ -3,7 +3,7 @@ use Rattle.stmt_assignments.proofs.stores.store_pointer.Statement.{statement}
 use Rattle.stmt_assignments.proofs.stores.store_pointer.Tie as tie
 use Rattle.stmt_assignments.proofs.stores.store_pointer.Reads as reads
 use Rattle.stmt_assignments.proofs.stores.store_pointer.Lts as lts
-use Rattle.stmt_assignments.proofs.stores.store_in_lem.Reads as store-in-reads
+use Rattle.stmt_assignments.proofs.stores.store_in.Reads as store-in-reads
 use Rattle.expr_terms.proofs.answers.after.Reads as after-reads
 use Rattle.expr_resolver.proofs.expr.resolve_expr.Reads as resolve-expr-reads
 use Rattle.stmt_walk.proofs.walk.stop.Reads as stop-reads

@@ -5,7 +5,7 @@ use Rattle.stmt_branches.proofs.branches.branch_label.Reads as reads
 use Rattle.stmt_branches.proofs.branches.branch_label.Lts as lts
 use Rattle.expr_reading.proofs.read.constant.Reads as constant-reads
 use Rattle.list_pushes.proofs.push.push_op.Reads as push-op-reads
-use Rattle.list_values.proofs.value.no_output_lem.Reads as no-output-reads
+use Rattle.list_values.proofs.value.no_output.Reads as no-output-reads
 use Rattle.stmt_branches.proofs.labels.labelled.Reads as labelled-reads
 use Rattle.stmt_walk.proofs.walk.pushed_then.Reads as pushed-then-reads
 use Rattle.stmt_branches.proofs.BranchLaws.{branch_laws}

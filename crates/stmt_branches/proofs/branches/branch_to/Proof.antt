@@ -1,12 +1,12 @@
 use Rattle.std.proofs.Common.{rules}
-use Rattle.stmt_branches.proofs.branches.branch_to_lem.Statement.{statement}
-use Rattle.stmt_branches.proofs.branches.branch_to_lem.Tie as tie
-use Rattle.stmt_branches.proofs.branches.branch_to_lem.Reads as reads
-use Rattle.stmt_branches.proofs.branches.branch_to_lem.Lts as lts
+use Rattle.stmt_branches.proofs.branches.branch_to.Statement.{statement}
+use Rattle.stmt_branches.proofs.branches.branch_to.Tie as tie
+use Rattle.stmt_branches.proofs.branches.branch_to.Reads as reads
+use Rattle.stmt_branches.proofs.branches.branch_to.Lts as lts
 use Rattle.access.proofs.byte.Reads as byte-Reads
 use Rattle.expr_terms.proofs.answers.after.Reads as after-reads
 use Rattle.list_pushes.proofs.push.push_op.Reads as push-op-reads
-use Rattle.list_values.proofs.value.no_output_lem.Reads as no-output-reads
+use Rattle.list_values.proofs.value.no_output.Reads as no-output-reads
 use Rattle.stmt_walk.proofs.walk.pushed_then.Reads as pushed-then-reads
 use Rattle.stmt_branches.proofs.BranchLaws.{branch_laws}
 

@@ -3,7 +3,7 @@ use Rattle.stmt_branches.proofs.branches.direct.Statement.{statement}
 use Rattle.stmt_branches.proofs.branches.direct.Tie as tie
 use Rattle.stmt_branches.proofs.branches.direct.Reads as reads
 use Rattle.stmt_branches.proofs.branches.direct.Lts as lts
-use Rattle.stmt_branches.proofs.branches.branch_to_lem.Reads as branch-to-reads
+use Rattle.stmt_branches.proofs.branches.branch_to.Reads as branch-to-reads
 use Rattle.stmt_branches.proofs.branches.direct_address.Reads as direct-address-reads
 use Rattle.stmt_walk.proofs.walk.stop.Reads as stop-reads
 use Rattle.stmt_branches.proofs.BranchLaws.{branch_laws}

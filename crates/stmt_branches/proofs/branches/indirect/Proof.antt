@@ -4,7 +4,7 @@ use Rattle.stmt_branches.proofs.branches.indirect.Tie as tie
 use Rattle.stmt_branches.proofs.branches.indirect.Reads as reads
 use Rattle.stmt_branches.proofs.branches.indirect.Lts as lts
 use Rattle.expr_reading.proofs.read.read_operand.Reads as read-operand-reads
-use Rattle.stmt_branches.proofs.branches.branch_to_lem.Reads as branch-to-reads
+use Rattle.stmt_branches.proofs.branches.branch_to.Reads as branch-to-reads
 use Rattle.stmt_walk.proofs.walk.stop.Reads as stop-reads
 use Rattle.stmt_branches.proofs.BranchLaws.{branch_laws}
 

@@ -5,7 +5,7 @@ use Rattle.stmt_simple.proofs.calls.push_user_op.Reads as reads
 use Rattle.stmt_simple.proofs.calls.push_user_op.Lts as lts
 use Rattle.list_pushes.proofs.push.push.Reads as push-reads
 use Rattle.list_values.proofs.value.absent.Reads as absent-reads
-use Rattle.list_values.proofs.value.no_output_lem.Reads as no-output-reads
+use Rattle.list_values.proofs.value.no_output.Reads as no-output-reads
 use Rattle.stmt_simple.proofs.calls.write_inputs.Reads as write-inputs-reads
 use Rattle.stmt_simple.proofs.CallLaws.{call_laws}
 

@@ -6,7 +6,7 @@ use Rattle.stmt_simple.proofs.simple.unimplemented.Lts as lts
 use Rattle.expr_terms.proofs.answers.after.Reads as after-reads
 use Rattle.list_pushes.proofs.push.push_op.Reads as push-op-reads
 use Rattle.list_values.proofs.value.absent.Reads as absent-reads
-use Rattle.list_values.proofs.value.no_output_lem.Reads as no-output-reads
+use Rattle.list_values.proofs.value.no_output.Reads as no-output-reads
 use Rattle.stmt_walk.proofs.walk.pushed_then.Reads as pushed-then-reads
 use Rattle.stmt_simple.proofs.SimpleLaws.{simple_laws}
 
