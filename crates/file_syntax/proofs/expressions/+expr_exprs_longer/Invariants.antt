@@ -1,0 +1,24 @@
+use Prim.Native.Nat.{ℕ, ◌<◌, ◌+◌, ◌-◌, ◌≤◌}
+use Rattle.file_syntax.proofs.CodeLaws.{code_laws, counted_law}
+use Rattle.std.proofs.Common.{rules}
+use native.Mathlib.Omega.{arith}
+use mathlib.Core.Path.{◌≡◌, refl}
+use Rattle.access.specs.Loops.{run}
+use Rattle.file_syntax.specs.Expressions as e
+use Rattle.access.proofs.LoopLaws.{run_start, run_again}
+use Rattle.file_syntax.proofs.expressions.+expr_exprs_longer.Given as goal
+
+abbrev pub decreases-expr : goal.decreases-expr
+decreases-expr l = l.depth + l.depth + l.depth + 1
+
+abbrev pub decreases-exprs : goal.decreases-exprs
+decreases-exprs l = l.depth + l.depth + l.depth + 2
+
+abbrev pub decreases-longer : goal.decreases-longer
+decreases-longer l = l.depth + l.depth + l.depth
+
+abbrev pub invariant-exprs-loop-i : goal.invariant-exprs-loop-i
+invariant-exprs-loop-i l = (l.i ≤ l.n) × (l.n ≡ l.initial.cursor.val) × (run (l.n - l.i) l.i (λ _. e.expr l.depth l.stream l.names) l.cursor ≡ run l.n 0 (λ _. e.expr l.depth l.stream l.names) l.initial.cursor)
+
+abbrev pub decreases-exprs-loop-i : goal.decreases-exprs-loop-i
+decreases-exprs-loop-i l = l.n - l.i
