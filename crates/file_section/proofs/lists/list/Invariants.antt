@@ -1,0 +1,17 @@
+use Rattle.std.proofs.Common.{rules}
+use native.Mathlib.Omega.{arith}
+use Prim.Native.Nat.{◌-◌, ◌≤◌, ◌<◌}
+use mathlib.Core.Path.{◌≡◌, refl, ◌∙◌}
+use lib.ListN.{length}
+use Rattle.access.specs.Loops.{run}
+use Rattle.file_section.specs.Names.{reading}
+use Rattle.file_section.specs.Lists.{entry}
+use Rattle.access.proofs.LoopLaws.{run_start, run_again}
+use Rattle.file_section.proofs.ListLaws.{list_law}
+use Rattle.file_section.proofs.lists.list.Given as goal
+
+abbrev pub invariant-loop-i : goal.invariant-loop-i
+invariant-loop-i l = (l.i ≤ l.n) × (length l.table ≡ length l.initial.table) × (run (l.n - l.i) l.i (entry l.kind l.stream) (reading l.cursor l.table) ≡ run l.n 0 (entry l.kind l.stream) (reading l.initial.cursor l.initial.table))
+
+abbrev pub decreases-loop-i : goal.decreases-loop-i
+decreases-loop-i l = l.n - l.i

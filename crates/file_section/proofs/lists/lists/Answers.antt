@@ -1,0 +1,24 @@
+use Rattle.std.proofs.Common.{rules}
+use native.Mathlib.Omega.{arith}
+use Prim.Native.Nat.{◌-◌, ◌≤◌, ◌<◌}
+use mathlib.Core.Path.{◌≡◌, refl, ◌∙◌}
+use lib.ListN.{length}
+use Rattle.access.specs.Loops.{run}
+use Rattle.file_section.specs.Names.{reading}
+use Rattle.file_section.specs.Lists.{list, lists}
+use Rattle.access.proofs.LoopLaws.{run_start, run_again, run_end}
+use Rattle.file_section.proofs.lists.lists.Goals as goal
+
+pub loop-k-init : goal.loop-k-init
+loop-k-init c = (omega arith, refl, refl)
+
+pub loop-k-preserved : goal.loop-k-preserved
+loop-k-preserved c =
+    (omega arith, c.list-cursor.auto.table ∙ c.loop-k.invariant.1, run_again 9 _ _ _ _ _ (omega arith) c.loop-k.invariant.2 c.list-cursor.ensures)
+
+pub shape_of-table : goal.shape_of-table
+shape_of-table c = c.loop-k.invariant.1
+
+pub returns : goal.returns
+unfolding lists
+returns c = run_end 9 c.loop-k.k _ _ _ (omega arith) c.loop-k.invariant.2

@@ -1,0 +1,15 @@
+use Rattle.std.proofs.Common.{rules}
+use native.Mathlib.Omega.{arith}
+use Prim.Native.Nat.{◌-◌, ◌≤◌}
+use mathlib.Core.Path.{◌≡◌, refl}
+use Rattle.access.specs.Loops.{run}
+use Rattle.file_syntax.specs.Cursors as words
+use Rattle.access.proofs.LoopLaws.{run_start, run_again}
+use Rattle.file_section.proofs.ListLaws.{params_law}
+use Rattle.file_section.proofs.lists.params.Given as goal
+
+abbrev pub invariant-loop-i : goal.invariant-loop-i
+invariant-loop-i l = (l.i ≤ l.n) × (l.n ≡ l.initial.cursor.val) × (run (l.n - l.i) l.i (λ _. words.name l.stream l.names) l.cursor ≡ run l.n 0 (λ _. words.name l.stream l.names) l.initial.cursor)
+
+abbrev pub decreases-loop-i : goal.decreases-loop-i
+decreases-loop-i l = l.n - l.i

@@ -1,0 +1,16 @@
+use Rattle.std.proofs.Common.{rules}
+use native.Mathlib.Omega.{arith}
+use Prim.Native.Nat.{◌-◌, ◌≤◌}
+use mathlib.Core.Path.{◌≡◌, refl, ◌∙◌}
+use lib.ListN.{length}
+use Rattle.access.specs.Loops.{run}
+use Rattle.file_section.specs.Names.{reading, name_at, names}
+use Rattle.file_section.specs.Chains.{Linked}
+use Rattle.access.proofs.LoopLaws.{run_start, run_again, run_end}
+use Rattle.file_section.proofs.names.chained.Given as goal
+
+abbrev pub invariant-loop-i : goal.invariant-loop-i
+invariant-loop-i l = (l.i ≤ l.count) × (length l.table ≡ length l.initial.table) × (run (l.count - l.i) l.i (name_at l.stream) (reading l.cursor l.table) ≡ run l.count 0 (name_at l.stream) (reading l.initial.cursor l.initial.table)) × Linked l.stream l.table l.chains l.i
+
+abbrev pub decreases-loop-i : goal.decreases-loop-i
+decreases-loop-i l = l.count - l.i

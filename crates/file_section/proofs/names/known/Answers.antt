@@ -1,0 +1,24 @@
+use Rattle.std.proofs.Common.{rules}
+use native.Mathlib.Omega.{arith}
+use Rattle.file_section.proofs.NameLaws.{known_hit, known-end}
+use Rattle.file_section.proofs.ChainLaws.{Walk, walk_start, walk_less, walk_on}
+use Rattle.file_section.proofs.names.known.Goals as goal
+
+pub loop-j-init : goal.loop-j-init
+loop-j-init c =
+    walk_start _ _ _ _ _ _ _ _ c.requires c.get_u16.ensures c.place-j.ensures
+
+pub returns-then-alike : goal.returns-then-alike
+returns-then-alike c =
+    known_hit _ _ _ _ _ _ _ _ c.loop-j-test.true c.get_u16-in-loop-j.ensures c.place.ensures c.alike.ensures c.if-alike.true c.loop-j.invariant.left
+
+pub loop-j-smaller : goal.loop-j-smaller
+loop-j-smaller c =
+    walk_less _ _ _ _ _ _ _ _ _ c.requires c.loop-j.invariant c.loop-j-test.true c.get_u16-in-loop-j-2.ensures c.place-j-in-loop-j.ensures
+
+pub loop-j-preserved : goal.loop-j-preserved
+loop-j-preserved c =
+    walk_on _ _ _ _ _ _ _ _ _ _ _ _ c.requires c.loop-j.invariant c.loop-j-test.true c.get_u16-in-loop-j.ensures c.place.ensures c.alike.ensures c.if-alike.false c.get_u16-in-loop-j-2.ensures c.place-j-in-loop-j.ensures
+
+pub returns : goal.returns
+returns c = known-end _ _ _ _ _ c.loop-j-test.false c.loop-j.invariant.left

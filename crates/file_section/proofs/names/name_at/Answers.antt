@@ -1,0 +1,8 @@
+use Rattle.std.proofs.Common.{rules}
+use Rattle.file_section.proofs.ChainLaws.{linked_step}
+use Rattle.file_section.proofs.NameLaws.{name_turn}
+use Rattle.file_section.proofs.names.name_at.Goals as goal
+
+pub returns : goal.returns
+returns c =
+    (name_turn _ _ _ _ _ _ _ c.spelling-e.ensures c.low.ensures c.put_u16.ensures, linked_step _ _ _ _ _ _ _ _ _ _ c.requires c.put_u16.ensures c.get_u16.ensures c.place-p.ensures c.hash_at.ensures c.link.ensures)

@@ -1,0 +1,14 @@
+use Rattle.std.proofs.Common.{rules}
+use native.Mathlib.Omega.{arith}
+use Prim.Native.Nat.{◌-◌}
+use mathlib.Core.Path.{◌≡◌, refl}
+use lib.ListN.{length}
+use Rattle.file_section.specs.Stream.{zeros}
+use Rattle.file_section.proofs.ListLaws.{zeros-eight}
+use Rattle.file_section.proofs.zeros.past_zeros.Given as goal
+
+abbrev pub invariant-loop-i : goal.invariant-loop-i
+invariant-loop-i l = zeros (length l.stream - l.i) l.i l.stream ≡ zeros (length l.stream - l.from) l.from l.stream
+
+abbrev pub decreases-loop-i : goal.decreases-loop-i
+decreases-loop-i l = length l.stream - l.i

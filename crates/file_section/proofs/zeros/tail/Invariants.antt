@@ -1,0 +1,14 @@
+use Rattle.std.proofs.Common.{rules}
+use native.Mathlib.Omega.{arith}
+use Prim.Native.Nat.{◌-◌}
+use mathlib.Core.Path.{◌≡◌, refl}
+use lib.ListN.{length}
+use Rattle.file_section.specs.Stream.{zeros}
+use Rattle.file_section.proofs.ListLaws.{zeros_found, zeros_more, zeros-end, tail_found, tail-end}
+use Rattle.file_section.proofs.zeros.tail.Given as goal
+
+abbrev pub invariant-loop-i : goal.invariant-loop-i
+invariant-loop-i l = zeros (length l.stream - l.i) l.i l.stream ≡ zeros (length l.stream - l.cursor.at) l.cursor.at l.stream
+
+abbrev pub decreases-loop-i : goal.decreases-loop-i
+decreases-loop-i l = length l.stream - l.i

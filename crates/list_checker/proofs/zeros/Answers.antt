@@ -1,0 +1,25 @@
+use Prim.Native.Nat.{◌-◌, ◌*◌, ◌+◌, ◌≤◌}
+use mathlib.Core.Path.{◌≡◌}
+use lib.ListN.{length, get_or, drop}
+use Rattle.list_checker.specs.Action.{zeros}
+use Rattle.list_checker.proofs.FitLaws.{loop_laws}
+use Rattle.std.proofs.Common.{rules}
+use Rattle.list_checker.proofs.zeros.Goals as goal
+
+pub loop-i-init : goal.loop-i-init
+loop-i-init c = search (loop_laws, rules)
+
+pub bounds-words-i : goal.bounds-words-i
+bounds-words-i c = search (loop_laws, rules)
+
+pub returns-then-words-i-ne0 : goal.returns-then-words-i-ne0
+returns-then-words-i-ne0 c = search (loop_laws, rules)
+
+pub loop-i-smaller : goal.loop-i-smaller
+loop-i-smaller c = search (loop_laws, rules)
+
+pub loop-i-preserved : goal.loop-i-preserved
+loop-i-preserved c = search (loop_laws, rules)
+
+pub returns : goal.returns
+returns c = search (loop_laws, rules)

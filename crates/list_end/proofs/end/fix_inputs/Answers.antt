@@ -1,0 +1,17 @@
+use Rattle.std.proofs.Common.{◌≡◌, ◌-◌, ◌≤◌, length, refl, arith, rules}
+use Rattle.list_values.specs.Base.{listed}
+use Rattle.access.specs.Loops.{run}
+use Rattle.list_end.specs.End.{fix_input}
+use Rattle.access.proofs.LoopLaws.{run_start, run_again}
+use Rattle.list_end.proofs.EndLaws.{fix_input_law, fix_inputs_law}
+use Rattle.list_end.proofs.end.fix_inputs.Goals as goal
+
+pub loop-i-init : goal.loop-i-init
+loop-i-init c = (search rules, refl, run_start _ _ _)
+
+pub loop-i-preserved : goal.loop-i-preserved
+loop-i-preserved c =
+    (search rules, search rules, run_again _ _ _ _ _ _ (omega arith) c.loop-i.invariant.2 (fix_input_law _ _ _ _ _ _ _ _ _ _ c.fix_operand-sizing.ensures))
+
+pub returns : goal.returns
+returns c = fix_inputs_law _ _ _ _ _ _ _ _ _ _ _ (omega arith) c.loop-i.invariant.2

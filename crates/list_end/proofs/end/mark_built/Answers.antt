@@ -1,0 +1,16 @@
+use Rattle.std.proofs.Common.{◌≡◌, ◌-◌, ◌≤◌, length, refl, arith, rules}
+use Rattle.access.specs.Loops.{run}
+use Rattle.list_end.specs.End.{mark_action}
+use Rattle.access.proofs.LoopLaws.{run_start, run_again}
+use Rattle.list_end.proofs.EndLaws.{mark-action_law, mark_built_law}
+use Rattle.list_end.proofs.end.mark_built.Goals as goal
+
+pub loop-i-init : goal.loop-i-init
+loop-i-init c = (search rules, refl, run_start _ _ _)
+
+pub loop-i-preserved : goal.loop-i-preserved
+loop-i-preserved c =
+    (search rules, search rules, run_again _ _ _ _ _ _ (omega arith) c.loop-i.invariant.2 (mark-action_law _ _ _ _ _ _ _ _ c.place-at.ensures c.get.ensures c.get-in-loop-i.ensures c.mark_build.ensures))
+
+pub returns : goal.returns
+returns c = mark_built_law _ _ _ _ _ _ (omega arith) c.loop-i.invariant.2

@@ -1,0 +1,12 @@
+use Rattle.std.proofs.Common.{◌≡◌, ◌-◌, ◌≤◌, length, refl, arith, rules}
+use Rattle.access.specs.Loops.{run}
+use Rattle.list_end.specs.End.{mark_action}
+use Rattle.access.proofs.LoopLaws.{run_start, run_again}
+use Rattle.list_end.proofs.EndLaws.{mark-action_law, mark_built_law}
+use Rattle.list_end.proofs.end.mark_built.Given as goal
+
+abbrev pub invariant-loop-i : goal.invariant-loop-i
+invariant-loop-i l = (l.i ≤ l.count) × (length l.built ≡ length l.initial.built) × (run (l.count - l.i) l.i (mark_action l.actions l.base) l.built ≡ run l.count 0 (mark_action l.actions l.base) l.initial.built)
+
+abbrev pub decreases-loop-i : goal.decreases-loop-i
+decreases-loop-i l = l.count - l.i

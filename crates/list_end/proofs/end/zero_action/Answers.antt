@@ -1,0 +1,16 @@
+use Rattle.std.proofs.Common.{◌≡◌, ◌-◌, ◌≤◌, length, refl, arith, rules}
+use Rattle.access.specs.Loops.{run}
+use Rattle.list_values.specs.Values.{zero_word}
+use Rattle.access.proofs.LoopLaws.{run_again}
+use Rattle.list_end.proofs.EndLaws.{zero_action_law}
+use Rattle.list_end.proofs.end.zero_action.Goals as goal
+
+pub loop-i-init : goal.loop-i-init
+loop-i-init c = (search rules, refl, refl)
+
+pub loop-i-preserved : goal.loop-i-preserved
+loop-i-preserved c =
+    (search rules, search rules, run_again _ _ _ _ _ _ (omega arith) c.loop-i.invariant.2 c.put.ensures)
+
+pub returns : goal.returns
+returns c = zero_action_law _ _ _ _ (omega arith) c.loop-i.invariant.2
