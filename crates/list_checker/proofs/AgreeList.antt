@@ -160,6 +160,8 @@ spread true true true true za zr = refl
 rows_agree : (t s p n : ℕ) (ws : List ℕ) (found : List SemanticAction) → Reads n ws found → 24 * n ≤ length ws →
     (same_numbers ws (filled (length ws) (list_words found)) && (all (layout_fits t s) found && all (sizes_hold p) found)) ≡ (rows_fit t s p n ws && zeros (drop (24 * n) ws))
 unfolding list_words all rows_fit right or_else and_then
+rows_agree t s p zero ws (a ∷ rest) x4 h = elim x4 [ ]
+rows_agree t s p (suc n) ws [] x4 h = elim x4 [ ]
 rows_agree t s p zero ws [] end h = rw (same-zeros ws) (and_true (zeros ws))
 rows_agree t s p (suc n) ws (a ∷ rest) (more e r) h =
     let l : length (drop 24 ws) ≡ length ws - 24 = length-drop 24 ws in
@@ -216,6 +218,8 @@ fresh_zeros n (a ∷ rest) = rw (zeros_at n a.number, fresh_zeros n rest) (go (p
 
 labels-agree : (n : ℕ) (ws : List ℕ) (found : List SemanticAction) → Reads n ws found → small found ≡ true → (seen : List ℕ) → length seen ≡ 256 → labels_new n ws seen ≡ (labels_once found && fresh found seen)
 unfolding labels_new labels_once fresh small note_label when_new if◌then◌else◌
+labels-agree zero ws (a ∷ rest) x6 q seen h = elim x6 [ ]
+labels-agree (suc n) ws [] x5 q seen h = elim x5 [ ]
 labels-agree zero ws [] end q seen h = refl
 labels-agree (suc n) ws (a ∷ rest) (more e r) q seen h =
     let m = marked (take 24 ws) a e in
@@ -251,6 +255,8 @@ label-below t s p ws h l =
 
 labels-small : (t s p n : ℕ) (ws : List ℕ) (found : List SemanticAction) → Reads n ws found → rows_fit t s p n ws ≡ true → small found ≡ true
 unfolding rows_fit small if◌then◌else◌ places_label
+labels-small t s p zero ws (a ∷ rest) x4 h = elim x4 [ ]
+labels-small t s p (suc n) ws [] x4 h = elim x4 [ ]
 labels-small t s p zero ws [] end h = refl
 labels-small t s p (suc n) ws (a ∷ rest) (more e r) h =
     let m = marked (take 24 ws) a e in
@@ -266,6 +272,8 @@ labels-small t s p (suc n) ws (a ∷ rest) (more e r) h =
 
 any_builds_lem : (i n : ℕ) (ws : List ℕ) (found : List SemanticAction) → Reads n ws found → any (builds i) found ≡ any_builds i n ws
 unfolding any any_builds
+any_builds_lem i zero ws (a ∷ rest) x'' = elim x'' [ ]
+any_builds_lem i (suc n) ws [] x3 = elim x3 [ ]
 any_builds_lem i zero ws [] end = refl
 any_builds_lem i (suc n) ws (a ∷ rest) (more e r) = rw ((marked (take 24 ws) a e).built i, any_builds_lem i n (drop 24 ws) rest r)
 

@@ -1,5 +1,6 @@
 use Prim.Native.Nat.{◌-◌, ◌*◌, ◌+◌, ◌≤◌}
-use mathlib.Core.Path.{◌≡◌}
+use mathlib.Core.Path.{◌≡◌, ap}
+use mathlib.Core.Bool.{not}
 use lib.ListN.{length, get_or, drop}
 use Rattle.list_checker.specs.Action.{values_fit, inputs_fit}
 use Rattle.list_checker.proofs.FitLaws.{input_laws, fit_more}
@@ -36,7 +37,7 @@ loop-i-smaller c = search (input_laws, rules)
 
 pub loop-i-preserved : goal.loop-i-preserved
 loop-i-preserved c =
-    (omega arith, (c.loop-i.invariant.1.0, (c.loop-i.invariant.1.1.0, fit_more c.args.action.now c.loop-i.i _ _ _ _ _ (omega arith) c.value_fits.ensures c.if-not-value_fits.false c.loop-i.invariant.1.1.1)))
+    (omega arith, (c.loop-i.invariant.1.0, (c.loop-i.invariant.1.1.0, fit_more c.args.action.now c.loop-i.i _ _ _ _ _ (omega arith) c.value_fits.ensures (ap not c.if-not-value_fits.false) c.loop-i.invariant.1.1.1)))
 
 pub zeros-requires : goal.zeros-requires
 zeros-requires c = search (input_laws, rules)

@@ -1,0 +1,30 @@
+use Rattle.std.proofs.Common.{rules}
+use Rattle.expr_scope.proofs.SymbolLaws.{symbol_laws}
+use Rattle.expr_scope.proofs.symbols.lookup.Goals as goal
+
+pub get_u16-g-requires : goal.get_u16-g-requires
+get_u16-g-requires c = search (symbol_laws, rules)
+
+pub returns-then-g-eq0 : goal.returns-then-g-eq0
+returns-then-g-eq0 c = search (symbol_laws, rules)
+
+pub returns-in-0 : goal.returns-in-0
+returns-in-0 c = search (symbol_laws, rules)
+
+pub returns-in-1 : goal.returns-in-1
+returns-in-1 c = search (symbol_laws, rules)
+
+pub returns-in-2 : goal.returns-in-2
+returns-in-2 c = search (symbol_laws, rules)
+
+pub returns-in-3 : goal.returns-in-3
+returns-in-3 c = search (symbol_laws, rules)
+
+pub returns-in-4 : goal.returns-in-4
+returns-in-4 c = search (symbol_laws, rules)
+
+pub returns-in-5 : goal.returns-in-5
+returns-in-5 c = search (symbol_laws, rules)
+
+pub returns-in_default : goal.returns-in_default
+returns-in_default c = search (symbol_laws, rules)
