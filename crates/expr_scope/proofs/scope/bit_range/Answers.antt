@@ -2,6 +2,9 @@ use Rattle.std.proofs.Common.{rules}
 use Rattle.expr_scope.proofs.ScopeLaws.{scope_laws}
 use Rattle.expr_scope.proofs.scope.bit_range.Goals as goal
 
+pub overflow_mul-index : goal.overflow_mul-index
+overflow_mul-index c = search (scope_laws, rules)
+
 pub entry-at-requires : goal.entry-at-requires
 entry-at-requires c = search (scope_laws, rules)
 

@@ -9,6 +9,18 @@ lookup-requires c = search (plain_laws, rules)
 pub enum_known-i : goal.enum_known-i
 enum_known-i c = search (plain_laws, rules)
 
+pub overflow_add-result : goal.overflow_add-result
+overflow_add-result c =
+    let l = register-small _ _ _ c.lookup.ensures c.in-Register.i c.in-Register.is in omega arith
+
+pub overflow_mul-result : goal.overflow_mul-result
+overflow_mul-result c =
+    let l = register-small _ _ _ c.lookup.ensures c.in-Register.i c.in-Register.is in omega arith
+
+pub overflow_add-result-in-Register : goal.overflow_add-result-in-Register
+overflow_add-result-in-Register c =
+    let l = register-small _ _ _ c.lookup.ensures c.in-Register.i c.in-Register.is in omega arith
+
 pub enum_told-1 : goal.enum_told-1
 enum_told-1 c = search (plain_laws, rules)
 

@@ -8,5 +8,11 @@ small-k-requires c = search (plain_laws, rules)
 pub returns-then-k-eq0 : goal.returns-then-k-eq0
 returns-then-k-eq0 c = search (plain_laws, rules)
 
+pub overflow_mul-result : goal.overflow_mul-result
+overflow_mul-result c = search (plain_laws, rules)
+
+pub overflow_add-result : goal.overflow_add-result
+overflow_add-result c = search (plain_laws, rules)
+
 pub returns : goal.returns
 returns c = search (plain_laws, rules)

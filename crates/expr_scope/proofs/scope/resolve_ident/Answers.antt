@@ -5,6 +5,9 @@ use Rattle.expr_scope.proofs.scope.resolve_ident.Goals as goal
 pub find_param-i-requires : goal.find_param-i-requires
 find_param-i-requires c = search (scope_laws, rules)
 
+pub overflow_sub-i : goal.overflow_sub-i
+overflow_sub-i c = search (scope_laws, rules)
+
 pub param_place-requires : goal.param_place-requires
 param_place-requires c = search (scope_laws, rules)
 
@@ -19,6 +22,9 @@ returns-then-i-gt0 c = search (scope_laws, rules)
 
 pub plain_inner-q-requires : goal.plain_inner-q-requires
 plain_inner-q-requires c = search (scope_laws, rules)
+
+pub overflow_sub-q : goal.overflow_sub-q
+overflow_sub-q c = search (scope_laws, rules)
 
 pub local-requires : goal.local-requires
 local-requires c = search (scope_laws, rules)

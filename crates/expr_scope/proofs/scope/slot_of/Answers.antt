@@ -26,6 +26,12 @@ one_value-requires-in-Const c = search (slot_laws, rules)
 pub enum_known-expr-in-Apply-1 : goal.enum_known-expr-in-Apply-1
 enum_known-expr-in-Apply-1 c = search (slot_laws, rules)
 
+pub overflow_mul-result : goal.overflow_mul-result
+overflow_mul-result c = search (slot_laws, rules)
+
+pub overflow_add-result : goal.overflow_add-result
+overflow_add-result c = search (slot_laws, rules)
+
 pub enum_known-expr-in-RamRef-1 : goal.enum_known-expr-in-RamRef-1
 enum_known-expr-in-RamRef-1 c = search (slot_laws, rules)
 

@@ -2,6 +2,9 @@ use Rattle.std.proofs.Common.{rules}
 use Rattle.expr_scope.proofs.SmallLaws.{small_laws}
 use Rattle.expr_scope.proofs.smalls.put_small.Goals as goal
 
+pub overflow_add-at : goal.overflow_add-at
+overflow_add-at c = search (small_laws, rules)
+
 pub get-word-requires : goal.get-word-requires
 get-word-requires c = search (small_laws, rules)
 
