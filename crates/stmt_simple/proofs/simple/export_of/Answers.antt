@@ -1,0 +1,12 @@
+use Rattle.std.proofs.Common.{rules}
+use Rattle.stmt_simple.proofs.SimpleLaws.{simple_laws}
+use Rattle.stmt_simple.proofs.simple.export_of.Goals as goal
+
+pub returns-in-RamRef : goal.returns-in-RamRef
+returns-in-RamRef c = search (simple_laws, rules)
+
+pub returns-in-RegisterRef : goal.returns-in-RegisterRef
+returns-in-RegisterRef c = search (simple_laws, rules)
+
+pub returns-in_default : goal.returns-in_default
+returns-in_default c = search (simple_laws, rules)
