@@ -302,6 +302,7 @@ module _ (s t : List ℕ) (e : Env) (p front tail rest : List ℕ) (we : WordEnv
   -- an operation on a value and an operand
   apply_second : (op : Operation) → Applies2 op → (v : Value) (end mid next : ℕ) → later end mid ≡ next → (st : State) → Sound e.section (count st) v → (y : OperandOut) (o : Outcome Value) → Gives mid st y o
       → Answers next st (applied_to y (apply2 (operation_number op) (enc_v v) end)) (on e o λ right. λ e1 st1. done (ExprValue.Apply op 0 (v ∷ right ∷ [])) st1)
+  unfolding seen_operand applied_to apply2 seen_expr
   apply_second op ok v end mid next q st h y o r =
       bind e.section front tail rest spare spare e st (λ (v : Value). (enc_v v, mid)) (Sound e.section) seen_expr (λ (x : ExprValue). (enc_x x, next)) (SoundX e.section) (λ right. λ e1 st1. done (ExprValue.Apply op 0 (v ∷ right ∷ [])) st1)
       (seen_operand y) o (applied_to y (apply2 (operation_number op) (enc_v v) end)) (λ u st1 a m. resolved (Expr.Value (later end u.1) (WordExpr.Apply (operation_number op) 0 2 (enc_v v) u.0) st1) a m) r
@@ -309,12 +310,12 @@ module _ (s t : List ℕ) (e : Env) (p front tail rest : List ℕ) (we : WordEnv
       (go y) (stop y)
     where
       go : (y : OperandOut) (u : WordValue × ℕ) (st1 : WordState) (a m : List ℕ) → seen_operand y ≡ yes u st1 a m → seen_expr (applied_to y (apply2 (operation_number op) (enc_v v) end)) ≡ seen_expr (resolved (Expr.Value (later end u.1) (WordExpr.Apply (operation_number op) 0 2 (enc_v v) u.0) st1) a m)
-      go (operand (Operand.Value z n st2) b w) u st1 a m q = unfold seen_operand applied_to apply2 in (let i : (z, n) ≡ u = cc in let j : st2 ≡ st1 = cc in let k : b ≡ a = cc in let l : w ≡ m = cc in rw (← i, j, k, l))
-      go (operand (Operand.No n) b w) u st1 a m q = unfold seen_operand in (let z : ◌≡◌ {A = ℕ} 0 1 = cc in absurd (omega arith))
+      go (operand (Operand.Value z n st2) b w) u st1 a m q = (let i : (z, n) ≡ u = cc in let j : st2 ≡ st1 = cc in let k : b ≡ a = cc in let l : w ≡ m = cc in rw (← i, j, k, l))
+      go (operand (Operand.No n) b w) u st1 a m q = (let z : ◌≡◌ {A = ℕ} 0 1 = cc in absurd (omega arith))
 
       stop : (y : OperandOut) (n : ℕ) → seen_operand y ≡ no n → seen_expr (applied_to y (apply2 (operation_number op) (enc_v v) end)) ≡ no n
-      stop (operand (Operand.Value z k st2) b w) n q = unfold seen_operand in (let z : ◌≡◌ {A = ℕ} 0 1 = cc in absurd (omega arith))
-      stop (operand (Operand.No k) b w) n q = unfold seen_operand applied_to apply2 seen_expr in (let i : k ≡ n = cc in rw i)
+      stop (operand (Operand.Value z k st2) b w) n q = (let z : ◌≡◌ {A = ℕ} 0 1 = cc in absurd (omega arith))
+      stop (operand (Operand.No k) b w) n q = (let i : k ≡ n = cc in rw i)
 
   -- one operand after the other
   both : (deep : ℕ) → Resolves deep → (op : Operation) → Applies2 op → (first : ℕ) (x : PcodeExpr) (end : ℕ) → ReadAt deep first x end → end ≤ length s → (second : ℕ) (y : PcodeExpr) (mid : ℕ) → ReadAt deep second y mid → mid ≤ length s → (next : ℕ) → later end mid ≡ next
@@ -358,6 +359,7 @@ module _ (s t : List ℕ) (e : Env) (p front tail rest : List ℕ) (we : WordEnv
   -- a built-in function of one argument
   apply_first : (op : Operation) → ((v : Value) → Applies op (v ∷ [])) → (next : ℕ) (st : State) (y : OperandOut) (o : Outcome Value) → Gives next st y o
       → Answers next st (applied_to y (apply1 (operation_number op))) (on e o λ v. λ e1 st1. done (ExprValue.Apply op 0 (v ∷ [])) st1)
+  unfolding seen_operand applied_to apply1 seen_expr
   apply_first op ok next st y o r =
       bind e.section front tail rest spare spare e st (λ (v : Value). (enc_v v, next)) (Sound e.section) seen_expr (λ (x : ExprValue). (enc_x x, next)) (SoundX e.section) (λ v. λ e1 st1. done (ExprValue.Apply op 0 (v ∷ [])) st1)
       (seen_operand y) o (applied_to y (apply1 (operation_number op))) (λ u st1 a m. resolved (Expr.Value u.1 (WordExpr.Apply (operation_number op) 0 1 u.0 absent) st1) a m) r
@@ -365,12 +367,12 @@ module _ (s t : List ℕ) (e : Env) (p front tail rest : List ℕ) (we : WordEnv
       (go y) (stop y)
     where
       go : (y : OperandOut) (u : WordValue × ℕ) (st1 : WordState) (a m : List ℕ) → seen_operand y ≡ yes u st1 a m → seen_expr (applied_to y (apply1 (operation_number op))) ≡ seen_expr (resolved (Expr.Value u.1 (WordExpr.Apply (operation_number op) 0 1 u.0 absent) st1) a m)
-      go (operand (Operand.Value z n st2) b w) u st1 a m q = unfold seen_operand applied_to apply1 in (let i : (z, n) ≡ u = cc in let j : st2 ≡ st1 = cc in let k : b ≡ a = cc in let l : w ≡ m = cc in rw (← i, j, k, l))
-      go (operand (Operand.No n) b w) u st1 a m q = unfold seen_operand in (let z : ◌≡◌ {A = ℕ} 0 1 = cc in absurd (omega arith))
+      go (operand (Operand.Value z n st2) b w) u st1 a m q = (let i : (z, n) ≡ u = cc in let j : st2 ≡ st1 = cc in let k : b ≡ a = cc in let l : w ≡ m = cc in rw (← i, j, k, l))
+      go (operand (Operand.No n) b w) u st1 a m q = (let z : ◌≡◌ {A = ℕ} 0 1 = cc in absurd (omega arith))
 
       stop : (y : OperandOut) (n : ℕ) → seen_operand y ≡ no n → seen_expr (applied_to y (apply1 (operation_number op))) ≡ no n
-      stop (operand (Operand.Value z k st2) b w) n q = unfold seen_operand in (let z : ◌≡◌ {A = ℕ} 0 1 = cc in absurd (omega arith))
-      stop (operand (Operand.No k) b w) n q = unfold seen_operand applied_to apply1 seen_expr in (let i : k ≡ n = cc in rw i)
+      stop (operand (Operand.Value z k st2) b w) n q = (let z : ◌≡◌ {A = ℕ} 0 1 = cc in absurd (omega arith))
+      stop (operand (Operand.No k) b w) n q = (let i : k ≡ n = cc in rw i)
 
   later_second : (a b : ℕ) → a ≤ b → later a b ≡ b
   unfolding later if◌then◌else◌

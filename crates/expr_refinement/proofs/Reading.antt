@@ -180,7 +180,7 @@ module _ (s t : List ℕ) (e : Env) (front tail rest : List ℕ) (we : WordEnv) 
 
   pub read_slice_lem : (st : State) → Stands st → (v : Value) (from bits : ℕ) (to : Option Value) → Sound e.section (count st) v → bits ≤ 16384 → EachOption (Sound e.section (count st)) to
       → Reads st (read_slice s t (A st) (M st) we (enc_v v) from bits (is_some to) (to_of to) (W st)) (d.read_slice v from bits to e st)
-  unfolding read_slice d.read_slice part_of
+  unfolding read_slice d.read_slice part_of if◌then◌else◌ base_opens
   read_slice_lem st f v from bits to h l g =
       bind_read e.section front tail rest spare spare e st (Sound e.section) seen_read enc_v (Sound e.section) (d.copy_to to) enc_v _ _ _ _
       (rw (aligned_is from bits) (go (d.byte_aligned from bits))) (λ n a m. unfold seen_read in refl)
@@ -188,13 +188,14 @@ module _ (s t : List ℕ) (e : Env) (front tail rest : List ℕ) (we : WordEnv) 
     where
       go : (b : Bool) → Reads st (if b then read (sliced (enc_v v) (from / 8) (bits / 8) (W st)) (A st) (M st) else shift_and_mask s t (A st) (M st) we (enc_v v) from bits (W st))
           ((definition.if◌then◌else◌ b (w.sliced (from / 8) (bits / 8) v) (d.shift_and_mask v from bits)) e st)
-      go true = unfold if◌then◌else◌ base_opens in slice st f v (from / 8) (bits / 8) h (omega arith)
-      go false = unfold if◌then◌else◌ base_opens in shift_and_mask_lem st f v from bits h l
+      go true = slice st f v (from / 8) (bits / 8) h (omega arith)
+      go false = shift_and_mask_lem st f v from bits h l
 
   -- an action pushed, and the output that it was given
   pushed_out_lem : (from : State) (a m : List ℕ) (kind n : ℕ) (x : WordValue) (wst : WordState) (o : Outcome (Unit {0})) (v : Value)
       → Refines e.section front tail rest spare from (λ _. tt {0}) (λ n (_ : Unit {0}). Unit {0}) (seen_push m (push a kind 0 n 1 (enc_v v) x absent wst)) o → Sound e.section (count from) v
       → Reads from (pushed_out (push a kind 0 n 1 (enc_v v) x absent wst) (enc_v v) m) (on e o (λ _. λ e1 st1. done v st1))
+  unfolding seen_push seen_read pushed_out pushed_to
   pushed_out_lem from a m kind n x wst o v r g =
       bind e.section front tail rest spare spare e from (λ _. tt {0}) (λ n (_ : Unit {0}). Unit {0}) seen_read enc_v (Sound e.section) (λ _. λ e1 st1. done v st1)
       (seen_push m (push a kind 0 n 1 (enc_v v) x absent wst)) o (pushed_out (push a kind 0 n 1 (enc_v v) x absent wst) (enc_v v) m) (λ _ st1 b u. read (Read.Value (enc_v v) st1) b u) r
@@ -202,12 +203,12 @@ module _ (s t : List ℕ) (e : Env) (front tail rest : List ℕ) (we : WordEnv) 
       (go (push a kind 0 n 1 (enc_v v) x absent wst)) (stop (push a kind 0 n 1 (enc_v v) x absent wst))
     where
       go : (y : Listed Pushed) (z : Unit {0}) (st1 : WordState) (b u : List ℕ) → seen_push m y ≡ yes z st1 b u → seen_read (pushed_out y (enc_v v) m) ≡ seen_read (read (Read.Value (enc_v v) st1) b u)
-      go (listed (Pushed.Done st2) c) z st1 b u h = unfold seen_push seen_read pushed_out pushed_to in (let p : st2 ≡ st1 = cc in let q : c ≡ b = cc in let r : m ≡ u = cc in rw (p, q, r))
-      go (listed (Pushed.No k) c) z st1 b u h = unfold seen_push in (let q : ◌≡◌ {A = ℕ} 0 1 = cc in absurd (omega arith))
+      go (listed (Pushed.Done st2) c) z st1 b u h = (let p : st2 ≡ st1 = cc in let q : c ≡ b = cc in let r : m ≡ u = cc in rw (p, q, r))
+      go (listed (Pushed.No k) c) z st1 b u h = (let q : ◌≡◌ {A = ℕ} 0 1 = cc in absurd (omega arith))
 
       stop : (y : Listed Pushed) (k : ℕ) → seen_push m y ≡ no k → seen_read (pushed_out y (enc_v v) m) ≡ no k
-      stop (listed (Pushed.Done st2) c) k h = unfold seen_push in (let q : ◌≡◌ {A = ℕ} 0 1 = cc in absurd (omega arith))
-      stop (listed (Pushed.No j) c) k h = unfold seen_push seen_read pushed_out pushed_to in (let p : j ≡ k = cc in rw p)
+      stop (listed (Pushed.Done st2) c) k h = (let q : ◌≡◌ {A = ℕ} 0 1 = cc in absurd (omega arith))
+      stop (listed (Pushed.No j) c) k h = (let p : j ≡ k = cc in rw p)
 
   pub read_address_lem : (st : State) → Stands st → (base : Value) (size : Option ℕ) (to : Option Value) → Sound e.section (count st) base → Small size → EachOption (Sound e.section (count st)) to
       → Reads st (read_address (A st) (M st) (enc_v base) (or_none size) (is_some to) (to_of to) (W st)) (d.read_value (ExprValue.AddressOf base size) to e st)
@@ -226,7 +227,7 @@ module _ (s t : List ℕ) (e : Env) (front tail rest : List ℕ) (we : WordEnv) 
 
   pub read_ram : (st : State) → Stands st → (pointer : Value) (size : ℕ) (to : Option Value) → Sound e.section (count st) pointer → size < 65535 → EachOption (Sound e.section (count st)) to
       → Reads st (load s t (A st) (M st) we (enc_v pointer) size (is_some to) (to_of to) (W st)) (d.read_value (ExprValue.RamRef pointer size) to e st)
-  unfolding load d.read_value
+  unfolding load d.read_value seen_stated load_to
   read_ram st f pointer size to h l g =
       bind_tmp e.section front tail rest spare spare e st (Sound e.section) seen_read enc_v (Sound e.section) _ enc_v (A st) _ _
       (λ v st1 a m. load_to s t a we (enc_v pointer) (take_stated s t m v size st1)) _
@@ -241,17 +242,17 @@ module _ (s t : List ℕ) (e : Env) (front tail rest : List ℕ) (we : WordEnv) 
       (go (A st1) (take_stated s t (M st1) (enc_v v) size (W st1))) (stop (A st1) (take_stated s t (M st1) (enc_v v) size (W st1)))
     where
       go : (c : List ℕ) (x : Listed Stated) (u : WordValue) (st2 : WordState) (a m : List ℕ) → seen_stated c x ≡ yes u st2 a m → seen_read (load_to s t c we (enc_v pointer) x) ≡ seen_read (op_to s t a m we 58 0 1 u (enc_v pointer) absent st2)
-      go c (listed out b) u st2 a m q = unfold seen_stated load_to in (let p : out.v ≡ u = cc in let r : out.st ≡ st2 = cc in let i : c ≡ a = cc in let j : b ≡ m = cc in rw (p, r, i, j))
+      go c (listed out b) u st2 a m q = (let p : out.v ≡ u = cc in let r : out.st ≡ st2 = cc in let i : c ≡ a = cc in let j : b ≡ m = cc in rw (p, r, i, j))
 
       stop : (c : List ℕ) (x : Listed Stated) (k : ℕ) → seen_stated c x ≡ no k → seen_read (load_to s t c we (enc_v pointer) x) ≡ no k
-      stop c (listed out b) k q = unfold seen_stated in (let z : ◌≡◌ {A = ℕ} 0 1 = cc in absurd (omega arith))
+      stop c (listed out b) k q = (let z : ◌≡◌ {A = ℕ} 0 1 = cc in absurd (omega arith))
 
   abbrev loading : Value → ℕ → Value → SemanticAction
   loading pointer size out = record { kind = ActionKind.LoadRegister; number = size; inputs = pointer ∷ []; output = some out }
 
   pub read-register : (st : State) → Stands st → (pointer : Value) (size : ℕ) (to : Option Value) → Sound e.section (count st) pointer → size < 65535 → EachOption (Sound e.section (count st)) to
       → Reads st (load_register s t (A st) (M st) (enc_v pointer) size (is_some to) (to_of to) (W st)) (d.read_value (ExprValue.RegisterRef pointer size) to e st)
-  unfolding load_register d.read_value
+  unfolding load_register d.read_value seen_stated load_register_to
   read-register st f pointer size to h l g =
       bind_tmp e.section front tail rest spare spare e st (Sound e.section) seen_read enc_v (Sound e.section) _ enc_v (A st) _ _
       (λ v st1 a m. load_register_to a (enc_v pointer) size (set_stated s t m v size st1)) _
@@ -268,10 +269,10 @@ module _ (s t : List ℕ) (e : Env) (front tail rest : List ℕ) (we : WordEnv) 
       (go (A st1) (set_stated s t (M st1) (enc_v v) size (W st1))) (stop (A st1) (set_stated s t (M st1) (enc_v v) size (W st1)))
     where
       go : (c : List ℕ) (x : Listed Stated) (u : WordValue) (st2 : WordState) (a m : List ℕ) → seen_stated c x ≡ yes u st2 a m → seen_read (load_register_to c (enc_v pointer) size x) ≡ seen_read (pushed_out (push a 2 0 size 1 u (enc_v pointer) absent st2) u m)
-      go c (listed out b) u st2 a m q = unfold seen_stated load_register_to in (let p : out.v ≡ u = cc in let r : out.st ≡ st2 = cc in let i : c ≡ a = cc in let j : b ≡ m = cc in rw (p, r, i, j))
+      go c (listed out b) u st2 a m q = (let p : out.v ≡ u = cc in let r : out.st ≡ st2 = cc in let i : c ≡ a = cc in let j : b ≡ m = cc in rw (p, r, i, j))
 
       stop : (c : List ℕ) (x : Listed Stated) (k : ℕ) → seen_stated c x ≡ no k → seen_read (load_register_to c (enc_v pointer) size x) ≡ no k
-      stop c (listed out b) k q = unfold seen_stated in (let z : ◌≡◌ {A = ℕ} 0 1 = cc in absurd (omega arith))
+      stop c (listed out b) k q = (let z : ◌≡◌ {A = ℕ} 0 1 = cc in absurd (omega arith))
 
   -- what an expression means, in the output where one is given
   pub read_value_lem : (st : State) → Stands st → (x : ExprValue) (to : Option Value) → SoundX e.section (count st) x → EachOption (Sound e.section (count st)) to

@@ -65,17 +65,17 @@ export-read : (s t a m : List ℕ) (e : Env) (x : ExprValue) (next : ℕ) (st : 
 unfolding export_read step_read
 export-read s t a m e x next st w r a1 m1 z f h = rw (← f, h)
 
-pub export_other : (s t a m : List ℕ) (e : Env) (x : ExprValue) (next : ℕ) (st : State) (w : Walk) (r : Read) (a1 m1 : List ℕ) (z : Step) → OneOf (0 ∷ 1 ∷ 2 ∷ 3 ∷ 6 ∷ 7 ∷ []) (tag_of expr_value.the_type x) →
+pub export_other : (s t a m : List ℕ) (e : Env) (x : ExprValue) (next : ℕ) (st : State) (w : Walk) (r : Read) (a1 m1 : List ℕ) (z : Step) → ((v : Value) (size : ℕ) → x ≡ ExprValue.RamRef v size → ⊥) → ((v : Value) (size : ℕ) → x ≡ ExprValue.RegisterRef v size → ⊥) →
     read r a1 m1 ≡ read_operand s t a m e x st → z ≡ export_value next w r → stepped z a1 m1 ≡ export_of s t a m e x next st w
 unfolding export_of
-export_other s t a m e (ExprValue.RamRef v size) next st w r a1 m1 z o f h = absurd (miss (0 ∷ 1 ∷ 2 ∷ 3 ∷ 6 ∷ 7 ∷ []) 4 tt o)
-export_other s t a m e (ExprValue.RegisterRef v size) next st w r a1 m1 z o f h = absurd (miss (0 ∷ 1 ∷ 2 ∷ 3 ∷ 6 ∷ 7 ∷ []) 5 tt o)
-export_other s t a m e (ExprValue.Local v) next st w r a1 m1 z o f h = export-read s t a m e (ExprValue.Local v) next st w r a1 m1 z f h
-export_other s t a m e (ExprValue.Unbound v) next st w r a1 m1 z o f h = export-read s t a m e (ExprValue.Unbound v) next st w r a1 m1 z f h
-export_other s t a m e (ExprValue.Const n k) next st w r a1 m1 z o f h = export-read s t a m e (ExprValue.Const n k) next st w r a1 m1 z f h
-export_other s t a m e (ExprValue.Apply op n c x y) next st w r a1 m1 z o f h = export-read s t a m e (ExprValue.Apply op n c x y) next st w r a1 m1 z f h
-export_other s t a m e (ExprValue.AddressOf v k) next st w r a1 m1 z o f h = export-read s t a m e (ExprValue.AddressOf v k) next st w r a1 m1 z f h
-export_other s t a m e (ExprValue.BitRange v b c) next st w r a1 m1 z o f h = export-read s t a m e (ExprValue.BitRange v b c) next st w r a1 m1 z f h
+export_other s t a m e (ExprValue.RamRef v size) next st w r a1 m1 z p q f h = absurd (p v size refl)
+export_other s t a m e (ExprValue.RegisterRef v size) next st w r a1 m1 z p q f h = absurd (q v size refl)
+export_other s t a m e (ExprValue.Local v) next st w r a1 m1 z p q f h = export-read s t a m e (ExprValue.Local v) next st w r a1 m1 z f h
+export_other s t a m e (ExprValue.Unbound v) next st w r a1 m1 z p q f h = export-read s t a m e (ExprValue.Unbound v) next st w r a1 m1 z f h
+export_other s t a m e (ExprValue.Const n k) next st w r a1 m1 z p q f h = export-read s t a m e (ExprValue.Const n k) next st w r a1 m1 z f h
+export_other s t a m e (ExprValue.Apply op n c x y) next st w r a1 m1 z p q f h = export-read s t a m e (ExprValue.Apply op n c x y) next st w r a1 m1 z f h
+export_other s t a m e (ExprValue.AddressOf v k) next st w r a1 m1 z p q f h = export-read s t a m e (ExprValue.AddressOf v k) next st w r a1 m1 z f h
+export_other s t a m e (ExprValue.BitRange v b c) next st w r a1 m1 z p q f h = export-read s t a m e (ExprValue.BitRange v b c) next st w r a1 m1 z f h
 
 module _ (s t p a m : List ℕ) (e : Env) (pos : ℕ) (w : Walk) (at : ℕ) (ea : at ≡ after pos 1) (r : Expr) (a1 m1 : List ℕ) (f : resolved r a1 m1 ≡ resolve_expr 32 s t p e at a m w.st) where
   pub export_no : (n : ℕ) (z : Step) → r ≡ Expr.No n → z ≡ stop n w → stepped z a1 m1 ≡ export_statement s t p a m e pos w
@@ -166,4 +166,4 @@ module _ (s t a : List ℕ) (pos : ℕ) (w : Walk) (name : ℕ) (x : Symbol) (en
       go (Symbol.Macro i) o = unfold build_symbol in refl
       go (Symbol.Other i) o = unfold build_symbol in refl
 
-pub ruleset simple_laws = (unimplemented_law, export_value_no, export_value_yes, export_ram, export-register, export_other, export_no, export_yes, local_law, assign_no, assign_yes, assignment_no, assignment_yes, table_built, table-absent, build_undefined, build-wrong, build-named)
+pub ruleset simple_laws = (unimplemented_law, export_value_no, export_value_yes, export_ram, export-register, export_no, export_yes, local_law, assign_no, assign_yes, assignment_no, assignment_yes, table_built, table-absent, build_undefined, build-wrong, build-named)

@@ -20,7 +20,7 @@ returns-in-Undefined c =
 
 pub returns-in-Table : goal.returns-in-Table
 returns-in-Table c =
-    build-named _ _ _ _ _ _ _ c.u16_in.ensures c.lookup.ensures _ c.wanted-1.given.0.0 _ (search rules) c.build_table.ensures
+    build-named _ _ _ _ _ _ _ c.u16_in.ensures c.lookup.ensures _ c.in-Table.wanted _ (search rules) c.build_table.ensures
 
 pub returns-in_default : goal.returns-in_default
 returns-in_default c =
