@@ -89,7 +89,7 @@ module _ (s t : List ℕ) (e : Env) (front tail rest : List ℕ) (we : WordEnv) 
   -- read first, then sliced
   slice_read_lem : (st : State) → Stood e.section tail rest spare st → (from bits : ℕ) (x : ExprValue) → SoundX e.section (count st) x → bits ≤ 16384
       → Means st (slice_read s t (A st) (M st) we (enc_x x) from bits next (W st)) (d.slice_read from bits x e st)
-  unfolding slice_read d.slice_read
+  unfolding slice_read d.slice_read seen_read expr_of unbound_then seen_expr
   slice_read_lem st f from bits x h l =
       bind_read e.section front tail rest spare spare e st (Sound e.section) seen_expr (λ (x : ExprValue). (enc_x x, next)) (SoundX e.section) _ enc_v _ _ _ _
       (read-operand s t e front tail rest we below spare room st f x h) (λ n a m. unfold seen_expr in refl)
@@ -102,12 +102,12 @@ module _ (s t : List ℕ) (e : Env) (front tail rest : List ℕ) (we : WordEnv) 
       (go (read_slice s t (A st1) (M st1) we (enc_v v) from bits false absent (W st1))) (stop (read_slice s t (A st1) (M st1) we (enc_v v) from bits false absent (W st1)))
     where
       go : (y : ReadOut) (v : WordValue) (st1 : WordState) (a m : List ℕ) → seen_read y ≡ yes v st1 a m → seen_expr (expr_of y (unbound_then next)) ≡ seen_expr (resolved (Expr.Value next (WordExpr.Unbound v) st1) a m)
-      go (read (Read.Value u st2) b w) v st1 a m q = unfold seen_read expr_of unbound_then in (let i : u ≡ v = cc in let j : st2 ≡ st1 = cc in let k : b ≡ a = cc in let l : w ≡ m = cc in rw (i, j, k, l))
-      go (read (Read.No n) b w) v st1 a m q = unfold seen_read in (let z : ◌≡◌ {A = ℕ} 0 1 = cc in absurd (omega arith))
+      go (read (Read.Value u st2) b w) v st1 a m q = (let i : u ≡ v = cc in let j : st2 ≡ st1 = cc in let k : b ≡ a = cc in let l : w ≡ m = cc in rw (i, j, k, l))
+      go (read (Read.No n) b w) v st1 a m q = (let z : ◌≡◌ {A = ℕ} 0 1 = cc in absurd (omega arith))
 
       stop : (y : ReadOut) (n : ℕ) → seen_read y ≡ no n → seen_expr (expr_of y (unbound_then next)) ≡ no n
-      stop (read (Read.Value u st2) b w) n q = unfold seen_read in (let z : ◌≡◌ {A = ℕ} 0 1 = cc in absurd (omega arith))
-      stop (read (Read.No k) b w) n q = unfold seen_read expr_of unbound_then seen_expr in (let i : k ≡ n = cc in rw i)
+      stop (read (Read.Value u st2) b w) n q = (let z : ◌≡◌ {A = ℕ} 0 1 = cc in absurd (omega arith))
+      stop (read (Read.No k) b w) n q = (let i : k ≡ n = cc in rw i)
 
   pub slice_bits_lem : (st : State) → Stood e.section tail rest spare st → (from bits : ℕ) (x : ExprValue) → SoundX e.section (count st) x → from + bits ≤ 16384
       → Means st (slice_bits s t (A st) (M st) we (enc_x x) from bits next (W st)) (d.slice_bits from bits x e st)

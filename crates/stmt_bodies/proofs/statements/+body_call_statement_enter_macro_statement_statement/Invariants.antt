@@ -1,0 +1,26 @@
+use Rattle.std.proofs.Common.{◌≡◌, ℕ, ◌+◌, ◌-◌, ◌*◌, ◌<◌, length, arith, rules}
+use Rattle.stmt_bodies.specs.Statements.{enter_macro, resolve_statement, resolve_all, resolve_body}
+use Rattle.stmt_bodies.proofs.StatementLaws.{statement_laws, enter-body, bytes_fall, body_cut, body-next, call_none}
+use Rattle.stmt_bodies.proofs.statements.+body_call_statement_enter_macro_statement_statement.Given as goal
+
+abbrev pub decreases-body : goal.decreases-body
+decreases-body l = 5 * l.deep + 4
+
+abbrev pub decreases-call_statement : goal.decreases-call_statement
+decreases-call_statement l = 5 * l.deep + 2
+
+abbrev pub decreases-enter : goal.decreases-enter
+decreases-enter l = 5 * l.deep
+
+abbrev pub decreases-macro_statement : goal.decreases-macro_statement
+decreases-macro_statement l = 5 * l.deep + 1
+
+abbrev pub decreases-statement : goal.decreases-statement
+decreases-statement l = 5 * l.deep + 3
+
+abbrev pub invariant-body-loop-i : goal.invariant-body-loop-i
+invariant-body-loop-i l = (length l.scope ≡ length l.initial.scope) × (length l.actions ≡ length l.initial.actions) × (length l.temporaries ≡ length l.initial.temporaries)
+    × (resolve_all (resolve_statement (enter_macro l.deep l.stream l.table) l.stream l.table l.env) (length l.stream) (l.count - l.i) l.i l.ordinal l.at l.scope l.actions l.temporaries l.walk ≡ resolve_body l.deep l.stream l.table l.initial.scope l.initial.actions l.initial.temporaries l.env l.pos l.count l.ordinal l.initial.walk)
+
+abbrev pub decreases-body-loop-i : goal.decreases-body-loop-i
+decreases-body-loop-i l = length l.stream - l.at
