@@ -1,3 +1,5 @@
+use mathlib.Core.Path.{ap}
+use mathlib.Core.Bool.{not}
 use Rattle.std.proofs.Common.{◌≡◌, ℕ, ◌+◌, ◌-◌, ◌*◌, ◌<◌, length, arith, rules}
 use Rattle.stmt_bodies.specs.Statements.{enter_macro, resolve_statement, resolve_all, resolve_body}
 use Rattle.stmt_bodies.proofs.StatementLaws.{statement_laws, enter-body, bytes_fall, body_cut, body-next, call_none}
@@ -46,16 +48,16 @@ pub body-shape_of-temporaries-then-not-forward : goal.body-shape_of-temporaries-
 body-shape_of-temporaries-then-not-forward t c = search (c.loop-i.invariant.2, rules)
 
 pub body-returns-then-not-forward : goal.body-returns-then-not-forward
-body-returns-then-not-forward t c = body_cut _ _ _ _ _ _ _ _ _ _ _ c.loop-i.invariant.3 c.loop-i-test.true _ c.wrapping_add_u64-own.ensures _ _ _ _ c.statement.ensures c.next-1.given.0.0 c.next-1.given.0.1.0 (search rules) _ c.forward.ensures _ c.if-not-forward.true c.stop.ensures
+body-returns-then-not-forward t c = body_cut _ _ _ _ _ _ _ _ _ _ _ c.loop-i.invariant.3 c.loop-i-test.true _ c.wrapping_add_u64-own.ensures.value _ _ _ _ c.statement.ensures c.in-Next.next c.in-Next.w1 c.in-Next.is _ c.forward.ensures _ (ap not c.if-not-forward.true) c.stop.ensures
 
 pub body-overflow_add-i : goal.body-overflow_add-i
 body-overflow_add-i t c = omega (arith, c.loop-i-test.true, c.ranges)
 
 pub body-loop-i-smaller : goal.body-loop-i-smaller
-body-loop-i-smaller t c = bytes_fall _ _ _ _ c.forward.ensures c.if-not-forward.false
+body-loop-i-smaller t c = bytes_fall _ _ _ _ c.forward.ensures (ap not c.if-not-forward.false)
 
 pub body-loop-i-preserved : goal.body-loop-i-preserved
-body-loop-i-preserved t c = (search (c.loop-i.invariant.0, rules), search (c.loop-i.invariant.1, rules), search (c.loop-i.invariant.2, rules), body-next _ _ _ _ _ _ _ _ _ _ _ c.loop-i.invariant.3 c.loop-i-test.true _ c.wrapping_add_u64-own.ensures _ _ _ _ c.statement.ensures _ _ (search rules) _ c.forward.ensures c.if-not-forward.false)
+body-loop-i-preserved t c = (search (c.loop-i.invariant.0, rules), search (c.loop-i.invariant.1, rules), search (c.loop-i.invariant.2, rules), body-next _ _ _ _ _ _ _ _ _ _ _ c.loop-i.invariant.3 c.loop-i-test.true _ c.wrapping_add_u64-own.ensures.value _ _ _ _ c.statement.ensures _ _ (search rules) _ c.forward.ensures (ap not c.if-not-forward.false))
 
 pub body-shape_of-scope : goal.body-shape_of-scope
 body-shape_of-scope t c = search (statement_laws, rules)
@@ -127,7 +129,7 @@ pub call_statement-returns-in-Macro : goal.call_statement-returns-in-Macro
 call_statement-returns-in-Macro t c = search (statement_laws, rules)
 
 pub call_statement-returns-in-No : goal.call_statement-returns-in-No
-call_statement-returns-in-No t c = call_none _ _ _ _ _ _ _ _ _ _ _ _ c.byte-n.ensures c.u16_in.ensures c.Called-of.ensures _ c.k-1.given.0.0 (search rules) c.stop.ensures
+call_statement-returns-in-No t c = call_none _ _ _ _ _ _ _ _ _ _ _ _ c.byte-n.ensures c.u16_in.ensures c.called_of.ensures _ c.in-No.k c.in-No.is c.stop.ensures
 
 pub enter-stop-requires : goal.enter-stop-requires
 enter-stop-requires t c = search (statement_laws, rules)
