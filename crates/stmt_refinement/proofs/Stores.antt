@@ -72,7 +72,7 @@ module _ (s t : List ℕ) (e : Env) (front tail rest : List ℕ) (we : WordEnv) 
     -- a store in RAM
     pub store_is : (st : State) → Stands st → (pointer : Value) (size : ℕ) (v : Value) → size < 65535 → Sound e.section (count st) pointer → Sound e.section (count st) v
         → Ends st (store s t (A st) (M st) we (enc_v pointer) size (enc_v v) next (W st) w) (d.store size pointer v e st)
-    unfolding store d.store
+    unfolding store d.store seen_stated store_stated
     store_is st f pointer size v l h g =
         bind e.section front tail rest (suc spare) spare e st enc_v (Sound e.section) (seen_step (begun_in w)) (λ (_ : Unit {0}). (next, beside w)) (λ n (_ : Unit {0}). Unit {0}) (λ u. walks.op_no_output Operation.Store 0 (pointer ∷ u ∷ []))
         (seen_stated (A st) (take_stated s t (M st) (enc_v v) size (W st))) (expressions.take_stated size v e st) (store_stated s t (A st) we (enc_v pointer) next w (take_stated s t (M st) (enc_v v) size (W st)))
@@ -83,10 +83,10 @@ module _ (s t : List ℕ) (e : Env) (front tail rest : List ℕ) (we : WordEnv) 
         (go (A st) (take_stated s t (M st) (enc_v v) size (W st))) (stays (A st) (take_stated s t (M st) (enc_v v) size (W st)))
       where
         go : (c : List ℕ) (x : Listed Stated) (u : WordValue) (st2 : WordState) (a m : List ℕ) → seen_stated c x ≡ yes u st2 a m → seen_step (begun_in w) (store_stated s t c we (enc_v pointer) next w x) ≡ seen_step (begun_in w) (step_pushed (push_op s t a m we 59 0 2 no_output (enc_v pointer) u st2) (pushed_then next w))
-        go c (listed out y) u st2 a m q = unfold seen_stated store_stated in (let p : out.v ≡ u = cc in let r : out.st ≡ st2 = cc in let i : c ≡ a = cc in let j : y ≡ m = cc in rw (p, r, i, j))
+        go c (listed out y) u st2 a m q = (let p : out.v ≡ u = cc in let r : out.st ≡ st2 = cc in let i : c ≡ a = cc in let j : y ≡ m = cc in rw (p, r, i, j))
 
         stays : (c : List ℕ) (x : Listed Stated) (k : ℕ) → seen_stated c x ≡ no k → seen_step (begun_in w) (store_stated s t c we (enc_v pointer) next w x) ≡ no k
-        stays c (listed out y) k q = unfold seen_stated in (let z : ◌≡◌ {A = ℕ} 0 1 = cc in absurd (omega arith))
+        stays c (listed out y) k q = (let z : ◌≡◌ {A = ℕ} 0 1 = cc in absurd (omega arith))
 
     abbrev storing : ℕ → Value → Value → SemanticAction
     storing size pointer v = record { kind = ActionKind.StoreRegister; number = size; inputs = pointer ∷ v ∷ []; output = none }

@@ -1,0 +1,15 @@
+use Rattle.std.proofs.Common.{rules}
+use Rattle.resolve_file.proofs.FileLaws.{file_laws}
+use Rattle.resolve_file.proofs.resolve_words.Goals as goal
+
+pub returns-then-bad-ne0 : goal.returns-then-bad-ne0
+returns-then-bad-ne0 c = search (file_laws, rules)
+
+pub returns-then-file-eq512 : goal.returns-then-file-eq512
+returns-then-file-eq512 c = search (file_laws, rules)
+
+pub resolve_blocks-requires : goal.resolve_blocks-requires
+resolve_blocks-requires c = search (file_laws, rules)
+
+pub returns : goal.returns
+returns c = search (file_laws, rules)
