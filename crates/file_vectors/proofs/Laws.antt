@@ -1,18 +1,20 @@
--- The buffer that the payloads are joined in has room for them.
-use mathlib.Core.Path.{◌≡◌, sym, ◌∙◌}
-use mathlib.Core.List.{List}
-use Prim.Native.Nat.{ℕ, ◌*◌, ◌/◌, ◌≤◌}
-use lib.ListN.{length, take, replicate, length-replicate}
-use lib.Seq.{length-take-le}
-use Rattle.definition.specs.SectionFile.{stream_of}
+-- scratch
+use Rattle.std.proofs.Common.{◌≡◌, ℕ, ◌+◌, ◌*◌, ◌/◌, ◌%◌, ◌≤◌, Bool, true, false, ◌&&◌, List, length, refl, arith, ◌==◌}
+use borrow.Author.Tests.{leb-true}
+use lib.Dec.{eqb, leb}
+use Rattle.definition.specs.Refusals.{Refusal, refusal_number, bad_length, block_check}
+use Rattle.definition.specs.SectionFile.{Parsed, on, require, payloads, whole_blocks, stream_of}
 use Rattle.file_blocks.specs.Blocks.{refusal_of}
-use Rattle.file_refinement.proofs.FileTheorem.{checked_room}
 
-pub room : (file : List ℕ) (bad : ℕ) → bad ≡ refusal_of (stream_of file) → bad ≡ 0 → length file / 512 * 510 ≤ length {A = ℕ} (replicate 65280 0)
-room file bad e z = rw length-replicate (checked_room file (sym e ∙ z))
+bad_one : refusal_number bad_length ≡ 0 → ⊥
+unfolding refusal_number
+bad_one e = let z : ◌≡◌ {A = ℕ} 1 0 = e in omega arith
 
-pub enough : (file : List ℕ) (bad : ℕ) (b : List ℕ) → bad ≡ refusal_of (stream_of file) → bad ≡ 0 → length b ≡ length {A = ℕ} (replicate 65280 0) → length file / 512 * 510 ≤ length b
-enough file bad b e z h = rw h (room file bad e z)
-
-pub counted : (file : List ℕ) (bad : ℕ) (b : List ℕ) → bad ≡ refusal_of (stream_of file) → bad ≡ 0 → length b ≡ length {A = ℕ} (replicate 65280 0) → length file / 512 * 510 ≡ length (take (length file / 512 * 510) b)
-counted file bad b e z h = sym (length-take-le (length file / 512 * 510) b (enough file bad b e z h))
+pub checked_room : (file : List ℕ) → refusal_of (stream_of file) ≡ 0 → length file / 512 * 510 ≤ 65280
+unfolding stream_of whole_blocks on require refusal_of
+checked_room file e = go (leb 1 (length file)) (leb (length file) 65536) (eqb (length file % 512) 0) refl e
+  where
+    go : (a b c : Bool) → leb (length file) 65536 ≡ b → refusal_of (on (require (a && b && c) bad_length file) (λ _. payloads (length file / 512) 0)) ≡ 0 → length file / 512 * 510 ≤ 65280
+    go true true c f g = let m : length file ≤ 65536 = leb-true _ _ f in omega arith
+    go true false c f g = absurd (bad_one g)
+    go false b c f g = absurd (bad_one g)

@@ -6,7 +6,10 @@
 
 ghost use Rattle.std.specs.Prelude.{◌<◌};
 
-use libc::{STDIN_FILENO, STDOUT_FILENO};
+use std::io::{self, BufWriter, Read, Write};
+
+// So much of the input is read; zeros stand behind a shorter one.
+const INPUT: usize = 65536;
 
 fn put(file: &mut [u8; 65537], index: usize, value: u8) {
     if index < 65537 {
@@ -121,42 +124,46 @@ fn judge_file(file: &[u8; 65537], count: usize) -> u64 {
 }
 
 // The file of a description whose runs begin at a place, judged and written; where the next description begins.
-fn one(input: &[u8], at: usize, len: usize) -> usize {
+fn one<W: Write>(out: &mut W, input: &[u8], at: usize, len: usize) -> io::Result<usize> {
     let mut file = [0u8; 65537];
     let next = runs(input, further(at, 2), access::u16_at(input, at), &mut file);
     seal(&mut file, checked(len, access::byte(input, next, 0)));
     raise(&mut file, len % 65538, access::byte(input, next, 1));
-    io::print_decimal(STDOUT_FILENO, judge_file(&file, len % 65538));
-    further(next, 2)
+    write!(out, "{}", judge_file(&file, len % 65538))?;
+    Ok(further(next, 2))
 }
 
 // A description: the name, then the file.
-fn described(input: &[u8], at: usize) -> usize {
+fn described<W: Write>(out: &mut W, input: &[u8], at: usize) -> io::Result<usize> {
     let n = access::byte(input, at, 0);
     let from = further(at, 1);
     let to = further(from, n);
     if from <= to {
         if to <= input.len() {
-            io::write_all(STDOUT_FILENO, &input[from..to]);
+            out.write_all(&input[from..to])?;
         }
     }
-    io::write_all(STDOUT_FILENO, b" ");
+    out.write_all(b" ")?;
     let len = further(0, access::u32_at(input, to));
-    let next = one(input, further(to, 4), len);
-    io::write_all(STDOUT_FILENO, b"\n");
-    next
+    let next = one(out, input, further(to, 4), len)?;
+    out.write_all(b"\n")?;
+    Ok(next)
 }
 
-fn describe(input: &[u8]) {
+fn describe<W: Write>(out: &mut W, input: &[u8]) -> io::Result<()> {
     let n = access::u16_at(input, 0);
     let mut at: usize = 2;
     for i in 0..n {
-        at = described(input, at);
+        at = described(out, input, at)?;
     }
+    Ok(())
 }
 
-fn main() {
-    let mut input = io::large_buffer();
-    io::read_full(STDIN_FILENO, &mut input);
-    describe(&input);
+fn main(rt: HostRuntime) -> io::Result<()> {
+    let mut input = Vec::new(rt.alloc());
+    rt.reader().take(INPUT as u64).read_to_end(&mut input)?;
+    input.resize(INPUT, 0)?;
+    let mut out = BufWriter::new(rt.alloc(), io::writer(&rt))?;
+    describe(&mut out, &input)?;
+    out.flush()
 }

@@ -2,39 +2,52 @@
 // line each; after a refusal the first line alone. What cannot be quoted is said in a sentence on standard error.
 #![tactic(auto)]
 
-use libc::{STDERR_FILENO, STDOUT_FILENO};
 use resolve_answer::answer::Answer;
+use std::alloc::Global;
+use std::env::{Env, FillError};
+use std::fs;
+use std::io::{self, BufWriter, Read, Write};
+use std::rt::Files;
 
-fn say(text: &[u8]) {
-    io::write_all(STDERR_FILENO, text);
-}
+// A path that the system takes is no longer.
+const PATH: usize = 4096;
+
+// A file of more than 65,536 bytes is not read to its end: one byte more is enough to refuse it.
+const FILE: u64 = 65537;
+
+// Room for 32,768 actions, and for 208,896, more than any section has (docs/DECISIONS.md).
+const USUAL: usize = 786432;
+
+const LARGE: usize = 5013504;
 
 // Numbers on a line.
-fn print_line(words: &[u64]) {
+fn print_line<W: Write>(out: &mut W, words: &[u64]) -> io::Result<()> {
     for i in 0..words.len() {
         if i > 0 {
-            io::write_all(STDOUT_FILENO, b" ");
+            write!(out, " ")?;
         }
-        io::print_decimal(STDOUT_FILENO, words[i]);
+        write!(out, "{}", words[i])?;
     }
-    io::write_all(STDOUT_FILENO, b"\n");
+    writeln!(out)
 }
 
-fn print_action(list: &[u64], index: usize) {
+fn print_action<W: Write>(out: &mut W, list: &[u64], index: usize) -> io::Result<()> {
     if index < list.len() / 24 {
         let from = 24 * index;
         let to = 24 * index + 4;
-        print_line(&list[from..to]);
+        print_line(out, &list[from..to])?;
     }
+    Ok(())
 }
 
-fn print_actions(list: &[u64], count: u64) {
+fn print_actions<W: Write>(out: &mut W, list: &[u64], count: u64) -> io::Result<()> {
     for i in 0..count {
-        print_action(list, i as usize);
+        print_action(out, list, i as usize)?;
     }
+    Ok(())
 }
 
-fn print_answer(answer: Answer, list: &[u64]) {
+fn print_answer<W: Write>(out: &mut W, answer: Answer, list: &[u64]) -> io::Result<()> {
     let first = [
         answer.refusal,
         answer.ordinal,
@@ -45,149 +58,129 @@ fn print_answer(answer: Answer, list: &[u64]) {
         answer.points,
         answer.errors,
     ];
-    print_line(&first);
-    print_actions(list, answer.actions);
+    print_line(out, &first)?;
+    print_actions(out, list, answer.actions)
 }
 
-fn resolve_usual(file: &[u8], actions: &mut [u64; 786432]) -> Answer {
+fn resolve(file: &[u8], actions: &mut [u64]) -> Answer {
     let mut temporaries = [0u64; 512];
     mizgalon::resolve(file, actions, &mut temporaries)
 }
 
-fn print_usual(answer: Answer, list: &[u64; 786432]) {
-    print_answer(answer, list);
-}
-
-// With room for 32,768 actions, which the usual stack of 8 MiB holds. Whether that was enough.
-fn quote_usual(file: &[u8]) -> bool {
-    let mut actions = [0u64; 786432];
-    let r = resolve_usual(file, &mut actions);
+// Whether the usual room was enough; the quote is printed only then.
+fn quote_usual<W: Write>(out: &mut W, alloc: Global, file: &[u8]) -> io::Result<bool> {
+    let mut actions = vec![in alloc; 0u64; USUAL]?;
+    let r = resolve(file, &mut actions);
     if r.refusal == 12 {
-        return false;
+        return Ok(false);
     }
-    print_usual(r, &actions);
-    true
+    print_answer(out, r, &actions)?;
+    Ok(true)
 }
 
-fn resolve_large(file: &[u8], actions: &mut [u64; 5013504]) -> Answer {
-    let mut temporaries = [0u64; 512];
-    mizgalon::resolve(file, actions, &mut temporaries)
+fn quote_large<W: Write>(out: &mut W, alloc: Global, file: &[u8]) -> io::Result<()> {
+    let mut actions = vec![in alloc; 0u64; LARGE]?;
+    let r = resolve(file, &mut actions);
+    print_answer(out, r, &actions)
 }
 
-fn print_large(answer: Answer, list: &[u64; 5013504]) {
-    print_answer(answer, list);
-}
-
-// With room for 208,896 actions, more than any section has (docs/DECISIONS.md), on a stack of 48 MiB.
-fn quote_large(file: &[u8]) {
-    let mut actions = [0u64; 5013504];
-    let r = resolve_large(file, &mut actions);
-    print_large(r, &actions);
-}
-
-// The larger list is tried by a call of this function itself: the compiler then leaves the two lists in frames of their own,
-// and a frame with both would be too large for the usual stack.
-fn quote(file: &[u8], large: bool, lists: u64) {
-    if lists == 0 {
-        quote_large(file);
-        return;
-    }
-    if quote_usual(file) {
-        return;
+fn quote(rt: &(impl Print + Eprint + AllocGlobal), file: &[u8], large: bool) -> io::Result<()> {
+    let mut out = BufWriter::new(rt.alloc(), io::writer(rt))?;
+    if quote_usual(&mut out, rt.alloc(), file)? {
+        return out.flush();
     }
     if large {
-        quote(file, true, lists - 1);
-        return;
+        quote_large(&mut out, rt.alloc(), file)?;
+        return out.flush();
     }
-    say(
-        b"quote: the section has more than 32,768 actions; allow a stack of 48 MiB (ulimit -s 49152) and call quote --large FILE\n",
-    );
+    eprintln!(rt;
+        "quote: the section has more than 32,768 actions; allow a stack of 48 MiB (ulimit -s 49152) and call quote --large FILE"
+    )
 }
 
-// The first n bytes, which are there.
-fn quote_first(file: &[u8], count: usize, large: bool) {
-    if count <= file.len() {
-        quote(&file[..count], large, 1);
+// What the system says of an error, without the number behind it.
+fn words(said: &str) -> &str {
+    match said.split_once(" (os error ") {
+        Some((words, _)) => words,
+        None => said,
     }
 }
 
-fn quote_read(file: &[u8; 65537], count: usize, large: bool) {
-    quote_first(file, count, large);
+fn fail(rt: &(impl Eprint + AllocGlobal), path: &str, error: &io::Error) -> io::Result<()> {
+    let said = error.to_string(rt.alloc())?;
+    eprintln!(rt; "{path}: {}", words(said.as_str()))
 }
 
-fn read_failed(fd: i32, file: &mut [u8; 65537]) -> bool {
-    libc::read(fd, file) < 0
+fn quote_open<R: Print + Eprint + AllocGlobal, F: Read + Drop>(
+    rt: &R,
+    file: F,
+    path: &str,
+    large: bool,
+) -> io::Result<()> {
+    let mut bytes = Vec::new(rt.alloc());
+    if let Err(error) = file.take(FILE).read_to_end(&mut bytes) {
+        eprint!(rt; "quote: the file cannot be read: ")?;
+        return fail(rt, path, &error);
+    }
+    quote(rt, &bytes, large)
 }
 
-// A file of more than 65,536 bytes is not read to its end: one byte more is enough to refuse it.
-fn quote_open(fd: i32, path: &[u8], large: bool) {
-    let mut file = [0u8; 65537];
-    let n = io::read_full(fd, &mut file);
-    if n == 0 {
-        if read_failed(fd, &mut file) {
-            say(b"quote: the file cannot be read: ");
-            os::fail(path);
-            return;
+fn quote_path(
+    rt: &(impl Files + Print + Eprint + AllocGlobal),
+    path: &str,
+    large: bool,
+) -> io::Result<()> {
+    match fs::open(rt, path) {
+        Ok(file) => quote_open(rt, file, path, large),
+        Err(error) => {
+            eprint!(rt; "quote: the file cannot be opened: ")?;
+            fail(rt, path, &error)
         }
     }
-    quote_read(&file, n, large);
 }
 
-fn quote_path(path: &[u8], large: bool) {
-    let fd = os::open_read(path);
-    if fd < 0 {
-        say(b"quote: the file cannot be opened: ");
-        os::fail(path);
-        return;
-    }
-    quote_open(fd, path, large);
-    libc::close(fd);
-}
-
-fn usage() {
-    say(b"quote: name one section file: quote FILE, or quote --large FILE\n");
+fn usage(rt: &impl Eprint) -> io::Result<()> {
+    eprintln!(rt; "quote: name one section file: quote FILE, or quote --large FILE")
 }
 
 // The file that argument i names.
-fn quote_argument(index: usize, large: bool) {
-    let mut path = io::buffer();
-    let n = os::arg(index, &mut path);
-    if os::errno() != 0 {
-        usage();
-        return;
+fn quote_argument(
+    rt: &(impl Env + Files + Print + Eprint + AllocGlobal),
+    index: usize,
+    large: bool,
+) -> io::Result<()> {
+    let mut path = [0u8; PATH];
+    match rt.arg(index, &mut path) {
+        Ok(n) => match str::from_utf8(&path[..n]) {
+            Ok(path) => quote_path(rt, path, large),
+            Err(_) => eprintln!(rt; "quote: the file cannot be opened: its name is not UTF-8"),
+        },
+        Err(_) => usage(rt),
     }
-    quote_path(&path[..n], large);
 }
 
-fn same(left: &[u8], right: &[u8]) -> bool {
-    if left.len() != right.len() {
-        return false;
+fn is_large(rt: &impl Env) -> bool {
+    let mut word = [0u8; PATH];
+    match rt.arg(1, &mut word) {
+        Ok(n) => &word[..n] == b"--large".as_slice(),
+        Err(_) => false,
     }
-    for i in 0..left.len() {
-        if left[i] != right[i] {
-            return false;
-        }
-    }
-    true
 }
 
-fn is_large() -> bool {
-    let mut word = io::buffer();
-    let n = os::arg(1, &mut word);
-    same(&word[..n], b"--large")
+// Whether there is an argument i, of any length.
+fn is_given(rt: &impl Env, index: usize) -> bool {
+    !matches!(rt.arg(index, &mut [0u8; 1]), Err(FillError::NotPresent))
 }
 
-fn main() {
-    let n = os::arg_count();
-    if n == 2 {
-        quote_argument(1, false);
-        return;
+fn main(rt: HostRuntime) -> io::Result<()> {
+    if !is_given(&rt, 1) {
+        return usage(&rt);
     }
-    if n == 3 {
-        if is_large() {
-            quote_argument(2, true);
-            return;
-        }
+    if !is_given(&rt, 2) {
+        return quote_argument(&rt, 1, false);
     }
-    usage();
+    if !is_given(&rt, 3) && is_large(&rt) {
+        return quote_argument(&rt, 2, true);
+    }
+    usage(&rt)
 }

@@ -4,8 +4,19 @@
 
 ghost use Rattle.std.specs.Prelude.{◌+◌, ◌<◌, ◌≤◌};
 
-use libc::{STDERR_FILENO, STDIN_FILENO, STDOUT_FILENO};
 use resolve_answer::answer::Answer;
+use std::io::{self, BufWriter, Read, Write};
+
+// Data of so many bytes is too long.
+const TOO_LONG: usize = 2621440;
+
+// What is lent to the cases: room for the longest file and a byte more, for 5,461 actions, and for twice the temporaries that
+// a section can have.
+const FILE: usize = 65537;
+
+const ACTIONS: usize = 131072;
+
+const TEMPORARIES: usize = 1024;
 
 // Where a file, its answer and the next case stand in the data: the body, the twelve numbers, the counts before both lists.
 #[derive(Clone, Copy)]
@@ -26,14 +37,6 @@ enum Outcome {
     Same,
     Differs,
     IllFormed,
-}
-
-fn say(text: &[u8]) {
-    io::write_all(STDOUT_FILENO, text);
-}
-
-fn say_number(count: u64) {
-    io::print_decimal(STDOUT_FILENO, count);
 }
 
 // A place past the end of all data, to which ill-formed data leads.
@@ -197,102 +200,99 @@ fn first_wrong_listed(data: &[u8], at: usize, list: &[u64]) -> usize {
     first_wrong(data, further(at, 4), n as usize, list)
 }
 
-fn report(case: u64, what: &[u8], index: usize) {
-    say(b"case ");
-    say_number(case);
-    say(b" differs: ");
-    say(what);
-    say_number(index as u64);
-    say(b"\n");
+fn report<W: Write>(out: &mut W, case: u64, what: &str, index: usize) -> io::Result<()> {
+    writeln!(out, "case {case} differs: {what}{index}")
 }
 
 // Whether the answer to a case is another one than the original's. The first difference is reported.
-fn differs(
+fn differs<W: Write>(
+    out: &mut W,
     data: &[u8],
     lent: Case,
     case: u64,
     answer: Answer,
     actions: &[u64],
     temporaries: &[u64],
-) -> bool {
+) -> io::Result<bool> {
     let result = numbers(answer);
     let i = first_wrong(data, lent.result, 12, &result);
     if i < 12 {
-        report(case, b"result ", i);
-        return true;
+        report(out, case, "result ", i)?;
+        return Ok(true);
     }
     let i = first_wrong_listed(data, lent.actions, actions);
     if i < actions.len() {
-        report(case, b"action word ", i);
-        return true;
+        report(out, case, "action word ", i)?;
+        return Ok(true);
     }
     let i = first_wrong_listed(data, lent.temporaries, temporaries);
     if i < temporaries.len() {
-        report(case, b"temporary word ", i);
-        return true;
+        report(out, case, "temporary word ", i)?;
+        return Ok(true);
     }
-    false
+    Ok(false)
 }
 
-fn replay_lent(
+fn replay_lent<W: Write>(
+    out: &mut W,
     data: &[u8],
     lent: Case,
     case: u64,
     file: &mut [u8],
     actions: &mut [u64],
     temporaries: &mut [u64],
-) -> bool {
+) -> io::Result<bool> {
     build(data, lent, file);
     fill(actions);
     fill(temporaries);
     let r = mizgalon::resolve(file, actions, temporaries);
-    differs(data, lent, case, r, actions, temporaries)
+    differs(out, data, lent, case, r, actions, temporaries)
 }
 
-fn replay_case(
+fn replay_case<W: Write>(
+    out: &mut W,
     data: &[u8],
     lent: Case,
     case: u64,
     file: &mut [u8],
     actions: &mut [u64],
     temporaries: &mut [u64],
-) -> Outcome {
+) -> io::Result<Outcome> {
     let length = lent.length as usize;
     let la = lent.la as usize;
     let lt = lent.lt as usize;
     if !is_well_formed(data, lent) {
-        return Outcome::IllFormed;
+        return Ok(Outcome::IllFormed);
     }
     if length > file.len() {
-        return Outcome::IllFormed;
+        return Ok(Outcome::IllFormed);
     }
     if la > actions.len() {
-        return Outcome::IllFormed;
+        return Ok(Outcome::IllFormed);
     }
     if lt > temporaries.len() {
-        return Outcome::IllFormed;
+        return Ok(Outcome::IllFormed);
     }
     if replay_lent(
+        out,
         data,
         lent,
         case,
         &mut file[..length],
         &mut actions[..la],
         &mut temporaries[..lt],
-    ) {
-        return Outcome::Differs;
+    )? {
+        return Ok(Outcome::Differs);
     }
-    Outcome::Same
+    Ok(Outcome::Same)
 }
 
-fn complain(text: &[u8]) {
-    io::write_all(STDERR_FILENO, text);
+fn complain(rt: &impl Eprint, text: &str) -> io::Result<()> {
+    eprintln!(rt; "vectors: {text}")
 }
 
-fn complain_of(case: u64) {
-    complain(b"vectors: the data is cut off, ill-formed or too large at case ");
-    io::print_decimal(STDERR_FILENO, case);
-    complain(b"\n");
+fn complain_of(rt: &impl Eprint, case: u64) -> io::Result<()> {
+    eprintln!(rt; "vectors: the data is cut off, ill-formed or too large at case {case}")
 }
 
 fn counted(differ: u64, outcome: Outcome) -> u64
@@ -321,91 +321,83 @@ fn count_refusals(data: &[u8], count: u64, counts: &mut [u64]) {
     }
 }
 
-fn print_count(refusal: usize, count: u64) {
+fn print_count<W: Write>(out: &mut W, refusal: usize, count: u64) -> io::Result<()> {
     if count > 0 {
-        say(b" ");
-        say_number(refusal as u64);
-        say(b":");
-        say_number(count);
+        write!(out, " {refusal}:{count}")?;
     }
+    Ok(())
 }
 
-fn print_counts(counts: &[u64]) {
-    say(b"cases by refusal:");
+fn print_counts<W: Write>(out: &mut W, counts: &[u64]) -> io::Result<()> {
+    write!(out, "cases by refusal:")?;
     for i in 0..counts.len() {
-        print_count(i, counts[i]);
+        print_count(out, i, counts[i])?;
     }
-    say(b"\n");
+    writeln!(out)
 }
 
-fn print_end(data: &[u8], count: u64, differ: u64) {
+fn print_end<W: Write>(out: &mut W, data: &[u8], count: u64, differ: u64) -> io::Result<()> {
     let mut counts = [0u64; 64];
     count_refusals(data, count, &mut counts);
-    print_counts(&counts);
-    say_number(count);
-    say(b" cases, ");
-    say_number(differ);
-    say(b" differ\n");
+    print_counts(out, &counts)?;
+    writeln!(out, "{count} cases, {differ} differ")
 }
 
-fn replay(data: &[u8], file: &mut [u8], actions: &mut [u64], temporaries: &mut [u64]) {
+fn replay<W: Write>(
+    rt: &impl Eprint,
+    out: &mut W,
+    data: &[u8],
+    file: &mut [u8],
+    actions: &mut [u64],
+    temporaries: &mut [u64],
+) -> io::Result<()> {
     let n = access::u32_at(data, 0);
     let mut at: usize = 4;
     let mut differ: u64 = 0;
     for i in 0..n {
         let c = case_at(data, at);
-        let o = replay_case(data, c, i, file, actions, temporaries);
+        let o = replay_case(out, data, c, i, file, actions, temporaries)?;
         if let Outcome::IllFormed = o {
-            complain_of(i);
-            return;
+            return complain_of(rt, i);
         }
         differ = counted(differ, o);
         at = c.next;
     }
     if at != data.len() {
-        complain(b"vectors: the data does not end with its last case\n");
-        return;
+        return complain(rt, "the data does not end with its last case");
     }
-    print_end(data, n, differ);
+    print_end(out, data, n, differ)
 }
 
-fn replay_with(
-    data: &[u8],
-    file: &mut [u8; 65537],
-    actions: &mut [u64; 131072],
-    temporaries: &mut [u64; 1024],
-) {
-    replay(data, file, actions, temporaries);
+fn replay_read(rt: &(impl Print + Eprint + AllocGlobal), data: &[u8]) -> io::Result<()> {
+    let mut file = vec![in rt.alloc(); 0u8; FILE]?;
+    let mut actions = vec![in rt.alloc(); 0u64; ACTIONS]?;
+    let mut temporaries = vec![in rt.alloc(); 0u64; TEMPORARIES]?;
+    let mut out = BufWriter::new(rt.alloc(), io::writer(rt))?;
+    replay(
+        rt,
+        &mut out,
+        data,
+        &mut file,
+        &mut actions,
+        &mut temporaries,
+    )?;
+    out.flush()
 }
 
-// The first n bytes, which are there.
-fn replay_first(data: &[u8], count: usize) {
-    let mut file = [0u8; 65537];
-    let mut actions = [0u64; 131072];
-    let mut temporaries = [0u64; 1024];
-    if count <= data.len() {
-        replay_with(&data[..count], &mut file, &mut actions, &mut temporaries);
+fn read<R: Input + AllocGlobal>(rt: &R) -> io::Result<Vec<u8>> {
+    let mut data = Vec::new(rt.alloc());
+    rt.reader().take(TOO_LONG as u64).read_to_end(&mut data)?;
+    Ok(data)
+}
+
+fn main(rt: HostRuntime) -> io::Result<()> {
+    let data = read(&rt)?;
+    if data.is_empty() {
+        return complain(&rt, "there is no data on standard input");
     }
-}
-
-fn replay_read(data: &[u8; 2621440], count: usize) {
-    replay_first(data, count);
-}
-
-fn read(data: &mut [u8; 2621440]) -> usize {
-    io::read_full(STDIN_FILENO, data)
-}
-
-fn main() {
-    let mut data = [0u8; 2621440];
-    let n = read(&mut data);
-    if n == 0 {
-        complain(b"vectors: there is no data on standard input\n");
-        return;
+    if data.len() == TOO_LONG {
+        return complain(&rt, "the data is too long");
     }
-    if n == 2621440 {
-        complain(b"vectors: the data is too long\n");
-        return;
-    }
-    replay_read(&data, n);
+    replay_read(&rt, &data)
 }
