@@ -1,6 +1,6 @@
-use Rattle.std.proofs.Common.{◌≡◌, ℕ, ◌*◌, ◌/◌, ◌≤◌, length, sym, ◌∙◌, arith}
+use Rattle.std.proofs.Common.{◌*◌, ◌/◌, ◌≤◌, length, sym, ◌∙◌, arith}
 use lib.Seq.{length-take-le}
-use Rattle.file_vectors.proofs.Laws.{checked_room}
+use Rattle.file_refinement.proofs.FileTheorem.{checked_room}
 use Rattle.file_vectors.proofs.judge.Goals as goal
 
 pub slice_bounds-read_stream-end : goal.slice_bounds-read_stream-end
