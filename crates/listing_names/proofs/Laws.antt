@@ -127,10 +127,10 @@ module _ (text out out₀ : List ℕ) (i : ℕ) where
   )
 
   pub put-done : i ≡ length text → length text ≤ length out → Put text out out₀ i
-      → ((length text ≤ length out) × (length text ≡ length (take (length text) out))) × (take (length text) out ≡ text) × (drop (length text) out ≡ drop (length text) out₀)
+      → (length text ≤ length out) × (take (length text) out ≡ text) × (drop (length text) out ≡ drop (length text) out₀)
   put-done n k (l, e, d) =
       let w : take (length text) out ≡ text = (rw n at e) ∙ take-length text in
-      ((k, rw w), w, rw n at d)
+      (k, w, rw n at d)
 
 -- a word of some that are 15 wide at most
 pub word_fits : (n : ℕ) (xs : List ℕ) (room : ℕ) → widest xs ≡ 15 → 32 ≤ room → length (word n xs) ≤ room

@@ -2,10 +2,9 @@
 -- which becomes a COPY and is in no list, has none.
 use Rattle.std.specs.Prelude.{ℕ, List, ◌++◌}
 use Prim.Native.String.{String}
-use Rattle.prelude.specs.Base.{if◌then◌else◌}
-use Rattle.definition.specs.Operations.{Operation, operation_number}
+use Rattle.definition.specs.Operations.{Operation}
 use Rattle.definition.specs.Spellings.{bytes_of}
-use Rattle.listing_names.specs.Words.{first, rest, word}
+use Rattle.listing_names.specs.Words.{word}
 
 unfoldable pub operation_name : Operation → String
 operation_name Operation.IntMul = "INT_MULT"

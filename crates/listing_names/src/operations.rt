@@ -1,6 +1,5 @@
 // The operations by the names that the field gives them (Ghidra's p-code reference).
 ghost use Rattle.std.specs.Prelude.{◌≡◌, ◌+◌, ◌≤◌, length, take, drop};
-ghost use Rattle.io.specs.Counts.{IsPrefixLen};
 ghost use Rattle.listing_names.specs.Words.{first, word, left_after};
 ghost use Rattle.listing_names.specs.Operations.{operation_text};
 
@@ -62,7 +61,9 @@ fn word<'a>(words: &'a [u8], number: u64) -> &'a [u8]
 // The text, at the start of a lent slice; what stands behind it stays.
 fn put(text: &[u8], out: &mut [u8]) -> usize
     requires { length text.now ≤ length out.old }
-    ensures { IsPrefixLen result out.new × (take result out.new ≡ text.now) × (drop result out.new ≡ drop result out.old) }
+    ensures within { result ≤ length out.new }
+    ensures written { take result out.new ≡ text.now }
+    ensures rest { drop result out.new ≡ drop result out.old }
 {
     for i in 0..text.len() {
         out[i] = text[i];
@@ -72,7 +73,9 @@ fn put(text: &[u8], out: &mut [u8]) -> usize
 
 // The name of operation op; the bytes behind it stay. A dash stands for a number that no operation has; past the last there is none.
 pub fn operation(op: u64, out: &mut [u8; 32]) -> usize
-    ensures { IsPrefixLen result out.new × (take result out.new ≡ operation_text op) × (drop result out.new ≡ drop result out.old) }
+    ensures within { result ≤ length out.new }
+    ensures written { take result out.new ≡ operation_text op }
+    ensures rest { drop result out.new ≡ drop result out.old }
 {
     let names =
         b"INT_MULT INT_DIV INT_SDIV INT_REM INT_SREM INT_ADD INT_SUB INT_LEFT INT_RIGHT INT_SRIGHT \
