@@ -2,6 +2,7 @@
 use crate::print::{name, number, text};
 use crate::values::{size, subtable, value};
 use codes::{action, action_kind, operation, table, value_kind};
+use std::io::{self, Write};
 
 // The second words of the output and the first input.
 const OUTPUT_WORD: usize = action::OUTPUT + 1;
@@ -11,33 +12,42 @@ const INPUT_0_WORD: usize = action::INPUT_0 + 1;
 // The second word of an output that is not there.
 const NO_OUTPUT: u64 = 255;
 
-fn input(
+fn input<W: Write>(
+    out: &mut W,
     stream: &[u8],
     table: &[u16; table::LENGTH],
     temporaries: &[u64],
     actions: &[u64],
     index: usize,
-) {
+) -> io::Result<()> {
     let at = action::INPUT_0 + index % 8 * 2;
     value(
+        out,
         stream,
         table,
         temporaries,
         access::get(actions, at),
         access::get(actions, at + 1),
-    );
+    )
 }
 
 // The output and an equals sign.
-fn output(stream: &[u8], table: &[u16; table::LENGTH], temporaries: &[u64], actions: &[u64]) {
+fn output<W: Write>(
+    out: &mut W,
+    stream: &[u8],
+    table: &[u16; table::LENGTH],
+    temporaries: &[u64],
+    actions: &[u64],
+) -> io::Result<()> {
     value(
+        out,
         stream,
         table,
         temporaries,
         access::get(actions, action::OUTPUT),
         access::get(actions, OUTPUT_WORD),
-    );
-    text(b" = ");
+    )?;
+    text(out, b" = ")
 }
 
 // An Op without output has 0 and 255.
@@ -48,71 +58,98 @@ fn output_there(actions: &[u64]) -> bool {
     access::get(actions, OUTPUT_WORD) != NO_OUTPUT
 }
 
-fn maybe_output(stream: &[u8], table: &[u16; table::LENGTH], temporaries: &[u64], actions: &[u64]) {
+fn maybe_output<W: Write>(
+    out: &mut W,
+    stream: &[u8],
+    table: &[u16; table::LENGTH],
+    temporaries: &[u64],
+    actions: &[u64],
+) -> io::Result<()> {
     if output_there(actions) {
-        output(stream, table, temporaries, actions);
+        output(out, stream, table, temporaries, actions)?;
     }
+    Ok(())
 }
 
-fn operation_name(op: u64) {
-    let mut out = [0u8; 32];
-    let n = listing_names::operations::operation(op, &mut out);
-    text(&out[..n]);
+fn operation_name<W: Write>(out: &mut W, op: u64) -> io::Result<()> {
+    let mut word = [0u8; 32];
+    let n = listing_names::operations::operation(op, &mut word);
+    text(out, &word[..n])
 }
 
 // What stands ahead of input i: a comma, but for the first.
-fn separator(index: u64, first: &[u8]) {
+fn separator<W: Write>(out: &mut W, index: u64, first: &[u8]) -> io::Result<()> {
     if index == 0 {
-        text(first);
-        return;
+        return text(out, first);
     }
-    text(b", ");
+    text(out, b", ")
 }
 
-fn inputs(
+fn inputs<W: Write>(
+    out: &mut W,
     stream: &[u8],
     table: &[u16; table::LENGTH],
     temporaries: &[u64],
     actions: &[u64],
     first: &[u8],
-) {
+) -> io::Result<()> {
     let n = access::get(actions, action::INPUT_COUNT) % 9;
     for i in 0..n {
-        separator(i, first);
-        input(stream, table, temporaries, actions, i as usize);
+        separator(out, i, first)?;
+        input(out, stream, table, temporaries, actions, i as usize)?;
     }
+    Ok(())
 }
 
-fn plain(stream: &[u8], table: &[u16; table::LENGTH], temporaries: &[u64], actions: &[u64]) {
-    maybe_output(stream, table, temporaries, actions);
-    operation_name(access::get(actions, action::OPERATION));
-    inputs(stream, table, temporaries, actions, b" ");
+fn plain<W: Write>(
+    out: &mut W,
+    stream: &[u8],
+    table: &[u16; table::LENGTH],
+    temporaries: &[u64],
+    actions: &[u64],
+) -> io::Result<()> {
+    maybe_output(out, stream, table, temporaries, actions)?;
+    operation_name(out, access::get(actions, action::OPERATION))?;
+    inputs(out, stream, table, temporaries, actions, b" ")
 }
 
 // A pointer in round brackets, behind the space that it points into.
-fn pointer(
+fn pointer<W: Write>(
+    out: &mut W,
     stream: &[u8],
     table: &[u16; table::LENGTH],
     temporaries: &[u64],
     actions: &[u64],
     space: &[u8],
-) {
-    text(space);
-    input(stream, table, temporaries, actions, 0);
-    text(b")");
+) -> io::Result<()> {
+    text(out, space)?;
+    input(out, stream, table, temporaries, actions, 0)?;
+    text(out, b")")
 }
 
-fn load(stream: &[u8], table: &[u16; table::LENGTH], temporaries: &[u64], actions: &[u64]) {
-    output(stream, table, temporaries, actions);
-    operation_name(operation::LOAD);
-    pointer(stream, table, temporaries, actions, b" ram(");
+fn load<W: Write>(
+    out: &mut W,
+    stream: &[u8],
+    table: &[u16; table::LENGTH],
+    temporaries: &[u64],
+    actions: &[u64],
+) -> io::Result<()> {
+    output(out, stream, table, temporaries, actions)?;
+    operation_name(out, operation::LOAD)?;
+    pointer(out, stream, table, temporaries, actions, b" ram(")
 }
 
-fn store(stream: &[u8], table: &[u16; table::LENGTH], temporaries: &[u64], actions: &[u64]) {
-    operation_name(operation::STORE);
-    pointer(stream, table, temporaries, actions, b" ram(");
-    text(b", ");
-    input(stream, table, temporaries, actions, 1);
+fn store<W: Write>(
+    out: &mut W,
+    stream: &[u8],
+    table: &[u16; table::LENGTH],
+    temporaries: &[u64],
+    actions: &[u64],
+) -> io::Result<()> {
+    operation_name(out, operation::STORE)?;
+    pointer(out, stream, table, temporaries, actions, b" ram(")?;
+    text(out, b", ")?;
+    input(out, stream, table, temporaries, actions, 1)
 }
 
 // The condition of a branch stands in input 0, and is the constant 1 where there is none.
@@ -124,122 +161,181 @@ fn is_conditional(actions: &[u64]) -> bool {
 }
 
 // BRANCH, or CBRANCH with a condition.
-fn branch_name(actions: &[u64]) {
+fn branch_name<W: Write>(out: &mut W, actions: &[u64]) -> io::Result<()> {
     if is_conditional(actions) {
-        text(b"C");
+        text(out, b"C")?;
     }
-    operation_name(access::get(actions, action::OPERATION));
-    text(b" ");
+    operation_name(out, access::get(actions, action::OPERATION))?;
+    text(out, b" ")
 }
 
-fn condition(stream: &[u8], table: &[u16; table::LENGTH], temporaries: &[u64], actions: &[u64]) {
+fn condition<W: Write>(
+    out: &mut W,
+    stream: &[u8],
+    table: &[u16; table::LENGTH],
+    temporaries: &[u64],
+    actions: &[u64],
+) -> io::Result<()> {
     if is_conditional(actions) {
-        text(b", ");
-        input(stream, table, temporaries, actions, 0);
+        text(out, b", ")?;
+        input(out, stream, table, temporaries, actions, 0)?;
     }
+    Ok(())
 }
 
-fn hint(count: u64) {
+fn hint<W: Write>(out: &mut W, count: u64) -> io::Result<()> {
     match count {
-        0 => text(b"jump "),
-        1 => text(b"call "),
-        _ => text(b"return "),
+        0 => text(out, b"jump "),
+        1 => text(out, b"call "),
+        _ => text(out, b"return "),
     }
 }
 
-fn branch(stream: &[u8], table: &[u16; table::LENGTH], temporaries: &[u64], actions: &[u64]) {
-    branch_name(actions);
-    hint(access::get(actions, action::NUMBER));
-    input(stream, table, temporaries, actions, 1);
-    condition(stream, table, temporaries, actions);
+fn branch<W: Write>(
+    out: &mut W,
+    stream: &[u8],
+    table: &[u16; table::LENGTH],
+    temporaries: &[u64],
+    actions: &[u64],
+) -> io::Result<()> {
+    branch_name(out, actions)?;
+    hint(out, access::get(actions, action::NUMBER))?;
+    input(out, stream, table, temporaries, actions, 1)?;
+    condition(out, stream, table, temporaries, actions)
 }
 
-fn label(count: u64) {
-    text(b"<");
-    number(count);
-    text(b">");
+fn label<W: Write>(out: &mut W, count: u64) -> io::Result<()> {
+    text(out, b"<")?;
+    number(out, count)?;
+    text(out, b">")
 }
 
-fn label_branch(stream: &[u8], table: &[u16; table::LENGTH], temporaries: &[u64], actions: &[u64]) {
-    branch_name(actions);
-    label(access::get(actions, action::NUMBER));
-    condition(stream, table, temporaries, actions);
+fn label_branch<W: Write>(
+    out: &mut W,
+    stream: &[u8],
+    table: &[u16; table::LENGTH],
+    temporaries: &[u64],
+    actions: &[u64],
+) -> io::Result<()> {
+    branch_name(out, actions)?;
+    label(out, access::get(actions, action::NUMBER))?;
+    condition(out, stream, table, temporaries, actions)
 }
 
 // A user op by its name.
-fn user_op(stream: &[u8], table: &[u16; table::LENGTH], temporaries: &[u64], actions: &[u64]) {
-    maybe_output(stream, table, temporaries, actions);
-    operation_name(operation::PCODE_OP);
-    text(b" ");
-    name(listing_names::names::user_op(stream, table, access::get(actions, action::NUMBER)));
-    inputs(stream, table, temporaries, actions, b", ");
+fn user_op<W: Write>(
+    out: &mut W,
+    stream: &[u8],
+    table: &[u16; table::LENGTH],
+    temporaries: &[u64],
+    actions: &[u64],
+) -> io::Result<()> {
+    maybe_output(out, stream, table, temporaries, actions)?;
+    operation_name(out, operation::PCODE_OP)?;
+    text(out, b" ")?;
+    name(
+        out,
+        listing_names::names::user_op(stream, table, access::get(actions, action::NUMBER)),
+    )?;
+    inputs(out, stream, table, temporaries, actions, b", ")
 }
 
 // An operand of the user op that follows.
-fn arg(stream: &[u8], table: &[u16; table::LENGTH], temporaries: &[u64], actions: &[u64]) {
-    operation_name(operation::ARG);
-    text(b" ");
-    number(access::get(actions, action::NUMBER));
-    inputs(stream, table, temporaries, actions, b", ");
+fn arg<W: Write>(
+    out: &mut W,
+    stream: &[u8],
+    table: &[u16; table::LENGTH],
+    temporaries: &[u64],
+    actions: &[u64],
+) -> io::Result<()> {
+    operation_name(out, operation::ARG)?;
+    text(out, b" ")?;
+    number(out, access::get(actions, action::NUMBER))?;
+    inputs(out, stream, table, temporaries, actions, b", ")
 }
 
-fn operation(stream: &[u8], table: &[u16; table::LENGTH], temporaries: &[u64], actions: &[u64]) {
+fn operation<W: Write>(
+    out: &mut W,
+    stream: &[u8],
+    table: &[u16; table::LENGTH],
+    temporaries: &[u64],
+    actions: &[u64],
+) -> io::Result<()> {
     match access::get(actions, action::OPERATION) {
-        operation::LOAD => load(stream, table, temporaries, actions),
-        operation::STORE => store(stream, table, temporaries, actions),
-        operation::BRANCH => branch(stream, table, temporaries, actions),
-        operation::PCODE_BRANCH => label_branch(stream, table, temporaries, actions),
-        operation::PCODE_OP => user_op(stream, table, temporaries, actions),
-        operation::ARG => arg(stream, table, temporaries, actions),
-        _ => plain(stream, table, temporaries, actions),
+        operation::LOAD => load(out, stream, table, temporaries, actions),
+        operation::STORE => store(out, stream, table, temporaries, actions),
+        operation::BRANCH => branch(out, stream, table, temporaries, actions),
+        operation::PCODE_BRANCH => label_branch(out, stream, table, temporaries, actions),
+        operation::PCODE_OP => user_op(out, stream, table, temporaries, actions),
+        operation::ARG => arg(out, stream, table, temporaries, actions),
+        _ => plain(out, stream, table, temporaries, actions),
     }
 }
 
-fn address_of(stream: &[u8], table: &[u16; table::LENGTH], temporaries: &[u64], actions: &[u64]) {
-    output(stream, table, temporaries, actions);
-    text(b"ADDRESS_OF ");
-    input(stream, table, temporaries, actions, 0);
+fn address_of<W: Write>(
+    out: &mut W,
+    stream: &[u8],
+    table: &[u16; table::LENGTH],
+    temporaries: &[u64],
+    actions: &[u64],
+) -> io::Result<()> {
+    output(out, stream, table, temporaries, actions)?;
+    text(out, b"ADDRESS_OF ")?;
+    input(out, stream, table, temporaries, actions, 0)
 }
 
 // A register access has a size beside its pointer's.
-fn load_register(
+fn load_register<W: Write>(
+    out: &mut W,
     stream: &[u8],
     table: &[u16; table::LENGTH],
     temporaries: &[u64],
     actions: &[u64],
-) {
-    output(stream, table, temporaries, actions);
-    operation_name(operation::LOAD);
-    pointer(stream, table, temporaries, actions, b" register(");
-    size(access::get(actions, action::NUMBER));
+) -> io::Result<()> {
+    output(out, stream, table, temporaries, actions)?;
+    operation_name(out, operation::LOAD)?;
+    pointer(out, stream, table, temporaries, actions, b" register(")?;
+    size(out, access::get(actions, action::NUMBER))
 }
 
-fn store_register(
+fn store_register<W: Write>(
+    out: &mut W,
     stream: &[u8],
     table: &[u16; table::LENGTH],
     temporaries: &[u64],
     actions: &[u64],
-) {
-    operation_name(operation::STORE);
-    pointer(stream, table, temporaries, actions, b" register(");
-    size(access::get(actions, action::NUMBER));
-    text(b", ");
-    input(stream, table, temporaries, actions, 1);
+) -> io::Result<()> {
+    operation_name(out, operation::STORE)?;
+    pointer(out, stream, table, temporaries, actions, b" register(")?;
+    size(out, access::get(actions, action::NUMBER))?;
+    text(out, b", ")?;
+    input(out, stream, table, temporaries, actions, 1)
 }
 
-fn build(stream: &[u8], table: &[u16; table::LENGTH], actions: &[u64]) {
-    text(b"BUILD ");
-    subtable(stream, table, access::get(actions, action::NUMBER));
+fn build<W: Write>(
+    out: &mut W,
+    stream: &[u8],
+    table: &[u16; table::LENGTH],
+    actions: &[u64],
+) -> io::Result<()> {
+    text(out, b"BUILD ")?;
+    subtable(out, stream, table, access::get(actions, action::NUMBER))
 }
 
-fn kind(stream: &[u8], table: &[u16; table::LENGTH], temporaries: &[u64], actions: &[u64]) {
+fn kind<W: Write>(
+    out: &mut W,
+    stream: &[u8],
+    table: &[u16; table::LENGTH],
+    temporaries: &[u64],
+    actions: &[u64],
+) -> io::Result<()> {
     match access::get(actions, action::KIND) {
-        action_kind::OP => operation(stream, table, temporaries, actions),
-        action_kind::ADDRESS_OF => address_of(stream, table, temporaries, actions),
-        action_kind::LOAD_REGISTER => load_register(stream, table, temporaries, actions),
-        action_kind::STORE_REGISTER => store_register(stream, table, temporaries, actions),
-        action_kind::DELAY_SLOT => text(b"DELAYSLOT"),
-        _ => build(stream, table, actions),
+        action_kind::OP => operation(out, stream, table, temporaries, actions),
+        action_kind::ADDRESS_OF => address_of(out, stream, table, temporaries, actions),
+        action_kind::LOAD_REGISTER => load_register(out, stream, table, temporaries, actions),
+        action_kind::STORE_REGISTER => store_register(out, stream, table, temporaries, actions),
+        action_kind::DELAY_SLOT => text(out, b"DELAYSLOT"),
+        _ => build(out, stream, table, actions),
     }
 }
 
@@ -251,39 +347,48 @@ fn is_label(actions: &[u64]) -> bool {
 }
 
 // An action of 24 words.
-fn action(stream: &[u8], table: &[u16; table::LENGTH], temporaries: &[u64], actions: &[u64]) {
+fn action<W: Write>(
+    out: &mut W,
+    stream: &[u8],
+    table: &[u16; table::LENGTH],
+    temporaries: &[u64],
+    actions: &[u64],
+) -> io::Result<()> {
     if is_label(actions) {
-        label(access::get(actions, action::NUMBER));
-        text(b"\n");
-        return;
+        label(out, access::get(actions, action::NUMBER))?;
+        return text(out, b"\n");
     }
-    text(b"  ");
-    kind(stream, table, temporaries, actions);
-    text(b"\n");
+    text(out, b"  ")?;
+    kind(out, stream, table, temporaries, actions)?;
+    text(out, b"\n")
 }
 
-fn action_in(
+fn action_in<W: Write>(
+    out: &mut W,
     stream: &[u8],
     table: &[u16; table::LENGTH],
     temporaries: &[u64],
     list: &[u64],
     index: usize,
-) {
+) -> io::Result<()> {
     if index < list.len() / action::WORDS {
         let from = action::WORDS * index;
         let to = action::WORDS * index + action::WORDS;
-        action(stream, table, temporaries, &list[from..to]);
+        action(out, stream, table, temporaries, &list[from..to])?;
     }
+    Ok(())
 }
 
-pub(crate) fn actions(
+pub(crate) fn actions<W: Write>(
+    out: &mut W,
     s: &[u8],
     t: &[u16; table::LENGTH],
     temporaries: &[u64],
     list: &[u64],
     n: u64,
-) {
+) -> io::Result<()> {
     for i in 0..n {
-        action_in(s, t, temporaries, list, i as usize);
+        action_in(out, s, t, temporaries, list, i as usize)?;
     }
+    Ok(())
 }

@@ -4,11 +4,14 @@
 
 use actions::actions;
 use codes::{export_kind, table};
-use libc::STDERR_FILENO;
 use mizgalon::Checked;
 use print::{count, text};
 use refusals::{refusal, refusal_at};
 use resolve_answer::answer::Answer;
+use std::env::{Env, FillError};
+use std::fs;
+use std::io::{self, BufWriter, Read, Write};
+use std::rt::Files;
 use values::{size, value};
 
 mod actions;
@@ -17,224 +20,252 @@ mod refusals;
 mod statements;
 mod values;
 
-// Room for 32,768 actions, for all temporaries, and for a file and one byte more.
+// Room for 32,768 actions and for all temporaries.
 const WORDS: usize = 786432;
 
 const TEMPORARIES: usize = 512;
 
-const FILE: usize = 65537;
+// A file of more than 65,536 bytes is not read to its end: one byte more is enough to refuse it.
+const FILE: u64 = 65537;
 
-fn say(text: &[u8]) {
-    io::write_all(STDERR_FILENO, text);
-}
+// A path that the system takes is no longer.
+const PATH: usize = 4096;
 
 // How the export is reached: it is a value, or stands behind a pointer.
-fn export_space(answer: Answer) {
-    text(b"  export ");
+fn export_space<W: Write>(out: &mut W, answer: Answer) -> io::Result<()> {
+    text(out, b"  export ")?;
     if answer.kind == export_kind::VALUE {
-        return;
+        return Ok(());
     }
     if answer.kind == export_kind::RAM_REF {
-        text(b"*[ram]");
+        text(out, b"*[ram]")?;
     } else {
-        text(b"*[register]");
+        text(out, b"*[register]")?;
     }
-    size(answer.size);
-    text(b" ");
+    size(out, answer.size)?;
+    text(out, b" ")
 }
 
-fn export(stream: &[u8], table: &[u16; table::LENGTH], temporaries: &[u64], answer: Answer) {
+fn export<W: Write>(
+    out: &mut W,
+    stream: &[u8],
+    table: &[u16; table::LENGTH],
+    temporaries: &[u64],
+    answer: Answer,
+) -> io::Result<()> {
     if answer.kind == 0 {
-        return;
+        return Ok(());
     }
-    export_space(answer);
-    value(stream, table, temporaries, answer.number, answer.word);
-    text(b"\n");
+    export_space(out, answer)?;
+    value(out, stream, table, temporaries, answer.number, answer.word)?;
+    text(out, b"\n")
 }
 
-fn verdict(passes: bool) {
+fn verdict<W: Write>(out: &mut W, passes: bool) -> io::Result<()> {
     if passes {
-        text(b"the checker accepts the list\n");
-        return;
+        return text(out, b"the checker accepts the list\n");
     }
-    text(b"the checker does not accept the list\n");
+    text(out, b"the checker does not accept the list\n")
 }
 
-fn closing(answer: Answer, passes: bool) {
-    count(answer.actions, b"action", b"actions");
-    text(b", ");
-    count(answer.temporaries, b"temporary", b"temporaries");
-    text(b", ");
-    count(answer.labels, b"label", b"labels");
-    text(b", ");
-    count(answer.statements, b"statement", b"statements");
-    text(b", ");
-    count(answer.points, b"point", b"points");
-    text(b"; ");
-    verdict(passes);
+fn closing<W: Write>(out: &mut W, answer: Answer, passes: bool) -> io::Result<()> {
+    count(out, answer.actions, b"action", b"actions")?;
+    text(out, b", ")?;
+    count(out, answer.temporaries, b"temporary", b"temporaries")?;
+    text(out, b", ")?;
+    count(out, answer.labels, b"label", b"labels")?;
+    text(out, b", ")?;
+    count(out, answer.statements, b"statement", b"statements")?;
+    text(out, b", ")?;
+    count(out, answer.points, b"point", b"points")?;
+    text(out, b"; ")?;
+    verdict(out, passes)
 }
 
-fn accepted(
+fn accepted<W: Write>(
+    out: &mut W,
     stream: &[u8],
     table: &[u16; table::LENGTH],
     list: &[u64],
     temporaries: &[u64],
     answer: Checked,
-) {
+) -> io::Result<()> {
     let a = answer.answer;
-    actions(stream, table, temporaries, list, a.actions);
-    export(stream, table, temporaries, a);
-    closing(a, answer.passes);
+    actions(out, stream, table, temporaries, list, a.actions)?;
+    export(out, stream, table, temporaries, a)?;
+    closing(out, a, answer.passes)
 }
 
 // The section of a stream and its table.
-fn list_section(
+fn list_section<W: Write>(
+    out: &mut W,
     stream: &[u8],
     table: &[u16; table::LENGTH],
     list: &[u64],
     temporaries: &[u64],
     answer: Checked,
-) {
+) -> io::Result<()> {
     let a = answer.answer;
     if a.refusal != 0 {
-        refusal_at(stream, table, a);
-        return;
+        return refusal_at(out, stream, table, a);
     }
     let n = a.temporaries as usize;
     if n <= temporaries.len() {
-        accepted(stream, table, list, &temporaries[..n], answer);
+        accepted(out, stream, table, list, &temporaries[..n], answer)?;
     }
+    Ok(())
 }
 
 // The same, where the table is an array.
-fn list_table(
+fn list_table<W: Write>(
+    out: &mut W,
     stream: &[u8],
     table: &[u16; table::LENGTH],
     list: &[u64],
     temporaries: &[u64],
     answer: Checked,
-) {
-    list_section(stream, table, list, temporaries, answer);
+) -> io::Result<()> {
+    list_section(out, stream, table, list, temporaries, answer)
 }
 
-fn list_stream(stream: &[u8], list: &[u64], temporaries: &[u64], answer: Checked) {
+fn list_stream<W: Write>(
+    out: &mut W,
+    stream: &[u8],
+    list: &[u64],
+    temporaries: &[u64],
+    answer: Checked,
+) -> io::Result<()> {
     let mut t = [0u16; table::LENGTH];
     let bad = file_section::read_stream(stream, &mut t);
     if bad != 0 {
-        refusal(answer.answer);
-        return;
+        return refusal(out, answer.answer);
     }
-    list_table(stream, &t, list, temporaries, answer);
+    list_table(out, stream, &t, list, temporaries, answer)
 }
 
 // The stream is the first n bytes, which are there.
-fn list_front(bytes: &[u8], count: usize, list: &[u64], temporaries: &[u64], answer: Checked) {
+fn list_front<W: Write>(
+    out: &mut W,
+    bytes: &[u8],
+    count: usize,
+    list: &[u64],
+    temporaries: &[u64],
+    answer: Checked,
+) -> io::Result<()> {
     if count <= bytes.len() {
-        list_stream(&bytes[..count], list, temporaries, answer);
+        list_stream(out, &bytes[..count], list, temporaries, answer)?;
     }
+    Ok(())
 }
 
 // A file of several blocks, whose payloads are joined.
-fn list_blocks(file: &[u8], list: &[u64], temporaries: &[u64], answer: Checked) {
+fn list_blocks<W: Write>(
+    out: &mut W,
+    file: &[u8],
+    list: &[u64],
+    temporaries: &[u64],
+    answer: Checked,
+) -> io::Result<()> {
     let mut buf = [0u8; 65280];
     let n = file.len() / 512 * 510;
     if n <= 65280 {
         file_blocks::blocks::join(file, &mut buf);
-        list_front(&buf, n, list, temporaries, answer);
+        list_front(out, &buf, n, list, temporaries, answer)?;
     }
+    Ok(())
 }
 
-fn list_file(file: &[u8], list: &[u64], temporaries: &[u64], answer: Checked) {
+fn list_file<W: Write>(
+    out: &mut W,
+    file: &[u8],
+    list: &[u64],
+    temporaries: &[u64],
+    answer: Checked,
+) -> io::Result<()> {
     if file_blocks::blocks::check_blocks(file) != 0 {
-        refusal(answer.answer);
-        return;
+        return refusal(out, answer.answer);
     }
     if file.len() == 512 {
-        list_front(file, 510, list, temporaries, answer);
-        return;
+        return list_front(out, file, 510, list, temporaries, answer);
     }
-    list_blocks(file, list, temporaries, answer);
+    list_blocks(out, file, list, temporaries, answer)
 }
 
-fn list_lists(file: &[u8], list: &[u64; WORDS], temporaries: &[u64; TEMPORARIES], answer: Checked) {
-    list_file(file, list, temporaries, answer);
-}
-
-fn resolve_lists(
-    file: &[u8],
-    list: &mut [u64; WORDS],
-    temporaries: &mut [u64; TEMPORARIES],
-) -> Checked {
-    mizgalon::resolve_checked(file, list, temporaries)
-}
-
-// A section can have more actions than 32,768 (docs/DECISIONS.md says how many), but the usual stack of 8 MiB holds no longer
-// list.
-fn listing(file: &[u8]) {
-    let mut list = [0u64; WORDS];
+// A section can have more actions than there is room for: docs/DECISIONS.md says how many.
+fn listing(rt: &(impl Print + Eprint + AllocGlobal), file: &[u8]) -> io::Result<()> {
+    let mut list = vec![in rt.alloc(); 0u64; WORDS]?;
     let mut temporaries = [0u64; TEMPORARIES];
-    let r = resolve_lists(file, &mut list, &mut temporaries);
+    let r = mizgalon::resolve_checked(file, &mut list, &mut temporaries);
     if r.answer.refusal == codes::refusal::LIST_FULL {
-        say(b"listing: the section has more than 32,768 actions, for which it has no room\n");
-        return;
+        return eprintln!(rt;
+            "listing: the section has more than 32,768 actions, for which it has no room"
+        );
     }
-    list_lists(file, &list, &temporaries, r);
+    let mut out = BufWriter::new(rt.alloc(), io::writer(rt))?;
+    list_file(&mut out, file, &list, &temporaries, r)?;
+    out.flush()
 }
 
-// The first n bytes, which are there.
-fn listing_first(file: &[u8], count: usize) {
-    if count <= file.len() {
-        listing(&file[..count]);
+// What the system says of an error, without the number behind it.
+fn words(said: &str) -> &str {
+    match said.split_once(" (os error ") {
+        Some((words, _)) => words,
+        None => said,
     }
 }
 
-fn listing_read(file: &[u8; FILE], count: usize) {
-    listing_first(file, count);
+fn fail(rt: &(impl Eprint + AllocGlobal), path: &str, error: &io::Error) -> io::Result<()> {
+    let said = error.to_string(rt.alloc())?;
+    eprintln!(rt; "{path}: {}", words(said.as_str()))
 }
 
-fn read_failed(fd: i32, file: &mut [u8; FILE]) -> bool {
-    libc::read(fd, file) < 0
+fn listing_open<R: Print + Eprint + AllocGlobal, F: Read + Drop>(
+    rt: &R,
+    file: F,
+    path: &str,
+) -> io::Result<()> {
+    let mut bytes = Vec::new(rt.alloc());
+    if let Err(error) = file.take(FILE).read_to_end(&mut bytes) {
+        eprint!(rt; "listing: the file cannot be read: ")?;
+        return fail(rt, path, &error);
+    }
+    listing(rt, &bytes)
 }
 
-// A file of more than 65,536 bytes is not read to its end: one byte more is enough to refuse it.
-fn listing_open(fd: i32, path: &[u8]) {
-    let mut file = [0u8; FILE];
-    let n = io::read_full(fd, &mut file);
-    if n == 0 {
-        if read_failed(fd, &mut file) {
-            say(b"listing: the file cannot be read: ");
-            os::fail(path);
-            return;
+fn listing_path(rt: &(impl Files + Print + Eprint + AllocGlobal), path: &str) -> io::Result<()> {
+    match fs::open(rt, path) {
+        Ok(file) => listing_open(rt, file, path),
+        Err(error) => {
+            eprint!(rt; "listing: the file cannot be opened: ")?;
+            fail(rt, path, &error)
         }
     }
-    listing_read(&file, n);
 }
 
-fn listing_path(path: &[u8]) {
-    let fd = os::open_read(path);
-    if fd < 0 {
-        say(b"listing: the file cannot be opened: ");
-        os::fail(path);
-        return;
-    }
-    listing_open(fd, path);
-    libc::close(fd);
+fn usage(rt: &impl Eprint) -> io::Result<()> {
+    eprintln!(rt; "listing: name one section file: listing FILE")
 }
 
-fn usage() {
-    say(b"listing: name one section file: listing FILE\n");
+// The file that the one argument names.
+fn listing_argument(rt: &(impl Env + Files + Print + Eprint + AllocGlobal)) -> io::Result<()> {
+    let mut path = [0u8; PATH];
+    match rt.arg(1, &mut path) {
+        Ok(n) => match str::from_utf8(&path[..n]) {
+            Ok(path) => listing_path(rt, path),
+            Err(_) => eprintln!(rt; "listing: the file cannot be opened: its name is not UTF-8"),
+        },
+        Err(_) => usage(rt),
+    }
 }
 
-fn main() {
-    let mut path = io::buffer();
-    let n = os::arg(1, &mut path);
-    if os::errno() != 0 {
-        usage();
-        return;
+// Whether there is an argument i, of any length.
+fn is_given(rt: &impl Env, index: usize) -> bool {
+    !matches!(rt.arg(index, &mut [0u8; 1]), Err(FillError::NotPresent))
+}
+
+fn main(rt: HostRuntime) -> io::Result<()> {
+    if is_given(&rt, 2) {
+        return usage(&rt);
     }
-    if os::arg_count() != 2 {
-        usage();
-        return;
-    }
-    listing_path(&path[..n]);
+    listing_argument(&rt)
 }

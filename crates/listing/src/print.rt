@@ -1,28 +1,26 @@
-// Pieces of text on standard output: words, numbers, counts and names.
-use libc::STDOUT_FILENO;
+// Pieces of the output: words, numbers, counts and names.
+use std::io::{self, Write};
 
-pub(crate) fn text(words: &[u8]) {
-    io::write_all(STDOUT_FILENO, words);
+pub(crate) fn text<W: Write>(out: &mut W, words: &[u8]) -> io::Result<()> {
+    out.write_all(words)
 }
 
-pub(crate) fn number(n: u64) {
-    io::print_decimal(STDOUT_FILENO, n);
+pub(crate) fn number<W: Write>(out: &mut W, n: u64) -> io::Result<()> {
+    write!(out, "{n}")
 }
 
-pub(crate) fn hexadecimal(n: u64) {
-    text(b"0x");
-    io::print_hex(STDOUT_FILENO, n, 1);
+pub(crate) fn hexadecimal<W: Write>(out: &mut W, n: u64) -> io::Result<()> {
+    write!(out, "0x{n:x}")
 }
 
 // So many of a thing: `1 label`, `2 labels`.
-pub(crate) fn count(n: u64, one: &[u8], more: &[u8]) {
-    number(n);
-    text(b" ");
+pub(crate) fn count<W: Write>(out: &mut W, n: u64, one: &[u8], more: &[u8]) -> io::Result<()> {
+    number(out, n)?;
+    text(out, b" ")?;
     if n == 1 {
-        text(one);
-        return;
+        return text(out, one);
     }
-    text(more);
+    text(out, more)
 }
 
 // Whether a byte has a visible sign of its own.
@@ -42,27 +40,25 @@ fn all_plain(name: &[u8]) -> bool {
     true
 }
 
-fn sign(byte: u8) {
+fn sign<W: Write>(out: &mut W, byte: u8) -> io::Result<()> {
     if is_plain(byte) {
         let one = [byte];
-        text(&one);
-        return;
+        return text(out, &one);
     }
-    text(b"\\x");
-    io::print_hex(STDOUT_FILENO, byte as u64, 2);
+    write!(out, "\\x{byte:02x}")
 }
 
-fn signs(name: &[u8]) {
+fn signs<W: Write>(out: &mut W, name: &[u8]) -> io::Result<()> {
     for i in 0..name.len() {
-        sign(name[i]);
+        sign(out, name[i])?;
     }
+    Ok(())
 }
 
 // A file's name may have any bytes: those that are not visible ASCII are written by their numbers.
-pub(crate) fn name(name: &[u8]) {
+pub(crate) fn name<W: Write>(out: &mut W, name: &[u8]) -> io::Result<()> {
     if all_plain(name) {
-        text(name);
-        return;
+        return text(out, name);
     }
-    signs(name);
+    signs(out, name)
 }

@@ -2,20 +2,21 @@
 use crate::print::{name, number, text};
 use codes::{header, statement, table};
 use file_syntax::cursor::Cursor;
+use std::io::{self, Write};
 
-fn kind(code: u64) {
+fn kind<W: Write>(out: &mut W, code: u64) -> io::Result<()> {
     match code {
-        statement::UNIMPLEMENTED => text(b"unimplemented"),
-        statement::EXPORT => text(b"an export"),
-        statement::LOCAL => text(b"a local"),
-        statement::LOCAL_ASSIGNMENT => text(b"a local assignment"),
-        statement::BUILD => text(b"a build"),
-        statement::COPY => text(b"a copy"),
-        statement::STORE => text(b"a store"),
-        statement::CALL => text(b"a call"),
-        statement::BRANCH => text(b"a branch"),
-        statement::COND_BRANCH => text(b"a conditional branch"),
-        _ => text(b"a label"),
+        statement::UNIMPLEMENTED => text(out, b"unimplemented"),
+        statement::EXPORT => text(out, b"an export"),
+        statement::LOCAL => text(out, b"a local"),
+        statement::LOCAL_ASSIGNMENT => text(out, b"a local assignment"),
+        statement::BUILD => text(out, b"a build"),
+        statement::COPY => text(out, b"a copy"),
+        statement::STORE => text(out, b"a store"),
+        statement::CALL => text(out, b"a call"),
+        statement::BRANCH => text(out, b"a branch"),
+        statement::COND_BRANCH => text(out, b"a conditional branch"),
+        _ => text(out, b"a label"),
     }
 }
 
@@ -26,8 +27,8 @@ fn place(stream: &[u8], at: usize, count: u64) -> usize {
 }
 
 // The kind of statement n of those that begin at a place.
-fn kind_at(stream: &[u8], at: usize, count: u64) {
-    kind(access::byte(stream, place(stream, at, count), 0));
+fn kind_at<W: Write>(out: &mut W, stream: &[u8], at: usize, count: u64) -> io::Result<()> {
+    kind(out, access::byte(stream, place(stream, at, count), 0))
 }
 
 // The ordinals count from first.
@@ -61,35 +62,58 @@ fn body_at(stream: &[u8], at: u16) -> usize {
 }
 
 // The name that stands at a place.
-fn macro_name(stream: &[u8], table: &[u16; table::LENGTH], at: usize) {
-    name(listing_names::names::name(stream, table, access::u16_at(stream, at)));
+fn macro_name<W: Write>(
+    out: &mut W,
+    stream: &[u8],
+    table: &[u16; table::LENGTH],
+    at: usize,
+) -> io::Result<()> {
+    name(
+        out,
+        listing_names::names::name(stream, table, access::u16_at(stream, at)),
+    )
 }
 
-fn in_macro(stream: &[u8], table: &[u16; table::LENGTH], ordinal: u64) {
+fn in_macro<W: Write>(
+    out: &mut W,
+    stream: &[u8],
+    table: &[u16; table::LENGTH],
+    ordinal: u64,
+) -> io::Result<()> {
     let i = macro_of(stream, table, ordinal) % 128;
     let first = access::get_u16(table, table::MACRO_ORDINALS + i) as u64;
     let at = access::get_u16(table, table::MACROS + i);
-    kind_at(stream, body_at(stream, at), since(ordinal, first));
-    text(b" in macro ");
+    kind_at(out, stream, body_at(stream, at), since(ordinal, first))?;
+    text(out, b" in macro ")?;
     if 2 <= at {
-        macro_name(stream, table, at as usize - 2);
+        macro_name(out, stream, table, at as usize - 2)?;
     }
+    Ok(())
 }
 
-fn described(stream: &[u8], table: &[u16; table::LENGTH], ordinal: u64) {
+fn described<W: Write>(
+    out: &mut W,
+    stream: &[u8],
+    table: &[u16; table::LENGTH],
+    ordinal: u64,
+) -> io::Result<()> {
     let first = access::get_u16(table, table::FIRST_ORDINAL) as u64;
     if ordinal < first {
-        in_macro(stream, table, ordinal);
-        return;
+        return in_macro(out, stream, table, ordinal);
     }
     let at = access::get_u16(table, table::STATEMENTS) as usize;
-    kind_at(stream, at, since(ordinal, first));
+    kind_at(out, stream, at, since(ordinal, first))
 }
 
-pub(crate) fn statement(s: &[u8], t: &[u16; table::LENGTH], ordinal: u64) {
-    text(b"at statement ");
-    number(ordinal);
-    text(b", ");
-    described(s, t, ordinal);
-    text(b"\n");
+pub(crate) fn statement<W: Write>(
+    out: &mut W,
+    s: &[u8],
+    t: &[u16; table::LENGTH],
+    ordinal: u64,
+) -> io::Result<()> {
+    text(out, b"at statement ")?;
+    number(out, ordinal)?;
+    text(out, b", ")?;
+    described(out, s, t, ordinal)?;
+    text(out, b"\n")
 }
