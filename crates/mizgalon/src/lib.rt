@@ -1,4 +1,5 @@
-// The public face: a section file resolved into lent lists, and the checker of such lists; for Rattle, and as C functions.
+// The public face: a section file resolved into lent lists, and the checker of such lists. The crate mizgalon_c exports to C
+// the two functions whose names begin with mizgalon_.
 #![tactic(auto)]
 
 ghost use Rattle.std.specs.Prelude.{◌≡◌, length, true};
@@ -6,7 +7,7 @@ ghost use Rattle.definition.specs.ActionList.{numbers, resolve};
 ghost use Rattle.definition.specs.Checker.{check};
 ghost use Rattle.definition.specs.Premise.{premise};
 ghost use Rattle.definition.specs.Passing.{checked};
-ghost use Rattle.resolve_refinement.specs.Answers.{result, answer};
+ghost use Rattle.resolve_refinement.specs.Answers.{result as result_of, answer};
 
 use resolve_answer::answer::Answer;
 use resolve_file::resolve_words;
@@ -20,13 +21,13 @@ pub struct Checked {
 
 // Every file and every pair of lists: an accepted section, or one refusal after which both lists are zero.
 pub fn resolve(file: &[u8], actions: &mut [u64], temporaries: &mut [u64]) -> Answer
-    ensures* { λ r. ⌜ answer (result r) actions.new temporaries.new ≡ resolve file.now (length actions.old) (length temporaries.old) ⌝ }
+    ensures { answer (result_of result) actions.new temporaries.new ≡ resolve file.now (length actions.old) (length temporaries.old) }
 {
     resolve_words(file, actions, temporaries)
 }
 
 fn numbers(answer: Answer) -> [u64; 12]
-    ensures* { λ x. ⌜ x ≡ numbers (result answer) ⌝ }
+    ensures { result ≡ numbers (result_of answer) }
 {
     [
         answer.refusal,
@@ -45,16 +46,15 @@ fn numbers(answer: Answer) -> [u64; 12]
 }
 
 // The same, with the twelve numbers in a lent array.
-#[unsafe(no_mangle)]
-pub extern "C" fn mizgalon_resolve(
+pub fn mizgalon_resolve(
     file: &[u8],
     actions: &mut [u64],
     temporaries: &mut [u64],
     res: &mut [u64; 12],
 )
-    ensures* res_after { λ _. ⌜ res.new ≡ numbers (resolve file.now (length actions.old) (length temporaries.old)).result ⌝ }
-    ensures* actions_after { λ _. ⌜ actions.new ≡ (resolve file.now (length actions.old) (length temporaries.old)).actions ⌝ }
-    ensures* temporaries_after { λ _. ⌜ temporaries.new ≡ (resolve file.now (length actions.old) (length temporaries.old)).temporaries ⌝ }
+    ensures res_after { res.new ≡ numbers (resolve file.now (length actions.old) (length temporaries.old)).result }
+    ensures actions_after { actions.new ≡ (resolve file.now (length actions.old) (length temporaries.old)).actions }
+    ensures temporaries_after { temporaries.new ≡ (resolve file.now (length actions.old) (length temporaries.old)).temporaries }
 {
     let r = resolve(file, actions, temporaries);
     *res = numbers(r);
@@ -62,9 +62,9 @@ pub extern "C" fn mizgalon_resolve(
 
 // Resolves and checks the outcome. Under the premise every accepted list passes.
 pub fn resolve_checked(file: &[u8], actions: &mut [u64], temporaries: &mut [u64]) -> Checked
-    ensures* temporaries_after { λ r. ⌜ answer (result r.answer) actions.new temporaries.new ≡ resolve file.now (length actions.old) (length temporaries.old) ⌝ }
-    ensures* passes_value { λ r. ⌜ r.passes ≡ checked file.now (length actions.old) (length temporaries.old) ⌝ }
-    ensures* fact { λ r. ⌜ (premise file.now (length actions.old) (length temporaries.old) ≡ true → r.answer.refusal ≡ 0 → r.passes ≡ true) ⌝ }
+    ensures resolved { answer (result_of result.answer) actions.new temporaries.new ≡ resolve file.now (length actions.old) (length temporaries.old) }
+    ensures passes_value { result.passes ≡ checked file.now (length actions.old) (length temporaries.old) }
+    ensures premise_passes { premise file.now (length actions.old) (length temporaries.old) ≡ true → result.answer.refusal ≡ 0 → result.passes ≡ true }
 {
     let answer = resolve(file, actions, temporaries);
     if answer.refusal != 0 {
@@ -85,15 +85,14 @@ pub fn resolve_checked(file: &[u8], actions: &mut [u64], temporaries: &mut [u64]
 }
 
 // Whether a list is one that passes, whoever made it.
-#[unsafe(no_mangle)]
-pub extern "C" fn mizgalon_check(
+pub fn mizgalon_check(
     list: &[u64],
     actions: u64,
     temporaries: u64,
     subtables: u64,
     pointer_size: u64,
 ) -> bool
-    ensures* { λ r. ⌜ r ≡ check list.now actions temporaries subtables pointer_size ⌝ }
+    ensures { result ≡ check list.now actions temporaries subtables pointer_size }
 {
     list_checker::check(list, actions, temporaries, subtables, pointer_size)
 }
