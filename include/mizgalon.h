@@ -1,7 +1,7 @@
 /*
  * mizgalon.h: resolves a SLEIGH semantic section into a list of p-code actions, and checks such lists.
  *
- * Link with libmizgalon.a (made by `rt staticlib mizgalon`, x86-64, needs memcpy and memset alone).
+ * Link with libmizgalon.a (made by bindings/build, x86-64, needs memcpy and memset alone).
  *
  * Every function here takes any arguments: no file, no list and no number is undefined behaviour, as
  * long as each pointer has as many elements behind it as the length beside it says. Lengths count

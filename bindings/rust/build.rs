@@ -8,7 +8,7 @@ fn main() {
     let folder = env::var_os("MIZGALON_LIBRARY_DIR").map_or_else(own, PathBuf::from);
     let archive = folder.join("libmizgalon.a");
     if !archive.is_file() {
-        panic!("{} is not there; make it with: rt staticlib mizgalon", archive.display());
+        panic!("{} is not there; make it with: bindings/build", archive.display());
     }
     println!("cargo:rerun-if-changed={}", archive.display());
     println!("cargo:rustc-link-search=native={}", folder.display());
