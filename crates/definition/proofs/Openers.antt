@@ -71,26 +71,26 @@ unfoldable pub end_opens : Unit {0}
 unfolding base_opens refusals_opens operations_opens value_opens ast_opens sizes_opens walk_opens scope_opens statements_opens end.no_errors end.sliced_inputs end.subpiece_copy end.finish_op end.finish_actions end.finish_export end.is_build end.builds end.implicit_builds end.finish end.resolve_statements end.resolve_section end.at_start
 end_opens = tt
 
-unfoldable pub action-list_opens : Unit {0}
+unfoldable pub action_list_opens : Unit {0}
 unfolding base_opens refusals_opens operations_opens value_opens ast_opens section_file_opens walk_opens end_opens actionlist.or_none actionlist.value_words actionlist.input_words actionlist.action_kind_number actionlist.output_words actionlist.operation_word actionlist.filled actionlist.action_words actionlist.list_words actionlist.temporary_word actionlist.places_label actionlist.labels_placed actionlist.points actionlist.export_kind_number actionlist.of_export actionlist.refusal_result actionlist.accepted_result actionlist.room_for actionlist.when_read actionlist.refusal actionlist.accepted actionlist.answered actionlist.resolve_read actionlist.resolve
-action-list_opens = tt
+action_list_opens = tt
 
 unfoldable pub checker_opens : Unit {0}
-unfolding base_opens operations_opens value_opens sizes_opens end_opens action-list_opens checker.shapes checker.operation_numbered checker.op_numbered checker.action_kind_numbered checker.kinds checker.size_from checker.value_from checker.inputs_from checker.some_value checker.output_from checker.action_from checker.actions_from checker.same_count checker.counts_fit checker.plain_base checker.base_fits checker.shape_fits checker.option_fits checker.shape_of checker.number_fits checker.value_fits checker.layout_fits checker.is_sized checker.size_at checker.has_size checker.all_have_size checker.step_holds checker.operation_holds checker.sizes_hold checker.places checker.labels_once checker.all_built checker.list_holds checker.check
+unfolding base_opens operations_opens value_opens sizes_opens end_opens action_list_opens checker.shapes checker.operation_numbered checker.op_numbered checker.action_kind_numbered checker.kinds checker.size_from checker.value_from checker.inputs_from checker.some_value checker.output_from checker.action_from checker.actions_from checker.same_count checker.counts_fit checker.plain_base checker.base_fits checker.shape_fits checker.option_fits checker.shape_of checker.number_fits checker.value_fits checker.layout_fits checker.is_sized checker.size_at checker.has_size checker.all_have_size checker.step_holds checker.operation_holds checker.sizes_hold checker.places checker.labels_once checker.all_built checker.list_holds checker.check
 checker_opens = tt
 
 unfoldable pub right_opens : Unit {0}
-unfolding base_opens operations_opens value_opens sizes_opens action-list_opens checker_opens right.NumberWithin
+unfolding base_opens operations_opens value_opens sizes_opens action_list_opens checker_opens right.NumberWithin
 right_opens = tt
 
 unfoldable pub premise_opens : Unit {0}
-unfolding base_opens value_opens ast_opens section_file_opens sizes_opens walk_opens end_opens action-list_opens premise.temporaries_among premise.under_rule premise.ruled premise.is_sized_in premise.union premise.sized_late premise.sized_late_walk premise.walked premise.late_in premise.premise_failures premise.premise
+unfolding base_opens value_opens ast_opens section_file_opens sizes_opens walk_opens end_opens action_list_opens premise.temporaries_among premise.under_rule premise.ruled premise.is_sized_in premise.union premise.sized_late premise.sized_late_walk premise.walked premise.late_in premise.premise_failures premise.premise
 premise_opens = tt
 
 unfoldable pub passing_opens : Unit {0}
-unfolding base_opens ast_opens section_file_opens sizes_opens action-list_opens checker_opens passing.subtable_count passing.pointer_size_in passing.checked
+unfolding base_opens ast_opens section_file_opens sizes_opens action_list_opens checker_opens passing.subtable_count passing.pointer_size_in passing.checked
 passing_opens = tt
 
 unfoldable pub starred_opens : Unit {0}
-unfolding operations_opens ast_opens section_file_opens action-list_opens premise_opens passing_opens starred.worked starred.bytes_before starred.block starred.first_names starred.spaces_and_registers starred.padded starred.starred_sections
+unfolding operations_opens ast_opens section_file_opens action_list_opens premise_opens passing_opens starred.worked starred.bytes_before starred.block starred.first_names starred.spaces_and_registers starred.padded starred.starred_sections
 starred_opens = tt

@@ -1,5 +1,5 @@
 -- THE ACTION LIST, the second list and the result as words; and `resolve`, which public contracts cite.
-use Rattle.std.specs.Prelude.{ℕ, zero, suc, ◌+◌, ◌*◌, ◌/◌, ◌^◌, min, Bool, true, false, List, [], ◌∷◌, ◌++◌, map, length, replicate}
+use Rattle.std.specs.Prelude.{ℕ, zero, suc, ◌+◌, ◌*◌, ◌/◌, ◌^◌, min, Bool, false, List, [], ◌∷◌, ◌++◌, map, length, replicate}
 use Rattle.std.proofs.Math.Option.{Option, none, some}
 use Rattle.prelude.specs.Base.{if◌then◌else◌, or_else, and_then, sum}
 use Rattle.definition.specs.Refusals.{Refusal, refusal_number}

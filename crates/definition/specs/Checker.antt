@@ -4,11 +4,11 @@ use Rattle.std.specs.Prelude.{ℕ, zero, suc, ◌*◌, ◌/◌, ◌%◌, ◌^◌
 use Rattle.std.proofs.Math.Option.{Option, none, some}
 use Rattle.std.proofs.Math.ListN.{get_elem?}
 use Rattle.prelude.specs.Base.{if◌then◌else◌, or_else, and_then, is_some, any, all, first, same_numbers, contains}
-use Rattle.definition.specs.Operations.{Operation, operation_number, operators, one_inputs, among, is_op}
+use Rattle.definition.specs.Operations.{Operation, operation_number, operators, one_inputs, among}
 use Rattle.definition.specs.Value.{Kind, Value, ActionKind, SemanticAction, operation_of}
 use Rattle.definition.specs.Sizes.{Operand, fixed_size, Step, equal, exactly, by_default, steps_of, at}
 use Rattle.definition.specs.End.{builds}
-use Rattle.definition.specs.ActionList.{filled, action_words, list_words, places_label}
+use Rattle.definition.specs.ActionList.{filled, list_words, places_label}
 
 -- The input and output counts that `resolve` can give an action, and what its number stays below.
 

@@ -2,12 +2,12 @@
 use Rattle.std.specs.Prelude.{ℕ, zero, suc, Bool, true, false, List, [], ◌∷◌, ◌++◌, length, eqb, leb}
 use Rattle.std.proofs.Math.Option.{Option, none, some}
 use Rattle.prelude.specs.Base.{if◌then◌else◌, and_then, any}
-use Rattle.definition.specs.Refusals.{Refusal, list_full, subpiece_size, errors_recorded}
+use Rattle.definition.specs.Refusals.{list_full, subpiece_size, errors_recorded}
 use Rattle.definition.specs.Operations.{Operation, is_op}
 use Rattle.definition.specs.Value.{Value, ActionKind, SemanticAction, operation_of, Temporary, Export}
-use Rattle.definition.specs.Ast.{Macro, Section}
-use Rattle.definition.specs.Sizes.{Sizing, apply_size_inference, fix_size, fix_operands}
-use Rattle.definition.specs.Walk.{State, Env, Outcome, stopped, Walk, ◌>>=◌, ◌>>◌, pure, require, expect, env, section, state, by_sizes, sliced}
+use Rattle.definition.specs.Ast.{Section}
+use Rattle.definition.specs.Sizes.{apply_size_inference, fix_size, fix_operands}
+use Rattle.definition.specs.Walk.{State, stopped, Walk, ◌>>=◌, ◌>>◌, pure, require, expect, env, section, state, by_sizes, sliced}
 use Rattle.definition.specs.Scope.{section_scope}
 use Rattle.definition.specs.Statements.{ordinal_after, resolve_body}
 

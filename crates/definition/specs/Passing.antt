@@ -1,6 +1,6 @@
 -- DEMAND 3: whether the action list of a file's answer passes the checker, with the answer's own counts and those of
 -- the section.
-use Rattle.std.specs.Prelude.{ℕ, Bool, true, false, List, eqb, length}
+use Rattle.std.specs.Prelude.{ℕ, Bool, false, List, eqb, length}
 use Rattle.prelude.specs.Base.{if◌then◌else◌}
 use Rattle.definition.specs.Ast.{Section}
 use Rattle.definition.specs.SectionFile.{Parsed, read}

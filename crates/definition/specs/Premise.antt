@@ -1,7 +1,6 @@
 -- THE PREMISE of demand 3. It fails exactly where the forward pass, at some action, sizes an unsized temporary that an
 -- operation with a rule, nearer the list's start, has as an operand at any offset.
-use Rattle.std.specs.Prelude.{ℕ, Bool, true, false, ◌&&◌, not, List, [], ◌∷◌, ◌++◌, eqb}
-use Rattle.std.proofs.Math.Option.{Option, none, some}
+use Rattle.std.specs.Prelude.{ℕ, Bool, true, ◌&&◌, not, List, [], ◌∷◌, ◌++◌, eqb}
 use Rattle.std.proofs.Math.ListN.{get_elem?}
 use Rattle.prelude.specs.Base.{if◌then◌else◌, and_then, is_some, any, filter, is_empty}
 use Rattle.definition.specs.Value.{Kind, Value, is_kind, SemanticAction, operation_of, Temporary, operands}

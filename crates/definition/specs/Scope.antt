@@ -5,7 +5,7 @@ use Rattle.prelude.specs.Base.{if◌then◌else◌, ◌or◌, and_then, is_some,
 use Rattle.definition.specs.Refusals.{Refusal, undefined, wrong_kind, redeclared, too_many_labels, label_twice}
 use Rattle.definition.specs.Value.{Kind, Value, local}
 use Rattle.definition.specs.Ast.{Space as SpaceEntry, Register as RegisterEntry, BitRange as BitRangeEntry, Table as TableEntry, Macro as MacroEntry, Field as FieldEntry, Subtable as SubtableEntry, Section}
-use Rattle.definition.specs.Walk.{ExprValue, Label, Scope, State, Walk, ◌>>=◌, ◌>>◌, pure, refuse, require, section, state, change, with_scope, with_label, add_tmp}
+use Rattle.definition.specs.Walk.{ExprValue, Label, Scope, Walk, ◌>>=◌, ◌>>◌, pure, refuse, require, section, state, change, with_scope, with_label, add_tmp}
 
 unfoldable pub find : {A : Type 0} → ℕ → List (ℕ × A) → Option A
 find n entries = first (λ e. if eqb n e.0 then some e.1 else none) entries

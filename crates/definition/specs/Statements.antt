@@ -1,12 +1,12 @@
 -- THE STATEMENT RULES, statements and macros.
-use Rattle.std.specs.Prelude.{ℕ, zero, suc, ◌+◌, ◌*◌, ◌-◌, ◌/◌, ◌%◌, ◌^◌, Bool, true, false, not, List, [], ◌∷◌, map, length, take, eqb, leb, ltb}
+use Rattle.std.specs.Prelude.{ℕ, zero, suc, ◌+◌, ◌*◌, ◌-◌, ◌/◌, ◌%◌, ◌^◌, not, List, [], ◌∷◌, map, length, take, eqb, leb, ltb}
 use Rattle.std.proofs.Math.Option.{Option, none, some}
 use Rattle.prelude.specs.Base.{if◌then◌else◌, and_then, is_some, position, sum}
 use Rattle.definition.specs.Refusals.{too_many_statements, macro_too_deep, after_export, undefined, wrong_kind, absent_table, delay_slot_argument, macro_arguments, store_to_no_address, jump_to_non_local, not_assignable, shift_too_far}
 use Rattle.definition.specs.Operations.{Operation}
 use Rattle.definition.specs.Value.{Kind, Value, is_kind, constant, ActionKind, ExportKind, Export}
 use Rattle.definition.specs.Ast.{PcodeExpr, Args, JumpLabel, BranchDst, BranchHint, Statement, Macro, Subtable}
-use Rattle.definition.specs.Sizes.{Sizing, pointer_size}
+use Rattle.definition.specs.Sizes.{pointer_size}
 use Rattle.definition.specs.Walk.{ExprValue, State, Walk, ◌>>=◌, ◌>>◌, pure, refuse, require, expect, section, state, change, state_of, with_scope, with_sizing, with_export, known_size, sliced, add_tmp, push, op, op_no_output}
 use Rattle.definition.specs.Scope.{Symbol, lookup, as_table, Meaning, means, wrong, meaning, resolve_ident, named_tmp, get_or_insert_label, resolve_label, macro_scope}
 use Rattle.definition.specs.Expressions.{mask, set_stated, take_stated, byte_aligned, read_value, value_of, read_all, as_local, resolve_address, only_integer, resolve_expr, resolve_args}

@@ -1,10 +1,10 @@
 -- THE WALK over statements: its state, and how steps follow each other until one refuses. Then temporaries and pushes.
 use Rattle.std.specs.Prelude.{ℕ, suc, ◌+◌, Bool, true, false, List, [], ◌∷◌, ◌++◌, length, leb}
 use Rattle.std.proofs.Math.Option.{Option, none, some}
-use Rattle.prelude.specs.Base.{if◌then◌else◌, or_else}
+use Rattle.prelude.specs.Base.{or_else}
 use Rattle.definition.specs.Refusals.{Refusal, list_full, too_many_temporaries, offset_too_far}
 use Rattle.definition.specs.Operations.{Operation}
-use Rattle.definition.specs.Value.{Kind, Value, local, slice_bytes, ActionKind, SemanticAction, Temporary, Export}
+use Rattle.definition.specs.Value.{Kind, Value, local, slice_bytes, ActionKind, SemanticAction, Export}
 use Rattle.definition.specs.Ast.{Section}
 use Rattle.definition.specs.Sizes.{Sizing, with_temporaries, size_of, update_operand_sizes}
 

@@ -9,7 +9,7 @@ use Rattle.prelude.specs.Base.{◌or◌, and_then, is_some, all, first, contains
 use Rattle.definition.specs.Operations.{Operation}
 use Rattle.definition.specs.Value.{Value, truncate, ActionKind, SemanticAction, operation_of, Temporary}
 use Rattle.definition.specs.Ast.{Section}
-use Rattle.definition.specs.Sizes.{Operand, in0, in1, out, FixedSize, one, pointer, Step, equal, exactly, by_default, rules, rule_of, steps_of, at, pointer_size, fixed_size}
+use Rattle.definition.specs.Sizes.{Operand, in0, in1, out, Step, equal, exactly, by_default, rules, rule_of, steps_of, at, pointer_size, fixed_size}
 use Rattle.definition.specs.Checker.{option_fits, is_sized, size_at, has_size, all_have_size, step_holds, operation_holds, sizes_hold}
 use Rattle.definition.proofs.Openers.{operations_opens}
 use Rattle.definition_guarantee.specs.Tests.{Each}

@@ -9,7 +9,7 @@ use Rattle.prelude.specs.Base.{is_empty}
 use Rattle.definition.specs.Ast.{Section}
 use Rattle.definition.specs.SectionFile.{Parsed, parsed, refused, read}
 use Rattle.definition.specs.Sizes.{pointer_size}
-use Rattle.definition.specs.Walk.{State, Env, Outcome, done, stopped}
+use Rattle.definition.specs.Walk.{Env, Outcome, done, stopped}
 use Rattle.definition.specs.End.{Semantics, finish, resolve_statements, resolve_section, at_start}
 use Rattle.definition.specs.ActionList.{accepted_result, refusal_result, refusal, accepted, answered, room_for, when_read, resolve_read, resolve}
 use Rattle.definition.specs.Checker.{check}

@@ -12,7 +12,7 @@ use Rattle.prelude.specs.Base.{if◌then◌else◌, or_else, and_then, any}
 use Rattle.definition.specs.Refusals.{Refusal}
 use Rattle.definition.specs.Operations.{Operation}
 use Rattle.definition.specs.Value.{Kind, Value, ActionKind, SemanticAction}
-use Rattle.definition.specs.Ast.{Space, Register, Table, Field, Subtable, Section}
+use Rattle.definition.specs.Ast.{Space, Register, Table, Field, Section}
 use Rattle.definition.specs.Sizes.{Sizing, pointer_size, export_size_of, size_of, set_size, settled}
 use Rattle.definition.specs.Walk.{ExprValue, Label, Scope, State, Env, Outcome, done, stopped, on, Walk, ◌>>=◌, ◌>>◌, pure, refuse, require, expect, section, by_sizes, known_size, with_sizing, sliced, op, change}
 use Rattle.definition.specs.Scope.{find}

@@ -12,7 +12,7 @@ use Rattle.definition.specs.Operations.{Operation, operation_number}
 use Rattle.definition.specs.Value.{Kind, Value, local, constant, operation_of}
 use Rattle.definition.specs.Ast.{PcodeOp, PcodeExpr, Args, no_args, arg, SpaceKind, BitRange as BitRangeEntry, Section}
 use Rattle.definition.specs.Spellings.{Inbuilt, translate_inbuilt_func}
-use Rattle.definition.specs.Walk.{ExprValue, Scope, State, Env, on, Walk, ◌>>=◌, expect, section, op}
+use Rattle.definition.specs.Walk.{ExprValue, Scope, State, Env, on, Walk, ◌>>=◌, expect}
 use Rattle.definition.specs.Scope.{find, Symbol, globals, lookup, as_space, as_table, Meaning, means, wrong, register_bits, global_meaning, inner_meaning, meaning_of, meaning, meant, resolve_ident}
 use Rattle.definition.specs.Expressions.{mask, copy_to, set_stated, take_known, take_stated, shift_and_mask, read_slice, read_value, value_of, read_all, slice_read, slice_bits, as_local, resolve_space, in_const_space, reference, address_in, resolve_address, binary, resolve_op, pass_args, call_user_op, arg_count, subpiece, call_symbol, call_inbuilt, call_named, resolve_call, resolve_expr, resolve_args, resolve_arg_values}
 use Rattle.definition.specs.Checker.{number_fits}

@@ -14,7 +14,7 @@ use Rattle.definition.specs.Operations.{Operation, operation_number}
 use Rattle.definition.specs.Value.{Value, ActionKind, SemanticAction, operation_of}
 use Rattle.definition.specs.Ast.{Statement, Macro}
 use Rattle.definition.specs.Sizes.{update_operand_sizes}
-use Rattle.definition.specs.Walk.{ExprValue, Label, State, Env, Outcome, done, stopped, on, Walk, pure, require, by_sizes, with_scope, with_label, with_sizing, with_action, push, push_op, op_no_output}
+use Rattle.definition.specs.Walk.{ExprValue, Label, State, Env, Outcome, done, stopped, on, Walk, pure, require, with_scope, with_label, with_sizing, with_action, push, push_op, op_no_output}
 use Rattle.definition.specs.Scope.{find, put_entry, named_tmp, with_entry, label_or, get_or_insert_label, resolve_label, bind_params, macro_scope}
 use Rattle.definition.specs.Statements.{enter_macro}
 use Rattle.definition_guarantee.specs.Tests.{Each}

@@ -11,9 +11,9 @@ use Rattle.prelude.specs.Base.{if◌then◌else◌, or_else, and_then, position}
 use Rattle.definition.specs.Refusals.{macro_too_deep}
 use Rattle.definition.specs.Operations.{Operation, operation_number}
 use Rattle.definition.specs.Value.{Kind, kind_number, Value, is_kind, constant, operation_of, Export}
-use Rattle.definition.specs.Ast.{PcodeExpr, Args, JumpLabel, BranchDst, BranchHint, Statement, Macro, Field, Subtable, Section}
+use Rattle.definition.specs.Ast.{PcodeExpr, Args, JumpLabel, BranchDst, BranchHint, Statement, Macro, Section}
 use Rattle.definition.specs.Sizes.{pointer_size}
-use Rattle.definition.specs.Walk.{ExprValue, Label, Env, Walk, ◌>>=◌, refuse, section, state, change, with_export}
+use Rattle.definition.specs.Walk.{ExprValue, Env, Walk, ◌>>=◌, refuse, state, change, with_export}
 use Rattle.definition.specs.Scope.{Symbol, Meaning, means, wrong}
 use Rattle.definition.specs.Expressions.{mask, resolve_expr, arg_count}
 use Rattle.definition.specs.Statements.{Destination, as_destination, as_name, target_name, dst_meaning, dst_named, resolve_dst, store, mask_but, write_bits, read_to, copy_into, Reference, to_ram, to_register, as_reference, store_register, store_in, store_at, export_of, build, hint_number, jump_value, direct_address, resolve_branch, delay_slot, user_op_statement, macro_statement, symbol_statement, call_statement, resolve_statement, begin_at, counted, begin, resolve_all, enter_macro, resolve_body}

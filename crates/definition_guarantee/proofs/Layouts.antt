@@ -11,7 +11,7 @@ use lib.ListN.{length, get_elem?}
 use Rattle.prelude.specs.Base.{if◌then◌else◌, ◌or◌, or_else, and_then, is_some, all, first, contains}
 use Rattle.definition.specs.Operations.{Operation, operation_number, is_op}
 use Rattle.definition.specs.Value.{Kind, Value, is_kind, truncate, slice_bytes, ActionKind, SemanticAction, operation_of, Temporary}
-use Rattle.definition.specs.Ast.{Register, Field, Subtable, Section}
+use Rattle.definition.specs.Ast.{Register, Field, Section}
 use Rattle.definition.specs.Sizes.{Operand, in0, in1, out, FixedSize, one, pointer, Step, equal, exactly, by_default, rules, rule_of, steps_of, at, put, Sizing, pointer_size, export_size_of, size_of_local, size_of, fallback_size, set_size, set_given, set_operand, set_operands, known_at, share_size, set_size_of_all, fixed_size, set_unsized, apply_step, apply_steps, update_operand_sizes, backward_pass, forward_pass, but_first}
 use Rattle.definition.specs.Checker.{Shape, shapes, shape_of, counts_fit, same_count, option_fits, value_fits, layout_fits, base_fits}
 use Rattle.definition.proofs.Openers.{operations_opens}

@@ -11,7 +11,7 @@ use Rattle.prelude.specs.Base.{if◌then◌else◌, or_else}
 use Rattle.definition.specs.Refusals.{malformed, outside_limit}
 use Rattle.definition.specs.Ast.{PcodeExpr, Args, no_args, arg, Statement, Space, Register, BitRange, Table, Macro, Field, Header, Section}
 use Rattle.definition.specs.Expressions.{arg_count}
-use Rattle.definition.specs.SectionFile.{Parsed, parsed, refused, Read, on, ◌>>=◌, ◌>>◌, pure, refuse, up_to, or_absent, size, size_or, choose, code, one_of, small_count, list_of, args_of, pcode_ops, call, exprs, expr_within, jump_label, branch_dst, statement, entries, space, register, bit_range, table, macro, field, header, lists, read_section, stream_of, read}
+use Rattle.definition.specs.SectionFile.{Parsed, parsed, refused, Read, on, ◌>>=◌, pure, refuse, up_to, or_absent, size, size_or, choose, code, one_of, small_count, list_of, args_of, pcode_ops, call, exprs, expr_within, jump_label, branch_dst, statement, entries, space, register, bit_range, table, macro, field, header, lists, read_section, stream_of, read}
 use Rattle.definition_guarantee.specs.Tests.{Each}
 use Rattle.definition_guarantee.specs.Limits.{SizeWithin, ExprWithin, ArgsWithin, JumpWithin, DestinationWithin, StatementWithin, WithinLimits}
 use Rattle.definition_guarantee.proofs.Readings.{Reading, Reads, bind, returns, refuses, passed, passes, reads-up_to, reads-bits}

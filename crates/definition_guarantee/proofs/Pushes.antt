@@ -13,12 +13,12 @@ use Rattle.definition.specs.Refusals.{list_full, too_many_temporaries}
 use Rattle.definition.specs.Operations.{Operation, operation_number, is_op}
 use Rattle.definition.specs.Value.{Kind, Value, local, ActionKind, SemanticAction, operation_of, Temporary}
 use Rattle.definition.specs.Ast.{Section}
-use Rattle.definition.specs.Sizes.{at, Sizing, with_temporaries, steps_of, update_operand_sizes}
+use Rattle.definition.specs.Sizes.{Sizing, with_temporaries, steps_of, update_operand_sizes}
 use Rattle.definition.specs.Walk.{ExprValue, Scope, State, Env, done, on, require, by_sizes, with_sizing, with_action, add_tmp, output_or, push, push_op, op, op_no_output}
 use Rattle.definition.specs.Checker.{Shape, OperationShape, shapes, shape_of, same_count, counts_fit, option_fits, number_fits, value_fits, base_fits}
 use Rattle.definition.proofs.Openers.{operations_opens}
 use Rattle.definition_guarantee.specs.Tests.{Each}
-use Rattle.definition_guarantee.proofs.Tests.{never, le_of, lt_of, of_lt, eq_of, and_true, both, if_true, each_all, each_append, each_more, then_some, or_true, append_none, none_some, some_same}
+use Rattle.definition_guarantee.proofs.Tests.{never, le_of, lt_of, of_lt, eq_of, and_true, if_true, each_all, each_append, each_more, then_some, or_true, append_none, none_some, some_same}
 use Rattle.definition_guarantee.proofs.Growth.{tmp_size}
 use Rattle.definition_guarantee.proofs.Rules.{Alike, steps_alike, steps_grown}
 use Rattle.definition_guarantee.proofs.Words.{Fits, fits_parts, parts_fit, Laid}

@@ -1,7 +1,7 @@
 -- THE PREMISE: it cannot be left out; and it holds where no operation with a rule has an unsized temporary when the forward
 -- pass begins, so where the walk over the statements has left none unsized.
 use Rattle.std.specs.Prelude.{ℕ, ◌≡◌, Bool, false, not, List, [], ◌∷◌, ◌++◌}
-use Rattle.std.proofs.Math.Option.{none, some}
+use Rattle.std.proofs.Math.Option.{some}
 use Rattle.std.proofs.Math.ListN.{get_elem?}
 use Rattle.prelude.specs.Base.{or_else, and_then, is_some, filter}
 use Rattle.definition.specs.Value.{SemanticAction, Temporary}
@@ -11,7 +11,7 @@ use Rattle.definition.specs.Sizes.{Sizing, backward_pass}
 use Rattle.definition.specs.Walk.{State, Outcome, done, stopped}
 use Rattle.definition.specs.End.{resolve_statements, at_start}
 use Rattle.definition.specs.ActionList.{room_for, when_read, resolve}
-use Rattle.definition.specs.Premise.{ruled, premise_failures, premise}
+use Rattle.definition.specs.Premise.{ruled, premise_failures}
 use Rattle.definition.specs.Passing.{passes}
 
 -- The section is accepted, the premise fails at C and D, and the list does not pass.

@@ -47,7 +47,6 @@ use Rattle.expr_scope.specs.Slots.{arg_at, put_arg}
 use Rattle.expr_reading.specs.Reading.{read_operand}
 use Rattle.expr_terms.specs.Calls as calls
 use Rattle.expr_terms.specs.Calls.{inbuilt_or, call_user_op, subpiece}
-use Rattle.expr_terms.specs.Slices.{slice_bits}
 use Rattle.expr_terms.specs.Addresses.{resolve_address}
 use Rattle.expr_resolver.specs.Expressions as words
 use Rattle.expr_resolver.specs.Expressions.{value_then, local_address, address_meant, address_of, atom, later, skip_expr, order, order_of, operands_around, operands_of, apply1, apply2, part_at, with_part, expr_value, part, binary, by_code, resolve_expr}

@@ -30,7 +30,6 @@ use Rattle.list_pushes.specs.declared.push.Pushed.{Pushed}
 use Rattle.list_values.specs.Base.{Listed, listed}
 use Rattle.list_values.specs.Values as words
 use Rattle.list_values.specs.Values.{absent}
-use Rattle.list_values.specs.Sizes.{size_of}
 use Rattle.list_pushes.specs.Pushes.{ReadOut, read, on_read, output_or, push, op_to, op}
 use Rattle.list_refinement.specs.Encoding.{enc_v, Sound, Each, EachOption, first_of, second_of, output_of}
 use Rattle.list_refinement.proofs.Settled.{size_is, known_small}

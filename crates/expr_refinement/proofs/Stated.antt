@@ -18,7 +18,6 @@ use Rattle.definition.specs.ActionList.{or_none}
 use Rattle.definition.proofs.Openers.{base_opens}
 use Rattle.list_pushes.specs.declared.push.State.{State as WordState}
 use Rattle.list_values.specs.Base.{Listed, listed}
-use Rattle.list_values.specs.Sizes.{size_of}
 use Rattle.list_refinement.specs.Encoding.{SizesHold, enc_v, Sound}
 use Rattle.list_refinement.proofs.Settled.{size_is, known_small}
 use Rattle.expr_reading.specs.declared.read.Stated.{Stated}

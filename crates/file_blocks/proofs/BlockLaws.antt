@@ -1,17 +1,17 @@
 -- One law for each way out of the functions over blocks.
 use mathlib.Core.Path.{◌≡◌, refl, sym, ◌∙◌, ap}
-use mathlib.Core.Bool.{Bool, true, false, ◌&&◌}
+use mathlib.Core.Bool.{Bool, true, false}
 use mathlib.Core.List.{List, [], ◌∷◌, ◌++◌, append-nil, append_assoc}
-use Prim.Native.Nat.{ℕ, zero, suc, ◌+◌, ◌-◌, ◌*◌, ◌/◌, ◌%◌, ◌≤◌, ◌<◌}
+use Prim.Native.Nat.{ℕ, suc, ◌+◌, ◌-◌, ◌*◌, ◌/◌, ◌%◌, ◌≤◌, ◌<◌}
 use native.Mathlib.Nat.{add_assoc}
 use native.Mathlib.Numerals.{add-one}
 use native.Mathlib.Omega.{arith}
 use lib.ListN.{length, get_or, set, take, drop, take-append-drop, length-append, length-drop, drop_of_length-le}
 use lib.Seq.{drop-cons, drop-drop, take-suc, take-add, set_at, length-take-le, take_all, take_at, drop_at}
-use lib.Dec.{eqb, leb}
+use lib.Dec.{eqb}
 use borrow.Author.Tests.{eq-eqb, ne_eqb, le-leb, lt-leb}
 use Rattle.prelude.specs.Base.{sum}
-use Rattle.definition.specs.Refusals.{refusal_number, block_check}
+use Rattle.definition.specs.Refusals.{refusal_number}
 use Rattle.definition.specs.SectionFile.{Parsed, parsed, refused, on, pure, require, checks_out, bytes, payloads, whole_blocks, stream_of}
 use Rattle.access.specs.Le.{le16}
 use Rattle.file_blocks.specs.Blocks.{refusal_of, joined}

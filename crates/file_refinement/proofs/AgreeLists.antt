@@ -4,7 +4,7 @@ use mathlib.Core.Path.{◌≡◌, refl, sym, ◌∙◌, ap}
 use mathlib.Core.Bool.{Bool, true, false, not}
 use mathlib.Core.List.{List, [], ◌∷◌, ◌++◌, map}
 use mathlib.Core.Option.{Option, none, some}
-use Prim.Native.Nat.{ℕ, zero, suc, ◌+◌, ◌-◌, ◌*◌, ◌%◌, ◌≤◌, ◌<◌}
+use Prim.Native.Nat.{ℕ, zero, suc, ◌+◌, ◌*◌, ◌%◌, ◌≤◌, ◌<◌}
 use native.Mathlib.Nat.{mul-suc}
 use native.Mathlib.Omega.{arith}
 use lib.ListN.{length, get_or, set, drop, get_elem?, length-set}
@@ -20,7 +20,6 @@ use Rattle.file_syntax.specs.declared.cursor.Cursor.{Cursor}
 use Rattle.file_syntax.specs.Cursors.{cursor, refuse}
 use Rattle.access.specs.Loops.{run}
 use Rattle.file_syntax.specs.Cursors as w
-use Rattle.file_syntax.specs.Expressions.{counted}
 use Rattle.file_section.specs.Names.{Reading, reading}
 use Rattle.file_section.specs.Lists.{slot, stamp, mark, Which, which_of, after_name, after, params, macro_head, macro, named, rest_of, entry, list}
 use Rattle.file_refinement.proofs.Agree.{Agrees, went, stopped, Stuck, stuck_both, Number, le_16, stuck_u8, stuck_u16, stuck_u16or, refusal_bad}

@@ -21,7 +21,7 @@ use Rattle.file_syntax.specs.Cursors.{cursor, number, u8, u16, u16or, skip}
 use Rattle.access.specs.Loops.{run}
 use Rattle.file_syntax.specs.Cursors as w
 use Rattle.file_section.specs.Headers.{global_counts, counts, roles, header}
-use Rattle.file_section.specs.Names.{Reading, reading, agree, rest_alike, alike, known, letters, spelling, name_at, names}
+use Rattle.file_section.specs.Names.{Reading, reading, agree, rest_alike, alike, known, letters, spelling, name_at}
 use Rattle.file_refinement.specs.Holds.{absent_at, Limits, Named, spelled_at}
 use Rattle.file_refinement.proofs.Agree.{Agrees, went, stopped, Stuck, stuck_both, bind, Number, NumberOr, Tests, le_16, u8_at, u8_cut, up_to_lem, naming-below, stuck_u8, stuck_u16, stuck_u16or, u16_agrees, u16or_agrees, refusal_bad}
 

@@ -19,13 +19,13 @@ use Rattle.file_syntax.specs.Cursors.{cursor, refuse}
 use Rattle.access.specs.Loops.{run}
 use Rattle.file_syntax.specs.Statements.{body}
 use Rattle.file_section.specs.Names.{reading, name_at, names}
-use Rattle.file_section.specs.Lists.{entry, list, lists}
+use Rattle.file_section.specs.Lists.{list, lists}
 use Rattle.file_section.specs.Stream.{zeros, tail, statements}
 use Rattle.file_refinement.specs.Holds.{absent_at, Limits, space_at, register_at, bit_range_at, table_at, name_only, field_at, subtable_at, StatementsAt}
 use Rattle.file_refinement.proofs.Agree.{Agrees, went, stopped, Stuck, Any, refusal_bad, stuck_refuse}
 use Rattle.file_refinement.proofs.AgreeCode.{body_agrees, stuck_body}
 use Rattle.file_refinement.proofs.AgreeNames.{header_at, Fills, goes, stops, Stays, stays_both, stays_run, fills_bind, place-fits, taken_of, NamesHeld, names-fill}
-use Rattle.file_refinement.proofs.AgreeLists.{Base, Taken, ListHeld, list-fill, stays_list, taken_kept}
+use Rattle.file_refinement.proofs.AgreeLists.{Taken, ListHeld, list-fill, stays_list, taken_kept}
 use Rattle.file_refinement.proofs.AgreeEntries.{base_global, base-local, space_agrees, register_agrees, bit_range_agrees, table_agrees, user-op_agrees, other_agrees, field_agrees, subtable_agrees, MacrosHeld, macros-fill}
 
 -- The tail.

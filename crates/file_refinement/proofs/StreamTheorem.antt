@@ -12,7 +12,7 @@ use lib.Dec.{eqb}
 use borrow.Author.Tests.{eqb-true, ne_eqb}
 use Rattle.prelude.specs.Base.{if◌then◌else◌, position, first, ◌or◌}
 use Rattle.definition.specs.Refusals.{Refusal, refusal_number}
-use Rattle.definition.specs.Ast.{Space, Register, BitRange, Table, Macro, Section}
+use Rattle.definition.specs.Ast.{Macro, Section}
 use Rattle.definition.specs.SectionFile.{Parsed, parsed, refused, on}
 use Rattle.definition.specs.SectionFile as d
 use Rattle.definition.specs.Scope.{Symbol, symbols, find, globals}
@@ -21,7 +21,7 @@ use Rattle.file_syntax.specs.Cursors.{cursor}
 use Rattle.file_section.specs.Names.{Reading, reading, names}
 use Rattle.file_section.specs.Headers.{header}
 use Rattle.file_section.specs.Lists.{stamp, lists}
-use Rattle.file_section.specs.Stream.{statements, Answer, answer, answer_of, read_stream}
+use Rattle.file_section.specs.Stream.{statements, Answer, answer_of, read_stream}
 use Rattle.file_blocks.specs.Blocks.{refusal_of}
 use Rattle.file_refinement.specs.Holds.{Limits, Listed, space_at, register_at, bit_range_at, table_at, name_only, field_at, subtable_at, symbol_word, local_word, bodies, MacroAt, Holds}
 use Rattle.file_refinement.proofs.Agree.{Agrees, went, stopped, refusal_bad}

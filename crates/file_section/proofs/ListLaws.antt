@@ -5,19 +5,17 @@ use mathlib.Core.List.{List}
 use Prim.Native.Nat.{ℕ, zero, suc, ◌+◌, ◌-◌, ◌*◌, ◌%◌, ◌≤◌, ◌<◌}
 use native.Mathlib.Omega.{arith}
 use lib.ListN.{length, get_or, set}
-use lib.Dec.{eqb, ltb}
 use borrow.Author.Tests.{eq-eqb, ne_eqb, lt-ltb, le-ltb}
 use Rattle.prelude.specs.Base.{if◌then◌else◌}
 use Rattle.access.specs.Le.{le16, le32, le64}
 use Rattle.file_syntax.specs.declared.cursor.Cursor.{Cursor}
 use Rattle.file_syntax.specs.Cursors.{refuse, u16, code, name, size, size_or, bits, small_count}
 use Rattle.access.specs.Loops.{run}
-use Rattle.file_syntax.specs.Expressions.{counted}
 use Rattle.file_syntax.specs.Statements.{body}
-use Rattle.file_section.specs.Names.{Reading, reading, names}
+use Rattle.file_section.specs.Names.{reading, names}
 use Rattle.file_section.specs.Headers.{header}
 use Rattle.file_section.specs.Lists.{slot, stamp, mark, Which, which_of, after_name, after, params, macro_head, noted, macro, named, rest_of, entry, list, lists}
-use Rattle.file_section.specs.Stream.{Answer, answer, answer_of, zeros, tail, statements, read_stream}
+use Rattle.file_section.specs.Stream.{answer, zeros, tail, statements, read_stream}
 use Rattle.access.proofs.LoopLaws.{run_end}
 use Rattle.file_syntax.proofs.CodeLaws.{counted_law}
 use Rattle.file_section.proofs.HeaderLaws.{header-short}

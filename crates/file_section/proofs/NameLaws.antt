@@ -1,18 +1,17 @@
 -- One law for each way out of the functions over names.
-use mathlib.Core.Path.{◌≡◌, refl, sym, ◌∙◌, ap}
+use mathlib.Core.Path.{◌≡◌}
 use mathlib.Core.Bool.{Bool, true, false}
 use mathlib.Core.List.{List}
-use Prim.Native.Nat.{ℕ, zero, suc, ◌+◌, ◌-◌, ◌%◌, ◌≤◌, ◌<◌}
+use Prim.Native.Nat.{ℕ, suc, ◌+◌, ◌-◌, ◌%◌, ◌≤◌, ◌<◌}
 use native.Mathlib.Nat.{add-zero}
 use native.Mathlib.Omega.{arith}
 use lib.ListN.{get_or, set}
-use lib.Dec.{eqb}
 use borrow.Author.Tests.{eq-eqb, ne_eqb}
 use Rattle.prelude.specs.Base.{if◌then◌else◌}
 use Rattle.access.specs.Le.{le16}
 use Rattle.file_syntax.specs.declared.cursor.Cursor.{Cursor}
 use Rattle.file_syntax.specs.Cursors.{refuse, u8, skip}
-use Rattle.file_section.specs.Names.{Reading, reading, agree, rest_alike, alike, known, letters, spelling, name_at}
+use Rattle.file_section.specs.Names.{reading, agree, rest_alike, alike, known, letters, spelling, name_at}
 
 pub agree_start : (s : List ℕ) (a b n : ℕ) → agree (n + 1 - 2) 2 s a b ≡ rest_alike s a b n
 unfolding rest_alike

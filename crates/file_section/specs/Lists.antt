@@ -1,6 +1,6 @@
 -- The lists of entries: each entry is its name, which the table marks, and what follows it. In all of these s is the stream,
 -- c the cursor, t the table, w the cursor with the table.
-use Rattle.std.specs.Prelude.{ℕ, ◌+◌, ◌-◌, ◌*◌, ◌%◌, Bool, List, [], ◌∷◌, get_or, set, eqb, ltb}
+use Rattle.std.specs.Prelude.{ℕ, ◌+◌, ◌-◌, ◌*◌, ◌%◌, List, [], ◌∷◌, get_or, set, eqb, ltb}
 use Rattle.prelude.specs.Base.{if◌then◌else◌}
 use Rattle.access.specs.Le.{le16}
 use Rattle.file_syntax.specs.declared.cursor.Cursor.{Cursor}

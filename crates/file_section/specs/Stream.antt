@@ -7,7 +7,7 @@
 --   3328 + k      where list k begins: spaces, registers, bit ranges, tables, user ops, macros, other symbols, fields,
 --                 subtables, statements (`Holds.spaces` and on)
 --   3338          the first ordinal of the section's own statements (`Holds.own_ordinal`)
-use Rattle.std.specs.Prelude.{ℕ, zero, suc, ◌+◌, ◌-◌, ◌%◌, Bool, true, false, List, length, get_or, set, eqb}
+use Rattle.std.specs.Prelude.{ℕ, zero, suc, ◌-◌, ◌%◌, Bool, true, false, List, length, get_or, set, eqb}
 use Rattle.prelude.specs.Base.{if◌then◌else◌}
 use Rattle.access.specs.Le.{le16}
 use Rattle.file_syntax.specs.declared.cursor.Cursor.{Cursor}

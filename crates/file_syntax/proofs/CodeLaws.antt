@@ -1,5 +1,5 @@
 -- One law for each way out of the functions over expressions and statements.
-use mathlib.Core.Path.{◌≡◌, refl, sym, ◌∙◌, ap}
+use mathlib.Core.Path.{◌≡◌, refl, ◌∙◌, ap}
 use mathlib.Core.Bool.{true, ◌&&◌, not}
 use mathlib.Core.List.{List}
 use Prim.Native.Nat.{ℕ, zero, suc, ◌+◌, ◌-◌, ◌≤◌, ◌<◌}
@@ -9,10 +9,9 @@ use lib.ListN.{length, get_or}
 use lib.Dec.{eqb}
 use borrow.Author.Tests.{eqb-true, eqb-false, not-true}
 use Rattle.file_syntax.specs.declared.cursor.Cursor.{Cursor}
-use Rattle.file_syntax.specs.Cursors.{cursor, refuse, u8, code, name, name_or, size, size_or, bits, skip, small_count}
+use Rattle.file_syntax.specs.Cursors.{cursor, refuse, u8, code, name, size, size_or, bits, skip, small_count}
 use Rattle.access.specs.Loops.{run}
 use Rattle.file_syntax.specs.Expressions.{address_of, space, call, counted, Kind, kind_of, after_code, expr, exprs}
-use Rattle.file_syntax.specs.Expressions as e
 use Rattle.file_syntax.specs.Statements.{Jump, jump_of, after_jump, jump_label, Target, target_of, after_target, branch_dst, Form, form_of, after_form, statement, body}
 use Rattle.file_syntax.proofs.CursorLaws.{both_true, refuse_new, number_short, number_got}
 use Rattle.access.proofs.LoopLaws.{run_end}

@@ -1,7 +1,7 @@
 -- The stream read in order, by a cursor: where it is, the refusal (0 none), and the number read last. A refused cursor
 -- passes every read unchanged, so the first position wins. In all of these s is the stream, c the cursor, m the number of
 -- names.
-use Rattle.std.specs.Prelude.{ℕ, zero, suc, ◌+◌, List, length, get_or, ltb, leb, eqb}
+use Rattle.std.specs.Prelude.{ℕ, ◌+◌, List, length, get_or, ltb, leb, eqb}
 use Rattle.prelude.specs.Base.{if◌then◌else◌}
 use Rattle.access.specs.Le.{le16}
 use Rattle.file_syntax.specs.declared.cursor.Cursor.{Cursor}

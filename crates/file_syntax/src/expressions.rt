@@ -4,9 +4,7 @@ ghost use Rattle.std.specs.Prelude.{◌≡◌, ◌≤◌, length};
 ghost use Rattle.file_syntax.specs.Cursors.{cursor, skip};
 ghost use Rattle.file_syntax.specs.Expressions.{address_of, space, call, expr, exprs};
 
-use crate::cursor::{
-    Cursor, bits, code, name, name_or, refuse, size, size_or, skip, small_count,
-};
+use crate::cursor::{Cursor, bits, code, name, name_or, refuse, size, size_or, skip, small_count};
 use codes::{expression, refusal};
 
 // Two of the codes, as bytes.

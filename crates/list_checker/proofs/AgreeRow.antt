@@ -9,7 +9,7 @@ use native.Mathlib.Omega.{arith}
 use lib.ListN.{length}
 use lib.Dec.{eqb, leb, ltb}
 use borrow.Author.Tests.{eq-eqb, ne_eqb, leb-true, leb-false, eqb-true, eqb-false}
-use Rattle.prelude.specs.Base.{if◌then◌else◌, or_else, and_then, is_some, any, all, same_numbers}
+use Rattle.prelude.specs.Base.{if◌then◌else◌, or_else, and_then, is_some, all, same_numbers}
 use Rattle.definition.specs.Sizes as sz
 use Rattle.definition.specs.Operations.{Operation, operation_number}
 use Rattle.definition.specs.Value.{Value, ActionKind, SemanticAction, operation_of}
@@ -19,7 +19,7 @@ use Rattle.definition.specs.Checker.{size_from, value_from, inputs_from, some_va
 use Rattle.list_checker.specs.Action.{value_fit, values_fit, inputs_fit, has_output, row_of, row_fit, operation_fit, kind_fit, head_fit, output_there, action_fit}
 use Rattle.list_checker.proofs.FitLaws.{head_none}
 use Rattle.list_checker.proofs.AgreeValue.{value_of, known, value_from_lem, value_fit_lem, value_sized, value_back, inputs_of, inputs_known, inputs_from_lem, inputs_length, inputs_fit_lem, and_true}
-use Rattle.list_checker.proofs.AgreeKind.{operation_right, kind_is, NoKind, no_operation, no_kind, kind_none, shape_of_row, steps_of, tabled, shaped, one-count}
+use Rattle.list_checker.proofs.AgreeKind.{operation_right, kind_is, NoKind, no_operation, no_kind, kind_none, shape_of_row, tabled, shaped, one-count}
 use Rattle.list_checker.proofs.AgreeSizes.{inputs_sized, output_sized, output_of, if_and, below_one, inputs-sized, output-sized, values_sized, row_fit_lem}
 
 -- The output: whether it is read, and whether its words fit, as the definition has it.

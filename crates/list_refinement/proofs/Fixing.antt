@@ -22,7 +22,7 @@ use Rattle.list_end.specs.declared.end.Fixed.{Fixed}
 use Rattle.list_values.specs.Base.{listed, then_l}
 use Rattle.access.specs.Loops.{run}
 use Rattle.list_values.specs.Values.{value_at, put_value, with_size}
-use Rattle.list_values.specs.Sizes.{size_of, error, falls_back}
+use Rattle.list_values.specs.Sizes.{error, falls_back}
 use Rattle.list_end.specs.End.{fixed, fix_size, put_fixed, fix_operand, fix_input, fix_inputs, fix_output, fix_operands}
 use Rattle.list_refinement.specs.Encoding.{enc_v, packed, temporaries_in, enc_z, Sound, SoundTmp, Each, EachOption, SoundAction, SizesHold}
 use Rattle.list_refinement.proofs.Framing.{get_in}

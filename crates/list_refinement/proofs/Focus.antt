@@ -14,7 +14,7 @@ use Rattle.definition.specs.Sizes.{Operand, at, put, Sizing, set_size, set_given
 use Rattle.definition.specs.ActionList.{or_none, action_words}
 use Rattle.list_values.specs.Base.{then_l}
 use Rattle.list_values.specs.Values.{value_at}
-use Rattle.list_values.specs.Sizes.{Sized, sized, size_of, size_at, set_operand}
+use Rattle.list_values.specs.Sizes.{Sized, sized, size_at, set_operand}
 use Rattle.list_refinement.specs.Encoding.{enc_v, temporaries_in, enc_z, Sound, SoundAction, SizesHold}
 use Rattle.list_refinement.proofs.Operands.{operand_at, value_at_lem, put_size_lem}
 use Rattle.list_refinement.proofs.Settled.{size_is, known_small, settled_is, settled_sets, Ready, operand_sound, present, put-sound, put_has}

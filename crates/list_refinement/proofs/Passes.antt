@@ -16,7 +16,6 @@ use Rattle.prelude.specs.Base.{if◌then◌else◌}
 use Rattle.access.specs.Loops.{run, run_down}
 use Rattle.list_values.specs.Values.{place}
 use Rattle.list_values.specs.Sizes.{Sized, sized, then_s}
-use Rattle.list_pushes.specs.Rules.{update_operand_sizes}
 use Rattle.list_pushes.specs.Passes.{action_place, update_action}
 use Rattle.list_end.specs.Passes.{backward_pass, forward_pass}
 use Rattle.list_refinement.specs.Encoding.{actions_in, temporaries_in, enc_z, SoundTmp, Each, SoundAction, SizesHold}

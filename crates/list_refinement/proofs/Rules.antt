@@ -13,7 +13,7 @@ use Rattle.definition.specs.Ast.{Section}
 use Rattle.definition.specs.Sizes as d
 use Rattle.definition.specs.Sizes.{Operand, in0, in1, out, at, Sizing, set_given, set_operands, set_size_of_all, pointer_size, fixed_size, steps_of, apply_step, apply_steps}
 use Rattle.definition.specs.ActionList.{action_words, action_kind_number, operation_word}
-use Rattle.list_values.specs.Sizes.{then_s, set_operand}
+use Rattle.list_values.specs.Sizes.{then_s}
 use Rattle.list_pushes.specs.Rules.{rule_of, shift, comparison, bool_not, branch, few_operands, apply_rule, update_operand_sizes}
 use Rattle.list_refinement.specs.Encoding.{enc_z, SizesHold}
 use Rattle.list_refinement.proofs.Framing.{get_in}

@@ -11,7 +11,7 @@ use borrow.Author.Tests.{ne_eqb}
 use Rattle.prelude.specs.Base as definition
 use Rattle.prelude.specs.Base.{◌or◌, or_else, and_then, is_some, if◌then◌else◌}
 use Rattle.definition.specs.Value.{Kind, kind_number, Value, is_kind, SemanticAction, Temporary}
-use Rattle.definition.specs.Ast.{Register, Field, Section}
+use Rattle.definition.specs.Ast.{Section}
 use Rattle.definition.specs.Sizes as d
 use Rattle.definition.specs.Sizes.{Operand, in0, in1, out, at, put, Sizing, set_tmp_size, set_size}
 use Rattle.definition.specs.ActionList.{or_none, temporary_word}

@@ -18,18 +18,18 @@ use Rattle.resolve_counts.specs.Counts.{counts}
 use Rattle.resolve_answer.specs.declared.answer.Answer.{Answer as Numbers}
 use Rattle.resolve_answer.specs.Answers.{resolved_to}
 use Rattle.resolve_file.specs.Files.{resolve_file}
-use Rattle.resolve_refinement.specs.Answers.{result, answer, as_answer}
+use Rattle.resolve_refinement.specs.Answers.{result_of, answer, as_answer}
 use Rattle.resolve_refinement.proofs.Theorem.{answered_is}
 
 pub resolved : (file a m : List ℕ) (r : Numbers) (b u : List ℕ) → resolved_to r b u ≡ resolve_file file a m → length a * 8 < 2 ^ 63 → length m * 8 < 2 ^ 63 → length b ≡ length a → length u ≡ length m
-    → answer (result r) b u ≡ resolve file (length a) (length m)
+    → answer (result_of r) b u ≡ resolve file (length a) (length m)
 unfolding as_answer
 resolved file a m r b u h short shorter p q =
     answered_is file a m (omega arith) (omega arith) r b u h p q
 
-module _ (file : List ℕ) (la lt : ℕ) (r : Numbers) (b u : List ℕ) (h : answer (result r) b u ≡ resolve file la lt) where
+module _ (file : List ℕ) (la lt : ℕ) (r : Numbers) (b u : List ℕ) (h : answer (result_of r) b u ≡ resolve file la lt) where
   -- the answer's parts
-  pub in_array : (x : List ℕ) → x ≡ numbers (result r) → x ≡ numbers (resolve file la lt).result
+  pub in_array : (x : List ℕ) → x ≡ numbers (result_of r) → x ≡ numbers (resolve file la lt).result
   in_array x e = e ∙ ap (λ (a : Answer). numbers a.result) h
 
   pub actions_are : b ≡ (resolve file la lt).actions

@@ -7,7 +7,7 @@ ghost use Rattle.definition.specs.ActionList.{numbers, resolve};
 ghost use Rattle.definition.specs.Checker.{check};
 ghost use Rattle.definition.specs.Premise.{premise};
 ghost use Rattle.definition.specs.Passing.{checked};
-ghost use Rattle.resolve_refinement.specs.Answers.{result as result_of, answer};
+ghost use Rattle.resolve_refinement.specs.Answers.{result_of, answer};
 
 use resolve_answer::answer::Answer;
 use resolve_file::resolve_words;

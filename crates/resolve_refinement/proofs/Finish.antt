@@ -29,7 +29,6 @@ use Rattle.list_values.specs.Base.{Listed, listed, then_l}
 use Rattle.prelude.specs.Base.{if◌then◌else◌}
 use Rattle.list_values.specs.Values.{place}
 use Rattle.list_values.specs.Sizes.{then_s}
-use Rattle.list_end.specs.Passes.{backward_pass, forward_pass}
 use Rattle.list_end.specs.End.{fix_size, finish_actions}
 use Rattle.stmt_walk.specs.declared.walk.Walk.{Walk}
 use Rattle.stmt_walk.specs.declared.walk.Export.{Export as WordExport}

@@ -37,7 +37,6 @@ use Rattle.resolve_refinement.specs.Answers.{as_answer}
 use Rattle.resolve_refinement.proofs.Answers.{refused_is}
 use Rattle.resolve_refinement.proofs.Finish.{end_is}
 use Rattle.resolve_refinement.proofs.Start.{pointer_is, start_scope, room_of, start_beside, front_of, tail_of, front_length, lent_length}
-use Rattle.expr_refinement.specs.Encoding.{count}
 use Rattle.stmt_refinement.specs.Standing.{Beside, walk_of, Standing}
 
 -- A lent list keeps its length: the contract of a function that is lent one knows it.

@@ -4,8 +4,8 @@ use Rattle.definition.specs.ActionList.{Result, Answer}
 use Rattle.resolve_answer.specs.declared.answer.Answer.{Answer as Numbers}
 use Rattle.resolve_answer.specs.Answers.{Resolved, resolved_to}
 
-abbrev pub result : Numbers → Result
-result r = record {
+abbrev pub result_of : Numbers → Result
+result_of r = record {
   refusal = r.refusal;
   ordinal = r.ordinal;
   statements = r.statements;
@@ -24,4 +24,4 @@ abbrev pub answer : Result → List ℕ → List ℕ → Answer
 answer x actions temporaries = record { result = x; actions = actions; temporaries = temporaries }
 
 unfoldable pub as_answer : Resolved → Answer
-as_answer (resolved_to r a m) = answer (result r) a m
+as_answer (resolved_to r a m) = answer (result_of r) a m

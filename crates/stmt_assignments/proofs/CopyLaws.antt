@@ -28,7 +28,7 @@ use Rattle.expr_scope.specs.Scopes.{resolve_ident, plain_local, named_tmp}
 use Rattle.expr_scope.proofs.PlainLaws.{plain-means, plain-wrong}
 use Rattle.expr_reading.specs.Reading.{constant, byte_aligned, sliced, read_value, read_operand}
 use Rattle.expr_terms.specs.Answers.{resolved, on_expr, after}
-use Rattle.expr_resolver.specs.Expressions.{expr_value, atom, resolve_expr}
+use Rattle.expr_resolver.specs.Expressions.{atom, resolve_expr}
 use Rattle.expr_resolver.proofs.ExprLaws.{name_plain, expr-atom}
 use Rattle.stmt_walk.specs.declared.walk.Walk.{Walk}
 use Rattle.stmt_walk.specs.declared.walk.Step.{Step}

@@ -39,7 +39,7 @@ use Rattle.stmt_refinement.proofs.Operations.{no_output_lem}
 use Rattle.stmt_refinement.proofs.Given.{below, expression}
 use Rattle.list_refinement.specs.RuleKinds.{kind_of}
 use Rattle.expr_refinement.specs.Encoding.{enc_x, SoundX, count, Stood, Scoped}
-use Rattle.stmt_refinement.specs.Standing.{Beside, Given, walk_of, beside, SoundExport}
+use Rattle.stmt_refinement.specs.Standing.{Beside, Given, walk_of, SoundExport}
 
 abbrev computed : Value → Export
 computed v = record { kind = ExportKind.PlainValue; value = v; access_size = 0 }

@@ -19,7 +19,6 @@ use Rattle.list_values.specs.Values.{absent, no_output}
 use Rattle.list_values.specs.Sizes.{entry}
 use Rattle.list_pushes.specs.Pushes.{read, pushed, on_read, push, push_op}
 use Rattle.expr_scope.specs.declared.scope.ExprValue.{ExprValue}
-use Rattle.expr_scope.specs.contracts.scope.ExprValue as expr_value
 use Rattle.expr_terms.specs.declared.answers.Expr.{Expr}
 use Rattle.expr_scope.specs.declared.symbols.Symbol.{Symbol}
 use Rattle.expr_scope.specs.contracts.symbols.Symbol as symbol
@@ -27,7 +26,7 @@ use Rattle.expr_scope.specs.Symbols.{place_of, lookup}
 use Rattle.expr_scope.specs.Scopes.{named_tmp}
 use Rattle.expr_reading.specs.Reading.{read_value, read_operand}
 use Rattle.expr_terms.specs.Answers.{resolved, on_expr, after}
-use Rattle.expr_resolver.specs.Expressions.{expr_value, resolve_expr}
+use Rattle.expr_resolver.specs.Expressions.{resolve_expr}
 use Rattle.stmt_walk.specs.declared.walk.Walk.{Walk}
 use Rattle.stmt_walk.specs.declared.walk.Step.{Step}
 use Rattle.stmt_walk.specs.Walks.{stepped, walked, step_pushed, step_read, beside_p, stop, pushed_then, read_then}

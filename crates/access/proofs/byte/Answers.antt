@@ -1,4 +1,3 @@
-use Rattle.std.proofs.Common.{rules}
 use mathlib.Core.Path.{refl, sym}
 use Prim.Native.Nat.{◌+◌}
 use lib.Dec.{lit<}

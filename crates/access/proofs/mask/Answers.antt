@@ -1,7 +1,4 @@
-use Rattle.std.proofs.Common.{rules}
-use native.Mathlib.Omega.{arith}
-use Rattle.access.proofs.Laws.{one_shl, mask_low, mask_all}
-use lib.Pow.{pow_pos}
+use Rattle.access.proofs.Laws.{mask_low, mask_all}
 use Rattle.access.proofs.mask.Goals as goal
 
 pub returns-then-bits-lt64 : goal.returns-then-bits-lt64

@@ -1,5 +1,3 @@
-use Rattle.std.proofs.Common.{rules}
-use native.Mathlib.Omega.{arith}
 use Rattle.access.proofs.Laws.{quad_law}
 use Rattle.access.proofs.quad.Goals as goal
 

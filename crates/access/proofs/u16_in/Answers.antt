@@ -1,4 +1,3 @@
-use Rattle.std.proofs.Common.{rules}
 use native.Mathlib.Omega.{arith}
 use Rattle.access.proofs.Laws.{last_law, none_law}
 use Rattle.access.proofs.u16_in.Goals as goal

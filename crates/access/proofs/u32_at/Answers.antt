@@ -1,4 +1,3 @@
-use Rattle.std.proofs.Common.{rules}
 use native.Mathlib.Nat.{add-zero}
 use Rattle.access.proofs.u32_at.Goals as goal
 

@@ -1,5 +1,3 @@
-use Rattle.std.proofs.Common.{rules}
-use native.Mathlib.Omega.{arith}
 use Rattle.access.proofs.Laws.{whole_law}
 use Rattle.access.proofs.u64_at.Goals as goal
 

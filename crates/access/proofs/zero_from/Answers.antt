@@ -1,7 +1,5 @@
-use Rattle.std.proofs.Common.{rules}
-use Prim.Native.Nat.{◌≤◌, ◌-◌}
-use mathlib.Core.Path.{◌≡◌, refl}
-use lib.ListN.{length, length-set}
+use mathlib.Core.Path.{refl}
+use lib.ListN.{length-set}
 use native.Mathlib.Omega.{arith}
 use Rattle.access.proofs.Laws.{zeroed, zero_more, zero_done}
 use Rattle.access.proofs.zero_from.Goals as goal

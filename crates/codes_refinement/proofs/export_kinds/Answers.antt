@@ -1,4 +1,3 @@
-use Rattle.std.proofs.Common.{rules}
 use mathlib.Core.Path.{refl}
 use Rattle.definition.specs.ActionList.{export_kind_number}
 use Rattle.codes_refinement.specs.Lists.{export_kinds}

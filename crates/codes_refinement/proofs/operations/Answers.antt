@@ -1,4 +1,3 @@
-use Rattle.std.proofs.Common.{rules}
 use mathlib.Core.Path.{refl}
 use Rattle.definition.proofs.Openers.{operations_opens}
 use Rattle.codes_refinement.proofs.operations.Goals as goal

@@ -1,4 +1,3 @@
-use Rattle.std.proofs.Common.{rules}
 use mathlib.Core.Path.{refl}
 use Rattle.definition.specs.Refusals.{refusal_number}
 use Rattle.codes_refinement.specs.Lists.{refusals}

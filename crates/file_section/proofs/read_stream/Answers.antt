@@ -1,7 +1,6 @@
 use Rattle.std.proofs.Common.{rules}
 use Rattle.file_section.proofs.HeaderLaws.{header-few}
 use Rattle.file_section.proofs.ListLaws.{list_laws}
-use native.Mathlib.Omega.{arith}
 use Rattle.file_section.proofs.read_stream.Goals as goal
 
 pub header-requires : goal.header-requires

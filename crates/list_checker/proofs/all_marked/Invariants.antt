@@ -1,9 +1,7 @@
-use Prim.Native.Nat.{◌-◌, ◌*◌, ◌+◌, ◌≤◌}
+use Prim.Native.Nat.{◌-◌, ◌≤◌}
 use mathlib.Core.Path.{◌≡◌}
-use lib.ListN.{length, get_or, drop}
+use lib.ListN.{length, drop}
 use Rattle.list_checker.specs.Sweep.{all_marked}
-use Rattle.list_checker.proofs.FitLaws.{loop_laws}
-use Rattle.std.proofs.Common.{rules}
 use Rattle.list_checker.proofs.all_marked.Given as goal
 
 abbrev pub invariant-loop-i : goal.invariant-loop-i

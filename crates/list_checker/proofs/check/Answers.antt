@@ -1,7 +1,3 @@
-use Prim.Native.Nat.{◌-◌, ◌≤◌}
-use mathlib.Core.Path.{◌≡◌}
-use mathlib.Core.Bool.{true}
-use Rattle.list_checker.specs.Sweep.{all_built_by}
 use Rattle.list_checker.proofs.SweepLaws.{check_laws, list_laws, sweep_goes}
 use Rattle.std.proofs.Common.{rules}
 use native.Mathlib.Omega.{arith}

@@ -1,4 +1,3 @@
-use Rattle.std.proofs.Common.{rules}
 use native.Mathlib.Omega.{arith}
 use Rattle.prelude.specs.Base.{if◌then◌else◌}
 use Rattle.list_checker.specs.Action.{kind_fit}

@@ -1,8 +1,5 @@
-use Prim.Native.Nat.{◌-◌, ◌*◌, ◌+◌, ◌≤◌}
-use mathlib.Core.Path.{◌≡◌, ap}
+use mathlib.Core.Path.{ap}
 use mathlib.Core.Bool.{not}
-use lib.ListN.{length, get_or, drop}
-use Rattle.list_checker.specs.Action.{values_fit, inputs_fit}
 use Rattle.list_checker.proofs.FitLaws.{input_laws, fit_more}
 use Rattle.std.proofs.Common.{rules}
 use native.Mathlib.Omega.{arith}

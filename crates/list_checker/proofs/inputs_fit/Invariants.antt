@@ -1,10 +1,7 @@
 use Prim.Native.Nat.{◌-◌, ◌*◌, ◌+◌, ◌≤◌}
 use mathlib.Core.Path.{◌≡◌}
-use lib.ListN.{length, get_or, drop}
+use lib.ListN.{get_or, drop}
 use Rattle.list_checker.specs.Action.{values_fit, inputs_fit}
-use Rattle.list_checker.proofs.FitLaws.{input_laws, fit_more}
-use Rattle.std.proofs.Common.{rules}
-use native.Mathlib.Omega.{arith}
 use Rattle.list_checker.proofs.inputs_fit.Given as goal
 
 abbrev pub invariant-loop-i : goal.invariant-loop-i

@@ -1,6 +1,4 @@
 use native.Mathlib.Omega.{arith}
-use Rattle.std.proofs.Common.{rules}
-use mathlib.Core.Logic.{⊎_elim}
 use Rattle.list_checker.specs.Action.{triple, shift, comparison, boolean, negation, same, tested, free, load, store, branch, condition, label, user, argument, invalid, unknown, row_fit}
 use Rattle.list_checker.proofs.FitLaws.{by_row, row_not, row_nan, row_copy, row_load, row_store, row_branch, row_pcode_branch, row_label, row_user, row_arg, row_invalid, row_mul, row_left, row_less, row_float, row_floats, row_and, row_bool, row_carry, row_gap, row_negate, row_extend, row_round, row_convert, row_rest}
 use Rattle.list_checker.proofs.operation_fits.Goals as goal
@@ -79,20 +77,26 @@ returns-in_default-2 c =
 pub returns-in-10-to-15 : goal.returns-in-10-to-15
 unfolding row_fit
 returns-in-10-to-15 c =
-    elim c.in-10-to-15-1.branch [ then-this-lt30+else-this-lt7+else-this-lt10+then-this-lt16 w ↦ by_row _ _ _ comparison (row_less _ (omega arith) (omega arith))
-    | then-this-lt30+else-this-lt7+else-this-lt10+else-this-lt16+else-this-lt20+then-this-lt24 w ↦ by_row _ _ _ comparison (row_floats _ (omega arith) (omega arith))
-    | else-this-lt30+then-this-lt33 w ↦ by_row _ _ _ comparison (row_carry _ (omega arith) (omega arith)) ]
+    elim c.in-10-to-15-1.branch [
+      | then-this-lt30+else-this-lt7+else-this-lt10+then-this-lt16 w ↦ by_row _ _ _ comparison (row_less _ (omega arith) (omega arith))
+      | then-this-lt30+else-this-lt7+else-this-lt10+else-this-lt16+else-this-lt20+then-this-lt24 w ↦ by_row _ _ _ comparison (row_floats _ (omega arith) (omega arith))
+      | else-this-lt30+then-this-lt33 w ↦ by_row _ _ _ comparison (row_carry _ (omega arith) (omega arith))
+    ]
 
 pub returns-in-0-to-6 : goal.returns-in-0-to-6
 unfolding row_fit
 returns-in-0-to-6 c =
-    elim c.in-0-to-6-1.branch [ then-this-lt7 w ↦ by_row _ _ _ triple (row_mul _ (omega arith))
-    | else-this-lt7+else-this-lt10+else-this-lt16+then-this-lt20 w ↦ by_row _ _ _ triple (row_float _ (omega arith) (omega arith))
-    | else-this-lt7+else-this-lt10+else-this-lt16+else-this-lt20+else-this-lt24+then-this-lt27 w ↦ by_row _ _ _ triple (row_and _ (omega arith) (omega arith)) ]
+    elim c.in-0-to-6-1.branch [
+      | then-this-lt7 w ↦ by_row _ _ _ triple (row_mul _ (omega arith))
+      | else-this-lt7+else-this-lt10+else-this-lt16+then-this-lt20 w ↦ by_row _ _ _ triple (row_float _ (omega arith) (omega arith))
+      | else-this-lt7+else-this-lt10+else-this-lt16+else-this-lt20+else-this-lt24+then-this-lt27 w ↦ by_row _ _ _ triple (row_and _ (omega arith) (omega arith))
+    ]
 
 pub returns-in-40-to-41 : goal.returns-in-40-to-41
 unfolding row_fit
 returns-in-40-to-41 c =
-    elim c.in-40-to-41-1.branch [ in-57-1 w ↦ by_row _ _ _ same (row_copy _ (omega arith))
-    | in_default+else-this-lt30+else-this-lt33+else-this-lt39+then-this-lt42 w ↦ by_row _ _ _ same (row_negate _ (omega arith) (omega arith) (λ e. omega arith))
-    | in_default+else-this-lt30+else-this-lt33+else-this-lt39+else-this-lt42+else-this-lt45+then-this-lt51 w ↦ by_row _ _ _ same (row_round _ (omega arith) (omega arith)) ]
+    elim c.in-40-to-41-1.branch [
+      | in-57-1 w ↦ by_row _ _ _ same (row_copy _ (omega arith))
+      | in_default+else-this-lt30+else-this-lt33+else-this-lt39+then-this-lt42 w ↦ by_row _ _ _ same (row_negate _ (omega arith) (omega arith) (λ e. omega arith))
+      | in_default+else-this-lt30+else-this-lt33+else-this-lt39+else-this-lt42+else-this-lt45+then-this-lt51 w ↦ by_row _ _ _ same (row_round _ (omega arith) (omega arith))
+    ]

@@ -1,7 +1,3 @@
-use Prim.Native.Nat.{◌-◌, ◌*◌, ◌≤◌}
-use mathlib.Core.Path.{◌≡◌}
-use lib.ListN.{length, drop, replicate}
-use Rattle.list_checker.specs.Sweep.{sweep}
 use Rattle.list_checker.proofs.SweepLaws.{sweep_laws, sweep_unfit, sweep_more}
 use Rattle.std.proofs.Common.{rules}
 use native.Mathlib.Omega.{arith}

@@ -1,7 +1,3 @@
-use Prim.Native.Nat.{◌-◌, ◌*◌, ◌+◌, ◌≤◌}
-use mathlib.Core.Path.{◌≡◌}
-use lib.ListN.{length, get_or, drop}
-use Rattle.list_checker.specs.Action.{zeros}
 use Rattle.list_checker.proofs.FitLaws.{loop_laws}
 use Rattle.std.proofs.Common.{rules}
 use Rattle.list_checker.proofs.zeros.Goals as goal

@@ -1,4 +1,3 @@
-use Rattle.std.proofs.Common.{rules}
 use mathlib.Core.Path.{◌∙◌, ap}
 use Rattle.expr_inbuilts.specs.Inbuilts.{attempt, conversions}
 use Rattle.expr_inbuilts.proofs.inbuilt.conversions.Goals as goal

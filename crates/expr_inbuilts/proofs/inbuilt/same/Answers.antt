@@ -1,4 +1,3 @@
-use Rattle.std.proofs.Common.{rules}
 use Rattle.expr_inbuilts.proofs.InbuiltLaws.{same_law}
 use Rattle.expr_inbuilts.proofs.inbuilt.same.Goals as goal
 

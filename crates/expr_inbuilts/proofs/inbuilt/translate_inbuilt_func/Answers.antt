@@ -1,6 +1,5 @@
 use Rattle.std.proofs.Common.{rules}
 use Rattle.expr_inbuilts.proofs.InbuiltLaws.{inbuilt_laws}
-use native.Mathlib.Omega.{arith}
 use Rattle.expr_inbuilts.proofs.inbuilt.translate_inbuilt_func.Goals as goal
 
 pub bounds-stream-at : goal.bounds-stream-at

@@ -1,10 +1,7 @@
-use Prim.Native.Nat.{ℕ, ◌<◌, ◌+◌, ◌*◌, ◌-◌, ◌≤◌}
 use Rattle.expr_resolver.proofs.ExprLaws.{walk_laws, args_start, args_no, args_more, args_done}
 use Rattle.std.proofs.Common.{rules}
-use mathlib.Core.Path.{◌≡◌, refl}
-use lib.ListN.{length}
+use mathlib.Core.Path.{refl}
 use native.Mathlib.Omega.{arith}
-use Rattle.expr_resolver.specs.Expressions as spec
 use Rattle.expr_resolver.proofs.expr.+call_inbuilt_expr_value_part_resolve_args_resolve_call_resolve_expr_resolve_op_user_op.Goals as goal
 
 pub call_inbuilt-after-requires : goal.call_inbuilt-after-requires

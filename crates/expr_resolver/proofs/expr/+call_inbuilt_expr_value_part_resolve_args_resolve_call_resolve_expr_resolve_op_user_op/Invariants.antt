@@ -1,9 +1,6 @@
-use Prim.Native.Nat.{ℕ, ◌<◌, ◌+◌, ◌*◌, ◌-◌, ◌≤◌}
-use Rattle.expr_resolver.proofs.ExprLaws.{walk_laws, args_start, args_no, args_more, args_done}
-use Rattle.std.proofs.Common.{rules}
-use mathlib.Core.Path.{◌≡◌, refl}
+use Prim.Native.Nat.{◌+◌, ◌*◌, ◌-◌}
+use mathlib.Core.Path.{◌≡◌}
 use lib.ListN.{length}
-use native.Mathlib.Omega.{arith}
 use Rattle.expr_resolver.specs.Expressions as spec
 use Rattle.expr_resolver.proofs.expr.+call_inbuilt_expr_value_part_resolve_args_resolve_call_resolve_expr_resolve_op_user_op.Given as goal
 

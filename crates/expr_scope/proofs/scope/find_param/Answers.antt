@@ -1,9 +1,7 @@
 use Rattle.expr_scope.proofs.ScopeLaws.{scope_laws, param_hit, param_miss, param_end}
 use Rattle.std.proofs.Common.{rules}
-use Prim.Native.Nat.{◌≤◌}
-use mathlib.Core.Path.{◌≡◌, refl}
+use mathlib.Core.Path.{refl}
 use native.Mathlib.Omega.{arith}
-use Rattle.expr_scope.specs.Scopes.{find_param}
 use Rattle.expr_scope.proofs.scope.find_param.Goals as goal
 
 pub loop-i-init : goal.loop-i-init

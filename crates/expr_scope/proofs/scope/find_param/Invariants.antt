@@ -1,8 +1,5 @@
-use Rattle.expr_scope.proofs.ScopeLaws.{scope_laws, param_hit, param_miss, param_end}
-use Rattle.std.proofs.Common.{rules}
 use Prim.Native.Nat.{◌≤◌}
-use mathlib.Core.Path.{◌≡◌, refl}
-use native.Mathlib.Omega.{arith}
+use mathlib.Core.Path.{◌≡◌}
 use Rattle.expr_scope.specs.Scopes.{find_param}
 use Rattle.expr_scope.proofs.scope.find_param.Given as goal
 

@@ -1,9 +1,6 @@
-use Rattle.expr_terms.proofs.CallLaws.{call_laws, args_start, args_no, args_more, args_done}
-use Rattle.std.proofs.Common.{rules}
-use mathlib.Core.Path.{◌≡◌, refl}
+use mathlib.Core.Path.{◌≡◌}
 use Prim.Native.Nat.{◌-◌, ◌≤◌}
 use lib.ListN.{length}
-use native.Mathlib.Omega.{arith}
 use Rattle.expr_terms.specs.Calls.{pass_from, pass_args}
 use Rattle.expr_terms.proofs.calls.pass_args.Given as goal
 

@@ -1,12 +1,5 @@
-use Rattle.std.proofs.Common.{rules}
 use native.Mathlib.Omega.{arith}
-use Prim.Native.Nat.{◌-◌, ◌*◌, ◌≤◌}
-use mathlib.Core.Path.{◌≡◌}
-use lib.ListN.{drop}
-use Rattle.definition.specs.SectionFile.{payloads, stream_of}
-use Rattle.file_blocks.specs.Blocks.{refusal_of}
 use Rattle.file_blocks.proofs.BlockLaws.{length_none, length_past, length_broken, blocks_start, block_right, block-wrong, blocks_end}
-use borrow.Author.Tests.{not-true, not-false}
 use Rattle.file_blocks.proofs.blocks.check_blocks.Goals as goal
 
 pub returns-then-len-eq0 : goal.returns-then-len-eq0

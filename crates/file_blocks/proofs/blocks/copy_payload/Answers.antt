@@ -1,9 +1,6 @@
-use Rattle.std.proofs.Common.{rules}
 use native.Mathlib.Omega.{arith}
-use Prim.Native.Nat.{◌-◌, ◌≤◌}
-use mathlib.Core.Path.{◌≡◌, refl}
-use mathlib.Core.List.{◌++◌}
-use lib.ListN.{length, take, drop, length-set}
+use mathlib.Core.Path.{refl}
+use lib.ListN.{length-set}
 use Rattle.file_blocks.proofs.BlockLaws.{copy_more, copy_end}
 use Rattle.file_blocks.proofs.blocks.copy_payload.Goals as goal
 

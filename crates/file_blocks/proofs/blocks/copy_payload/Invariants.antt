@@ -1,10 +1,7 @@
-use Rattle.std.proofs.Common.{rules}
-use native.Mathlib.Omega.{arith}
 use Prim.Native.Nat.{◌-◌, ◌≤◌}
-use mathlib.Core.Path.{◌≡◌, refl}
+use mathlib.Core.Path.{◌≡◌}
 use mathlib.Core.List.{◌++◌}
-use lib.ListN.{length, take, drop, length-set}
-use Rattle.file_blocks.proofs.BlockLaws.{copy_more, copy_end}
+use lib.ListN.{length, take, drop}
 use Rattle.file_blocks.proofs.blocks.copy_payload.Given as goal
 
 abbrev pub invariant-loop-i : goal.invariant-loop-i

@@ -1,11 +1,8 @@
-use Rattle.std.proofs.Common.{rules}
-use native.Mathlib.Omega.{arith}
 use Prim.Native.Nat.{◌-◌, ◌*◌, ◌≤◌}
-use mathlib.Core.Path.{◌≡◌, refl}
+use mathlib.Core.Path.{◌≡◌}
 use mathlib.Core.List.{◌++◌}
 use lib.ListN.{length, take, drop}
 use Rattle.file_blocks.specs.Blocks.{joined}
-use Rattle.file_blocks.proofs.BlockLaws.{placed, join-rest, join_more, join_start, join-end}
 use Rattle.file_blocks.proofs.blocks.join.Given as goal
 
 abbrev pub invariant-loop-k : goal.invariant-loop-k

@@ -1,9 +1,4 @@
-use Rattle.std.proofs.Common.{rules}
 use native.Mathlib.Omega.{arith}
-use Prim.Native.Nat.{◌+◌, ◌-◌, ◌*◌, ◌≤◌}
-use mathlib.Core.Path.{◌≡◌, refl}
-use lib.ListN.{length, drop}
-use Rattle.prelude.specs.Base.{sum}
 use Rattle.file_blocks.proofs.BlockLaws.{sum_start, sum_more, sum-end}
 use Rattle.file_blocks.proofs.blocks.sum.Goals as goal
 

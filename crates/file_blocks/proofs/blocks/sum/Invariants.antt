@@ -1,10 +1,7 @@
-use Rattle.std.proofs.Common.{rules}
-use native.Mathlib.Omega.{arith}
 use Prim.Native.Nat.{◌+◌, ◌-◌, ◌*◌, ◌≤◌}
-use mathlib.Core.Path.{◌≡◌, refl}
+use mathlib.Core.Path.{◌≡◌}
 use lib.ListN.{length, drop}
 use Rattle.prelude.specs.Base.{sum}
-use Rattle.file_blocks.proofs.BlockLaws.{sum_start, sum_more, sum-end}
 use Rattle.file_blocks.proofs.blocks.sum.Given as goal
 
 abbrev pub invariant-loop-i : goal.invariant-loop-i

@@ -1,4 +1,3 @@
-use Rattle.std.proofs.Common.{rules}
 use Rattle.file_section.proofs.ChainLaws.{hash_law}
 use Rattle.file_section.proofs.chains.hash.Goals as goal
 

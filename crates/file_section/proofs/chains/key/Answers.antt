@@ -1,4 +1,3 @@
-use Rattle.std.proofs.Common.{rules}
 use Rattle.file_section.proofs.ChainLaws.{key_within, key-short, key-long}
 use native.Mathlib.Omega.{arith}
 use Rattle.file_section.proofs.chains.key.Goals as goal

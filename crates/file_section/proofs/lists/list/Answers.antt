@@ -1,11 +1,5 @@
-use Rattle.std.proofs.Common.{rules}
 use native.Mathlib.Omega.{arith}
-use Prim.Native.Nat.{◌-◌, ◌≤◌, ◌<◌}
-use mathlib.Core.Path.{◌≡◌, refl, ◌∙◌}
-use lib.ListN.{length}
-use Rattle.access.specs.Loops.{run}
-use Rattle.file_section.specs.Names.{reading}
-use Rattle.file_section.specs.Lists.{entry}
+use mathlib.Core.Path.{refl, ◌∙◌}
 use Rattle.access.proofs.LoopLaws.{run_start, run_again}
 use Rattle.file_section.proofs.ListLaws.{list_law}
 use Rattle.file_section.proofs.lists.list.Goals as goal

@@ -1,13 +1,9 @@
-use Rattle.std.proofs.Common.{rules}
-use native.Mathlib.Omega.{arith}
-use Prim.Native.Nat.{◌-◌, ◌≤◌, ◌<◌}
-use mathlib.Core.Path.{◌≡◌, refl, ◌∙◌}
+use Prim.Native.Nat.{◌-◌, ◌≤◌}
+use mathlib.Core.Path.{◌≡◌}
 use lib.ListN.{length}
 use Rattle.access.specs.Loops.{run}
 use Rattle.file_section.specs.Names.{reading}
 use Rattle.file_section.specs.Lists.{entry}
-use Rattle.access.proofs.LoopLaws.{run_start, run_again}
-use Rattle.file_section.proofs.ListLaws.{list_law}
 use Rattle.file_section.proofs.lists.list.Given as goal
 
 abbrev pub invariant-loop-i : goal.invariant-loop-i

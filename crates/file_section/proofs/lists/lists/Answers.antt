@@ -1,12 +1,7 @@
-use Rattle.std.proofs.Common.{rules}
 use native.Mathlib.Omega.{arith}
-use Prim.Native.Nat.{◌-◌, ◌≤◌, ◌<◌}
-use mathlib.Core.Path.{◌≡◌, refl, ◌∙◌}
-use lib.ListN.{length}
-use Rattle.access.specs.Loops.{run}
-use Rattle.file_section.specs.Names.{reading}
-use Rattle.file_section.specs.Lists.{list, lists}
-use Rattle.access.proofs.LoopLaws.{run_start, run_again, run_end}
+use mathlib.Core.Path.{refl, ◌∙◌}
+use Rattle.file_section.specs.Lists.{lists}
+use Rattle.access.proofs.LoopLaws.{run_again, run_end}
 use Rattle.file_section.proofs.lists.lists.Goals as goal
 
 pub loop-k-init : goal.loop-k-init

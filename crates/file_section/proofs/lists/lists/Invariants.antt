@@ -1,12 +1,9 @@
-use Rattle.std.proofs.Common.{rules}
-use native.Mathlib.Omega.{arith}
-use Prim.Native.Nat.{◌-◌, ◌≤◌, ◌<◌}
-use mathlib.Core.Path.{◌≡◌, refl, ◌∙◌}
+use Prim.Native.Nat.{◌-◌, ◌≤◌}
+use mathlib.Core.Path.{◌≡◌}
 use lib.ListN.{length}
 use Rattle.access.specs.Loops.{run}
 use Rattle.file_section.specs.Names.{reading}
-use Rattle.file_section.specs.Lists.{list, lists}
-use Rattle.access.proofs.LoopLaws.{run_start, run_again, run_end}
+use Rattle.file_section.specs.Lists.{list}
 use Rattle.file_section.proofs.lists.lists.Given as goal
 
 abbrev pub invariant-loop-k : goal.invariant-loop-k

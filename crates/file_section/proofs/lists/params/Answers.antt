@@ -1,9 +1,5 @@
-use Rattle.std.proofs.Common.{rules}
 use native.Mathlib.Omega.{arith}
-use Prim.Native.Nat.{◌-◌, ◌≤◌}
-use mathlib.Core.Path.{◌≡◌, refl}
-use Rattle.access.specs.Loops.{run}
-use Rattle.file_syntax.specs.Cursors as words
+use mathlib.Core.Path.{refl}
 use Rattle.access.proofs.LoopLaws.{run_start, run_again}
 use Rattle.file_section.proofs.ListLaws.{params_law}
 use Rattle.file_section.proofs.lists.params.Goals as goal

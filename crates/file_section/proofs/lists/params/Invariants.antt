@@ -1,11 +1,7 @@
-use Rattle.std.proofs.Common.{rules}
-use native.Mathlib.Omega.{arith}
 use Prim.Native.Nat.{◌-◌, ◌≤◌}
-use mathlib.Core.Path.{◌≡◌, refl}
+use mathlib.Core.Path.{◌≡◌}
 use Rattle.access.specs.Loops.{run}
 use Rattle.file_syntax.specs.Cursors as words
-use Rattle.access.proofs.LoopLaws.{run_start, run_again}
-use Rattle.file_section.proofs.ListLaws.{params_law}
 use Rattle.file_section.proofs.lists.params.Given as goal
 
 abbrev pub invariant-loop-i : goal.invariant-loop-i

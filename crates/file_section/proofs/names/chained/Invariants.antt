@@ -1,12 +1,9 @@
-use Rattle.std.proofs.Common.{rules}
-use native.Mathlib.Omega.{arith}
 use Prim.Native.Nat.{◌-◌, ◌≤◌}
-use mathlib.Core.Path.{◌≡◌, refl, ◌∙◌}
+use mathlib.Core.Path.{◌≡◌}
 use lib.ListN.{length}
 use Rattle.access.specs.Loops.{run}
-use Rattle.file_section.specs.Names.{reading, name_at, names}
+use Rattle.file_section.specs.Names.{reading, name_at}
 use Rattle.file_section.specs.Chains.{Linked}
-use Rattle.access.proofs.LoopLaws.{run_start, run_again, run_end}
 use Rattle.file_section.proofs.names.chained.Given as goal
 
 abbrev pub invariant-loop-i : goal.invariant-loop-i

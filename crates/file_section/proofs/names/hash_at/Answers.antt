@@ -1,4 +1,3 @@
-use Rattle.std.proofs.Common.{rules}
 use Rattle.file_section.proofs.ChainLaws.{hashed_same}
 use Rattle.file_section.proofs.names.hash_at.Goals as goal
 

@@ -1,7 +1,5 @@
-use Rattle.std.proofs.Common.{rules}
-use native.Mathlib.Omega.{arith}
 use Rattle.file_section.proofs.NameLaws.{known_hit, known-end}
-use Rattle.file_section.proofs.ChainLaws.{Walk, walk_start, walk_less, walk_on}
+use Rattle.file_section.proofs.ChainLaws.{walk_start, walk_less, walk_on}
 use Rattle.file_section.proofs.names.known.Goals as goal
 
 pub loop-j-init : goal.loop-j-init

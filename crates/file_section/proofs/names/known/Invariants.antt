@@ -1,7 +1,4 @@
-use Rattle.std.proofs.Common.{rules}
-use native.Mathlib.Omega.{arith}
-use Rattle.file_section.proofs.NameLaws.{known_hit, known-end}
-use Rattle.file_section.proofs.ChainLaws.{Walk, walk_start, walk_less, walk_on}
+use Rattle.file_section.proofs.ChainLaws.{Walk}
 use Rattle.file_section.proofs.names.known.Given as goal
 
 abbrev pub invariant-loop-j : goal.invariant-loop-j

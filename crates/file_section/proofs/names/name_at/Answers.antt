@@ -1,4 +1,3 @@
-use Rattle.std.proofs.Common.{rules}
 use Rattle.file_section.proofs.ChainLaws.{linked_step}
 use Rattle.file_section.proofs.NameLaws.{name_turn}
 use Rattle.file_section.proofs.names.name_at.Goals as goal

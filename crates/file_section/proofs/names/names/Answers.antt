@@ -1,4 +1,3 @@
-use Rattle.std.proofs.Common.{rules}
 use Rattle.file_section.proofs.ChainLaws.{linked_none}
 use Rattle.file_section.proofs.names.names.Goals as goal
 

@@ -1,8 +1,3 @@
-use Rattle.std.proofs.Common.{rules}
-use native.Mathlib.Omega.{arith}
-use Prim.Native.Nat.{◌+◌, ◌-◌, ◌≤◌}
-use mathlib.Core.Path.{◌≡◌}
-use Rattle.file_section.specs.Names.{agree, rest_alike}
 use Rattle.file_section.proofs.NameLaws.{agree_start, agree_differ, agree_same, agree-end}
 use Rattle.file_section.proofs.names.rest_alike.Goals as goal
 

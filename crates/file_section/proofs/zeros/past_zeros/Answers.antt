@@ -1,9 +1,4 @@
-use Rattle.std.proofs.Common.{rules}
-use native.Mathlib.Omega.{arith}
-use Prim.Native.Nat.{◌-◌}
-use mathlib.Core.Path.{◌≡◌, refl}
-use lib.ListN.{length}
-use Rattle.file_section.specs.Stream.{zeros}
+use mathlib.Core.Path.{refl}
 use Rattle.file_section.proofs.ListLaws.{zeros-eight}
 use Rattle.file_section.proofs.zeros.past_zeros.Goals as goal
 

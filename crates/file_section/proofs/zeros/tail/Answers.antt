@@ -1,9 +1,3 @@
-use Rattle.std.proofs.Common.{rules}
-use native.Mathlib.Omega.{arith}
-use Prim.Native.Nat.{◌-◌}
-use mathlib.Core.Path.{◌≡◌, refl}
-use lib.ListN.{length}
-use Rattle.file_section.specs.Stream.{zeros}
 use Rattle.file_section.proofs.ListLaws.{zeros_found, zeros_more, zeros-end, tail_found, tail-end}
 use Rattle.file_section.proofs.zeros.tail.Goals as goal
 

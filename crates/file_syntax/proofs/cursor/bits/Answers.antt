@@ -1,5 +1,3 @@
-use Rattle.std.proofs.Common.{rules}
-use mathlib.Core.Path.{◌≡◌, refl}
 use Rattle.file_syntax.proofs.cursor.bits.Goals as goal
 
 pub returns : goal.returns

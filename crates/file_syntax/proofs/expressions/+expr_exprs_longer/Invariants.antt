@@ -1,11 +1,7 @@
-use Prim.Native.Nat.{ℕ, ◌<◌, ◌+◌, ◌-◌, ◌≤◌}
-use Rattle.file_syntax.proofs.CodeLaws.{code_laws, counted_law}
-use Rattle.std.proofs.Common.{rules}
-use native.Mathlib.Omega.{arith}
-use mathlib.Core.Path.{◌≡◌, refl}
+use Prim.Native.Nat.{◌+◌, ◌-◌, ◌≤◌}
+use mathlib.Core.Path.{◌≡◌}
 use Rattle.access.specs.Loops.{run}
 use Rattle.file_syntax.specs.Expressions as e
-use Rattle.access.proofs.LoopLaws.{run_start, run_again}
 use Rattle.file_syntax.proofs.expressions.+expr_exprs_longer.Given as goal
 
 abbrev pub decreases-expr : goal.decreases-expr

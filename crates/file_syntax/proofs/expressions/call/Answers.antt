@@ -1,4 +1,3 @@
-use Rattle.std.proofs.Common.{rules}
 use Rattle.file_syntax.proofs.expressions.call.Goals as goal
 
 pub returns : goal.returns

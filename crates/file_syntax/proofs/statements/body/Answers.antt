@@ -1,9 +1,4 @@
-use Rattle.std.proofs.Common.{rules}
 use native.Mathlib.Omega.{arith}
-use Prim.Native.Nat.{◌-◌, ◌≤◌}
-use mathlib.Core.Path.{◌≡◌, refl}
-use Rattle.access.specs.Loops.{run}
-use Rattle.file_syntax.specs.Statements as words
 use Rattle.access.proofs.LoopLaws.{run_start, run_again}
 use Rattle.file_syntax.proofs.CodeLaws.{body_law}
 use Rattle.file_syntax.proofs.statements.body.Goals as goal

@@ -1,5 +1,4 @@
-use Rattle.std.proofs.Common.{◌≡◌, ◌-◌, ◌≤◌, length, refl, arith, rules}
-use Rattle.list_end.specs.End.{finish_from, finish_actions}
+use Rattle.std.proofs.Common.{refl, arith, rules}
 use Rattle.list_end.proofs.EndLaws.{finish_start, finish-stop, finish_more, finish-end}
 use Rattle.list_end.proofs.end.finish_actions.Goals as goal
 

@@ -1,6 +1,5 @@
-use Rattle.std.proofs.Common.{◌≡◌, ◌-◌, ◌≤◌, length, refl, arith, rules}
+use Rattle.std.proofs.Common.{◌≡◌, ◌-◌, ◌≤◌, length}
 use Rattle.list_end.specs.End.{finish_from, finish_actions}
-use Rattle.list_end.proofs.EndLaws.{finish_start, finish-stop, finish_more, finish-end}
 use Rattle.list_end.proofs.end.finish_actions.Given as goal
 
 abbrev pub invariant-loop-i : goal.invariant-loop-i

@@ -1,7 +1,4 @@
-use Rattle.std.proofs.Common.{◌≡◌, ◌-◌, ◌≤◌, length, refl, arith, rules}
-use Rattle.list_values.specs.Base.{listed}
-use Rattle.access.specs.Loops.{run}
-use Rattle.list_end.specs.End.{fix_input}
+use Rattle.std.proofs.Common.{refl, arith, rules}
 use Rattle.access.proofs.LoopLaws.{run_start, run_again}
 use Rattle.list_end.proofs.EndLaws.{fix_input_law, fix_inputs_law}
 use Rattle.list_end.proofs.end.fix_inputs.Goals as goal

@@ -1,9 +1,7 @@
-use Rattle.std.proofs.Common.{◌≡◌, ◌-◌, ◌≤◌, length, refl, arith, rules}
+use Rattle.std.proofs.Common.{◌≡◌, ◌-◌, ◌≤◌, length}
 use Rattle.list_values.specs.Base.{listed}
 use Rattle.access.specs.Loops.{run}
 use Rattle.list_end.specs.End.{implicit_build}
-use Rattle.access.proofs.LoopLaws.{run_start, run_again}
-use Rattle.list_end.proofs.EndLaws.{implicit_builds_law}
 use Rattle.list_end.proofs.end.implicit_builds.Given as goal
 
 abbrev pub invariant-loop-i : goal.invariant-loop-i

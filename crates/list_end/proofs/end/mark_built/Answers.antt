@@ -1,6 +1,4 @@
-use Rattle.std.proofs.Common.{◌≡◌, ◌-◌, ◌≤◌, length, refl, arith, rules}
-use Rattle.access.specs.Loops.{run}
-use Rattle.list_end.specs.End.{mark_action}
+use Rattle.std.proofs.Common.{refl, arith, rules}
 use Rattle.access.proofs.LoopLaws.{run_start, run_again}
 use Rattle.list_end.proofs.EndLaws.{mark-action_law, mark_built_law}
 use Rattle.list_end.proofs.end.mark_built.Goals as goal

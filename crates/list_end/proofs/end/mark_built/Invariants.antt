@@ -1,8 +1,6 @@
-use Rattle.std.proofs.Common.{◌≡◌, ◌-◌, ◌≤◌, length, refl, arith, rules}
+use Rattle.std.proofs.Common.{◌≡◌, ◌-◌, ◌≤◌, length}
 use Rattle.access.specs.Loops.{run}
 use Rattle.list_end.specs.End.{mark_action}
-use Rattle.access.proofs.LoopLaws.{run_start, run_again}
-use Rattle.list_end.proofs.EndLaws.{mark-action_law, mark_built_law}
 use Rattle.list_end.proofs.end.mark_built.Given as goal
 
 abbrev pub invariant-loop-i : goal.invariant-loop-i

@@ -1,6 +1,4 @@
-use Rattle.std.proofs.Common.{◌≡◌, ◌-◌, ◌≤◌, length, refl, arith, rules}
-use Rattle.access.specs.Loops.{run}
-use Rattle.list_end.specs.End.{move_word}
+use Rattle.std.proofs.Common.{refl, arith, rules}
 use Rattle.access.proofs.LoopLaws.{run_again}
 use Rattle.list_end.proofs.EndLaws.{move_word_law, move_action_law}
 use Rattle.list_end.proofs.end.move_action.Goals as goal

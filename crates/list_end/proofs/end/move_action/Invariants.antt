@@ -1,8 +1,6 @@
-use Rattle.std.proofs.Common.{◌≡◌, ◌-◌, ◌≤◌, length, refl, arith, rules}
+use Rattle.std.proofs.Common.{◌≡◌, ◌-◌, ◌≤◌, length}
 use Rattle.access.specs.Loops.{run}
 use Rattle.list_end.specs.End.{move_word}
-use Rattle.access.proofs.LoopLaws.{run_again}
-use Rattle.list_end.proofs.EndLaws.{move_word_law, move_action_law}
 use Rattle.list_end.proofs.end.move_action.Given as goal
 
 abbrev pub invariant-loop-i : goal.invariant-loop-i

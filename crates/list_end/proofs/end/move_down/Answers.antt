@@ -1,7 +1,4 @@
-use Rattle.std.proofs.Common.{◌≡◌, ◌-◌, ◌≤◌, length, refl, arith, rules}
-use Rattle.access.specs.Loops.{run}
-use Rattle.list_values.specs.Values.{place}
-use Rattle.list_end.specs.End.{move_to}
+use Rattle.std.proofs.Common.{refl, arith, rules}
 use Rattle.access.proofs.LoopLaws.{run_start, run_again}
 use Rattle.list_end.proofs.EndLaws.{move_not, move_to_law, move_down_law}
 use Rattle.list_end.proofs.end.move_down.Goals as goal

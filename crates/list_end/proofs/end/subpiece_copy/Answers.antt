@@ -1,4 +1,4 @@
-use Rattle.std.proofs.Common.{◌<◌, arith, rules}
+use Rattle.std.proofs.Common.{rules}
 use Rattle.list_end.proofs.EndLaws.{end_laws, copy_refused}
 use Rattle.list_end.proofs.end.subpiece_copy.Goals as goal
 

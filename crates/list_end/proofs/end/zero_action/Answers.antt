@@ -1,6 +1,4 @@
-use Rattle.std.proofs.Common.{◌≡◌, ◌-◌, ◌≤◌, length, refl, arith, rules}
-use Rattle.access.specs.Loops.{run}
-use Rattle.list_values.specs.Values.{zero_word}
+use Rattle.std.proofs.Common.{refl, arith, rules}
 use Rattle.access.proofs.LoopLaws.{run_again}
 use Rattle.list_end.proofs.EndLaws.{zero_action_law}
 use Rattle.list_end.proofs.end.zero_action.Goals as goal

@@ -1,11 +1,6 @@
 use Rattle.std.proofs.Common.{rules}
-use Prim.Native.Nat.{◌-◌, ◌≤◌}
 use native.Mathlib.Omega.{arith}
-use mathlib.Core.Path.{◌≡◌, refl}
-use lib.ListN.{length}
-use Rattle.list_values.specs.declared.sizes.Sizing.{Sizing}
-use Rattle.list_values.specs.Sizes.{sized, recorded}
-use Rattle.list_pushes.specs.Passes.{update_action, turns, pass}
+use mathlib.Core.Path.{refl}
 use Rattle.list_pushes.proofs.PassLaws.{update_action_law, pass_start, turns_again, turns-end}
 use Rattle.list_pushes.proofs.passes.pass.Goals as goal
 

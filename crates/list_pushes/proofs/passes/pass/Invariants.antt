@@ -1,12 +1,9 @@
-use Rattle.std.proofs.Common.{rules}
 use Prim.Native.Nat.{◌-◌, ◌≤◌}
-use native.Mathlib.Omega.{arith}
-use mathlib.Core.Path.{◌≡◌, refl}
+use mathlib.Core.Path.{◌≡◌}
 use lib.ListN.{length}
 use Rattle.list_values.specs.declared.sizes.Sizing.{Sizing}
 use Rattle.list_values.specs.Sizes.{sized, recorded}
 use Rattle.list_pushes.specs.Passes.{update_action, turns, pass}
-use Rattle.list_pushes.proofs.PassLaws.{update_action_law, pass_start, turns_again, turns-end}
 use Rattle.list_pushes.proofs.passes.pass.Given as goal
 
 abbrev pub invariant-loop-i : goal.invariant-loop-i

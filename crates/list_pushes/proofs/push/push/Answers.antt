@@ -1,8 +1,5 @@
 use Rattle.std.proofs.Common.{rules}
-use Rattle.list_pushes.proofs.PushLaws.{push_laws, room_true}
-use native.Mathlib.Omega.{arith}
-use lib.ListN.{length}
-use Prim.Native.Nat.{◌+◌, ◌≤◌}
+use Rattle.list_pushes.proofs.PushLaws.{push_laws}
 use Rattle.list_pushes.proofs.push.push.Goals as goal
 
 pub has_room-requires : goal.has_room-requires

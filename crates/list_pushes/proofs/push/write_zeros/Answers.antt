@@ -1,10 +1,6 @@
 use Rattle.std.proofs.Common.{rules}
-use Prim.Native.Nat.{◌-◌, ◌≤◌}
 use native.Mathlib.Omega.{arith}
-use mathlib.Core.Path.{◌≡◌, refl}
-use lib.ListN.{length}
-use Rattle.access.specs.Loops.{run}
-use Rattle.list_values.specs.Values.{zero_word}
+use mathlib.Core.Path.{refl}
 use Rattle.access.proofs.LoopLaws.{run_again}
 use Rattle.list_pushes.proofs.PushLaws.{write-zeros_law}
 use Rattle.list_pushes.proofs.push.write_zeros.Goals as goal

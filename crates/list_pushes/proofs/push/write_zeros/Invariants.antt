@@ -1,12 +1,8 @@
-use Rattle.std.proofs.Common.{rules}
 use Prim.Native.Nat.{◌-◌, ◌≤◌}
-use native.Mathlib.Omega.{arith}
-use mathlib.Core.Path.{◌≡◌, refl}
+use mathlib.Core.Path.{◌≡◌}
 use lib.ListN.{length}
 use Rattle.access.specs.Loops.{run}
 use Rattle.list_values.specs.Values.{zero_word}
-use Rattle.access.proofs.LoopLaws.{run_again}
-use Rattle.list_pushes.proofs.PushLaws.{write-zeros_law}
 use Rattle.list_pushes.proofs.push.write_zeros.Given as goal
 
 abbrev pub invariant-loop-i : goal.invariant-loop-i

@@ -1,4 +1,3 @@
-use Rattle.std.proofs.Common.{rules}
 use native.Mathlib.Omega.{arith}
 use Rattle.list_values.proofs.ValueLaws.{place_at, place_far, place_off}
 use Rattle.list_values.proofs.value.place.Goals as goal

@@ -1,4 +1,3 @@
-use Rattle.std.proofs.Common.{rules}
 use Rattle.resolve_answer.proofs.AnswerLaws.{points-small, points_wide, points_many}
 use Rattle.resolve_answer.proofs.answer.points.Goals as goal
 

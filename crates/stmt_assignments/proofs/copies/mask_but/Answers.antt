@@ -1,5 +1,4 @@
-use Rattle.std.proofs.Common.{rules}
-use Rattle.stmt_assignments.proofs.CopyLaws.{bit_laws, copy_laws, mask_but_law}
+use Rattle.stmt_assignments.proofs.CopyLaws.{mask_but_law}
 use Rattle.stmt_assignments.proofs.copies.mask_but.Goals as goal
 
 pub returns : goal.returns

@@ -1,7 +1,6 @@
 use mathlib.Core.Path.{ap}
 use mathlib.Core.Bool.{not}
-use Rattle.std.proofs.Common.{◌≡◌, ℕ, ◌+◌, ◌-◌, ◌*◌, ◌<◌, length, arith, rules}
-use Rattle.stmt_bodies.specs.Statements.{enter_macro, resolve_statement, resolve_all, resolve_body}
+use Rattle.std.proofs.Common.{arith, rules}
 use Rattle.stmt_bodies.proofs.StatementLaws.{statement_laws, enter-body, bytes_fall, body_cut, body-next, call_none}
 use Rattle.stmt_bodies.proofs.statements.+body_call_statement_enter_macro_statement_statement.Goals as goal
 

@@ -1,11 +1,7 @@
 use Rattle.std.proofs.Common.{rules}
-use mathlib.Core.Path.{◌≡◌, refl}
-use Prim.Native.Nat.{◌-◌}
+use mathlib.Core.Path.{refl}
 use native.Mathlib.Omega.{arith}
-use lib.ListN.{length}
-use Rattle.access.specs.Loops.{run}
 use Rattle.access.proofs.LoopLaws.{run_start, run_again}
-use Rattle.stmt_simple.specs.Calls.{bind_name}
 use Rattle.stmt_simple.proofs.CallLaws.{bind_name_law, bind_names_law}
 use Rattle.stmt_simple.proofs.calls.bind_names.Goals as goal
 

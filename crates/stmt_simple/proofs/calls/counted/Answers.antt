@@ -1,4 +1,3 @@
-use Rattle.std.proofs.Common.{rules}
 use Rattle.stmt_simple.proofs.CallLaws.{counted_same, counted_other}
 use Rattle.stmt_simple.proofs.calls.counted.Goals as goal
 

@@ -1,9 +1,6 @@
 use Rattle.std.proofs.Common.{rules}
-use mathlib.Core.Path.{◌≡◌, refl}
-use Prim.Native.Nat.{◌-◌}
+use mathlib.Core.Path.{refl}
 use native.Mathlib.Omega.{arith}
-use lib.ListN.{length}
-use Rattle.stmt_simple.specs.Calls.{read_args}
 use Rattle.stmt_simple.proofs.CallLaws.{args_start, args_stop, args_next, args_end}
 use Rattle.stmt_simple.proofs.calls.read_args.Goals as goal
 

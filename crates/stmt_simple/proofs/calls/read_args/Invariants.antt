@@ -1,10 +1,7 @@
-use Rattle.std.proofs.Common.{rules}
-use mathlib.Core.Path.{◌≡◌, refl}
+use mathlib.Core.Path.{◌≡◌}
 use Prim.Native.Nat.{◌-◌}
-use native.Mathlib.Omega.{arith}
 use lib.ListN.{length}
 use Rattle.stmt_simple.specs.Calls.{read_args}
-use Rattle.stmt_simple.proofs.CallLaws.{args_start, args_stop, args_next, args_end}
 use Rattle.stmt_simple.proofs.calls.read_args.Given as goal
 
 abbrev pub invariant-loop-i : goal.invariant-loop-i

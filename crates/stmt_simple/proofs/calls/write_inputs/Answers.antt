@@ -1,11 +1,7 @@
 use Rattle.std.proofs.Common.{rules}
-use mathlib.Core.Path.{◌≡◌, refl}
-use Prim.Native.Nat.{◌-◌}
+use mathlib.Core.Path.{refl}
 use native.Mathlib.Omega.{arith}
-use lib.ListN.{length}
-use Rattle.access.specs.Loops.{run}
 use Rattle.access.proofs.LoopLaws.{run_start, run_again}
-use Rattle.stmt_simple.specs.Calls.{write_input}
 use Rattle.stmt_simple.proofs.CallLaws.{input_law, inputs_law}
 use Rattle.stmt_simple.proofs.calls.write_inputs.Goals as goal
 

@@ -1,12 +1,8 @@
-use Rattle.std.proofs.Common.{rules}
-use mathlib.Core.Path.{◌≡◌, refl}
+use mathlib.Core.Path.{◌≡◌}
 use Prim.Native.Nat.{◌-◌}
-use native.Mathlib.Omega.{arith}
 use lib.ListN.{length}
 use Rattle.access.specs.Loops.{run}
-use Rattle.access.proofs.LoopLaws.{run_start, run_again}
 use Rattle.stmt_simple.specs.Calls.{write_input}
-use Rattle.stmt_simple.proofs.CallLaws.{input_law, inputs_law}
 use Rattle.stmt_simple.proofs.calls.write_inputs.Given as goal
 
 abbrev pub invariant-loop-i : goal.invariant-loop-i

@@ -1,9 +1,6 @@
-use Rattle.std.proofs.Common.{rules}
 use mathlib.Core.Path.{◌≡◌}
 use Prim.Native.Nat.{◌-◌}
-use native.Mathlib.Omega.{arith}
 use Rattle.stmt_simple.specs.Simple.{find_subtable}
-use Rattle.stmt_simple.proofs.SimpleLaws.{find_start, find_hit, find_miss, find-end}
 use Rattle.stmt_simple.proofs.simple.find_subtable.Given as goal
 
 abbrev pub invariant-loop-i : goal.invariant-loop-i
