@@ -6,7 +6,7 @@ use mathlib.Core.Option.{some}
 use native.Mathlib.Omega.{arith}
 use lib.Dec.{ltb}
 use lib.ListN.{get_elem?}
-use Rattle.prelude.specs.Base.{if◌then◌else◌}
+use Rattle.prelude.specs.Base.{when◌then◌else◌}
 use Rattle.definition.specs.Operations.{Operation, operation_number, operations}
 use Rattle.definition.proofs.Openers.{operations_opens}
 
@@ -19,7 +19,7 @@ same_at f g (y ∷ ys) (suc i) x h e = let k : map f ys ≡ map g ys = cc in sam
 
 -- no operation has the numbers 33 to 38
 place : Operation → ℕ
-place op = if ltb (operation_number op) 33 then operation_number op else operation_number op - 6
+place op = when ltb (operation_number op) 33 then operation_number op else operation_number op - 6
 
 every : (op : Operation) → get_elem? operations (place op) ≡ some op
 unfolding place operations_opens

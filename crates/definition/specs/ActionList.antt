@@ -1,7 +1,7 @@
 -- THE ACTION LIST, the second list and the result as words; and `resolve`, which public contracts cite.
 use Rattle.std.specs.Prelude.{ℕ, zero, suc, ◌+◌, ◌*◌, ◌/◌, ◌^◌, min, Bool, false, List, [], ◌∷◌, ◌++◌, map, length, replicate}
 use Rattle.std.proofs.Math.Option.{Option, none, some}
-use Rattle.prelude.specs.Base.{if◌then◌else◌, or_else, and_then, sum}
+use Rattle.prelude.specs.Base.{when◌then◌else◌, or_else, and_then, sum}
 use Rattle.definition.specs.Refusals.{Refusal, refusal_number}
 use Rattle.definition.specs.Operations.{Operation, operation_number, is_op}
 use Rattle.definition.specs.Value.{Value, kind_number, ActionKind, SemanticAction, operation_of, Temporary, ExportKind, Export}
@@ -75,7 +75,7 @@ unfoldable pub places_label : SemanticAction → Bool
 places_label a = or_else false (and_then (operation_of a.kind) λ operation. some (is_op Operation.PcodeLabel operation))
 
 unfoldable pub labels_placed : List SemanticAction → ℕ
-labels_placed actions = sum (map (λ a. if places_label a then 1 else 0) actions)
+labels_placed actions = sum (map (λ a. when places_label a then 1 else 0) actions)
 
 unfoldable pub points : ℕ → ℕ → ℕ
 points actions temporaries = (2 * actions + temporaries + 5) / 10

@@ -3,7 +3,7 @@
 use Rattle.std.specs.Prelude.{ℕ, zero, suc, ◌*◌, ◌/◌, ◌%◌, ◌^◌, min, Bool, true, false, ◌&&◌, not, List, [], ◌∷◌, ◌++◌, map, length, take, drop, get_or, eqb, leb, ltb}
 use Rattle.std.proofs.Math.Option.{Option, none, some}
 use Rattle.std.proofs.Math.ListN.{get_elem?}
-use Rattle.prelude.specs.Base.{if◌then◌else◌, or_else, and_then, is_some, any, all, first, same_numbers, contains}
+use Rattle.prelude.specs.Base.{when◌then◌else◌, or_else, and_then, is_some, any, all, first, same_numbers, contains}
 use Rattle.definition.specs.Operations.{Operation, operation_number, operators, one_inputs, among}
 use Rattle.definition.specs.Value.{Kind, Value, ActionKind, SemanticAction, operation_of}
 use Rattle.definition.specs.Sizes.{Operand, fixed_size, Step, equal, exactly, by_default, steps_of, at}
@@ -56,7 +56,7 @@ shapes =
 unfoldable pub operation_numbered : ℕ → Option Operation
 operation_numbered n =
     first (λ (row : OperationShape).
-    first (λ operation. if eqb n (operation_number operation) then some operation else none) row.operations) shapes
+    first (λ operation. when eqb n (operation_number operation) then some operation else none) row.operations) shapes
 
 unfoldable pub op_numbered : ℕ → Option ActionKind
 op_numbered n = and_then (operation_numbered n) λ operation. some (ActionKind.Op operation)
@@ -74,7 +74,7 @@ kinds =
     ∷ Kind.Constant ∷ []
 
 unfoldable pub size_from : ℕ → Option ℕ
-size_from n = if eqb n 65535 then none else some n
+size_from n = when eqb n 65535 then none else some n
 
 unfoldable pub value_from : ℕ → ℕ → Option Value
 value_from number word =
@@ -93,7 +93,7 @@ some_value v = and_then v λ w. some (some w)
 
 unfoldable pub output_from : ActionKind → ℕ → ℕ → Option (Option Value)
 output_from (ActionKind.Op operation) number word =
-    if eqb number 0 && eqb word 255 then some none else some_value (value_from number word)
+    when eqb number 0 && eqb word 255 then some none else some_value (value_from number word)
 output_from ActionKind.AddressOf number word = some_value (value_from number word)
 output_from ActionKind.LoadRegister number word = some_value (value_from number word)
 output_from ActionKind.StoreRegister number word = some none
@@ -117,7 +117,7 @@ actions_from (suc n) ws =
 -- Layout, of one action.
 
 unfoldable pub same_count : ℕ × Bool → ℕ × Bool → Bool
-same_count a b = eqb a.0 b.0 && (if a.1 then b.1 else not b.1)
+same_count a b = eqb a.0 b.0 && (when a.1 then b.1 else not b.1)
 
 unfoldable pub counts_fit : Shape → SemanticAction → Bool
 counts_fit shape a = any (same_count (length a.inputs, is_some a.output)) shape.counts
@@ -144,7 +144,7 @@ option_fits p none = true
 module _ (temporaries subtables : ℕ) where
   unfoldable pub shape_of : ActionKind → Option Shape
   shape_of (ActionKind.Op operation) =
-      first (λ (row : OperationShape). if among row.operations operation then some row.shape else none) shapes
+      first (λ (row : OperationShape). when among row.operations operation then some row.shape else none) shapes
   shape_of ActionKind.AddressOf = some (record { counts = with_output 1 ∷ []; below = 1 })
   shape_of ActionKind.LoadRegister = some (record { counts = with_output 1 ∷ []; below = 1025 })
   shape_of ActionKind.StoreRegister = some (record { counts = no_output 2 ∷ []; below = 1025 })
@@ -227,6 +227,6 @@ list_holds ws temporaries subtables pointer_size actions =
 -- The words, the action and temporary counts, the subtable count and the pointer size: the actions fit, and so on.
 unfoldable pub check : List ℕ → ℕ → ℕ → ℕ → ℕ → Bool
 check ws actions temporaries subtables pointer_size =
-    if leb (24 * actions) (length ws)
+    when leb (24 * actions) (length ws)
     then or_else false (and_then (actions_from actions ws) λ found.
     some (list_holds ws temporaries subtables pointer_size found)) else false

@@ -1,7 +1,7 @@
 -- THE END of `resolve`: the passes, sizes fixed, subpieces made copies, the implicit Builds in front, the errors.
 use Rattle.std.specs.Prelude.{ℕ, zero, suc, Bool, true, false, List, [], ◌∷◌, ◌++◌, length, eqb, leb}
 use Rattle.std.proofs.Math.Option.{Option, none, some}
-use Rattle.prelude.specs.Base.{if◌then◌else◌, and_then, any}
+use Rattle.prelude.specs.Base.{when◌then◌else◌, and_then, any}
 use Rattle.definition.specs.Refusals.{list_full, subpiece_size, errors_recorded}
 use Rattle.definition.specs.Operations.{Operation, is_op}
 use Rattle.definition.specs.Value.{Value, ActionKind, SemanticAction, operation_of, Temporary, Export}
@@ -34,7 +34,7 @@ unfoldable pub finish_op : Option Operation → SemanticAction → Walk Semantic
 finish_op none a = pure a
 finish_op (some operation) a = do
   b ← by_sizes λ sec. fix_operands sec a
-  if is_op Operation.Subpiece operation then subpiece_copy b else pure b
+  when is_op Operation.Subpiece operation then subpiece_copy b else pure b
 
 unfoldable pub finish_actions : List SemanticAction → Walk (List SemanticAction)
 finish_actions [] = pure []
@@ -58,14 +58,14 @@ is_build ActionKind.DelaySlot = false
 is_build ActionKind.Build = true
 
 unfoldable pub builds : ℕ → SemanticAction → Bool
-builds i a = if is_build a.kind then eqb i a.number else false
+builds i a = when is_build a.kind then eqb i a.number else false
 
 -- of n subtables from number i on, a Build of each that no action builds
 unfoldable pub implicit_builds : List SemanticAction → ℕ → ℕ → List SemanticAction
 implicit_builds actions i zero = []
 implicit_builds actions i (suc n) =
     let rest = implicit_builds actions (suc i) n in
-    if any (builds i) actions then rest
+    when any (builds i) actions then rest
     else record { kind = ActionKind.Build; number = i; inputs = []; output = none } ∷ rest
 
 -- A part resolved: how many statements that took, the final actions, the temporaries, how many labels were made, placed

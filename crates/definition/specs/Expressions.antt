@@ -2,7 +2,7 @@
 use Rattle.std.specs.Prelude.{ℕ, suc, ◌+◌, ◌*◌, ◌-◌, ◌/◌, ◌%◌, ◌^◌, min, Bool, ◌&&◌, List, [], ◌∷◌, take, drop, get_or, eqb, leb, ltb}
 use Rattle.std.proofs.Math.Option.{Option, none, some}
 use Rattle.std.proofs.Math.ListN.{get_elem?}
-use Rattle.prelude.specs.Base.{if◌then◌else◌, ◌or◌, or_else, and_then, contains}
+use Rattle.prelude.specs.Base.{when◌then◌else◌, ◌or◌, or_else, and_then, contains}
 use Rattle.definition.specs.Refusals.{address_of_non_local, address_of_offset, constant_pool, argument_count, macro_in_expression, subpiece_argument, slice_past_end, const_space, no_default_space, other_space, shift_too_far}
 use Rattle.definition.specs.Operations.{Operation}
 use Rattle.definition.specs.Value.{Value, local, constant, with_size, truncate, ActionKind}
@@ -32,7 +32,7 @@ copy_to (some to) v = op Operation.Copy 0 (v ∷ []) (some to)
 
 -- a register access's stated size is set as under Sizes; 0 sets none
 unfoldable pub set_stated : ℕ → Value → Walk Value
-set_stated size v = if eqb size 0 then pure v else by_sizes λ sec. set_size sec size v
+set_stated size v = when eqb size 0 then pure v else by_sizes λ sec. set_size sec size v
 
 unfoldable pub take_known : Option ℕ → ℕ → Value → Walk Value
 take_known (some known) size v = pure (truncate size v)
@@ -40,7 +40,7 @@ take_known none size v = by_sizes λ sec. set_size sec size v
 
 -- a RAM access's stated size is taken silently; 0 sets none
 unfoldable pub take_stated : ℕ → Value → Walk Value
-take_stated size v = if eqb size 0 then pure v else do
+take_stated size v = when eqb size 0 then pure v else do
   known ← known_size v
   take_known known size v
 
@@ -57,7 +57,7 @@ shift_and_mask v from bits = do
 
 unfoldable pub read_slice : Value → ℕ → ℕ → Option Value → Walk Value
 read_slice v from bits to = do
-  part ← if byte_aligned from bits then sliced (from / 8) (bits / 8) v else shift_and_mask v from bits
+  part ← when byte_aligned from bits then sliced (from / 8) (bits / 8) v else shift_and_mask v from bits
   copy_to to part
 
 -- the value, in the output where one is given
@@ -164,7 +164,7 @@ unfoldable pub resolve_address : Option ℕ → Option ℕ → Walk ExprValue �
 resolve_address space size pointer = do
   x ← pointer
   sec ← section
-  if contains sec.header.const space then in_const_space size x else address_in space size x
+  when contains sec.header.const space then in_const_space size x else address_in space size x
 
 -- Operators. The six greater ones swap their operands before either is resolved.
 

@@ -1,7 +1,7 @@
 -- DEMAND 3: whether the action list of a file's answer passes the checker, with the answer's own counts and those of
 -- the section.
 use Rattle.std.specs.Prelude.{ℕ, Bool, false, List, eqb, length}
-use Rattle.prelude.specs.Base.{if◌then◌else◌}
+use Rattle.prelude.specs.Base.{when◌then◌else◌}
 use Rattle.definition.specs.Ast.{Section}
 use Rattle.definition.specs.SectionFile.{Parsed, read}
 use Rattle.definition.specs.Sizes.{pointer_size}
@@ -24,5 +24,5 @@ passes file lent_actions lent_temporaries =
 -- the section is accepted, and its list passes
 unfoldable pub checked : List ℕ → ℕ → ℕ → Bool
 checked file lent_actions lent_temporaries =
-    if eqb (resolve file lent_actions lent_temporaries).result.refusal 0
+    when eqb (resolve file lent_actions lent_temporaries).result.refusal 0
     then passes file lent_actions lent_temporaries else false

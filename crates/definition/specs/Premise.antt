@@ -2,7 +2,7 @@
 -- operation with a rule, nearer the list's start, has as an operand at any offset.
 use Rattle.std.specs.Prelude.{ℕ, Bool, true, ◌&&◌, not, List, [], ◌∷◌, ◌++◌, eqb}
 use Rattle.std.proofs.Math.ListN.{get_elem?}
-use Rattle.prelude.specs.Base.{if◌then◌else◌, and_then, is_some, any, filter, is_empty}
+use Rattle.prelude.specs.Base.{when◌then◌else◌, and_then, is_some, any, filter, is_empty}
 use Rattle.definition.specs.Value.{Kind, Value, is_kind, SemanticAction, operation_of, Temporary, operands}
 use Rattle.definition.specs.Ast.{Section}
 use Rattle.definition.specs.SectionFile.{Parsed, read}
@@ -13,7 +13,7 @@ use Rattle.definition.specs.ActionList.{room_for, when_read}
 
 unfoldable pub temporaries_among : List Value → List ℕ
 temporaries_among [] = []
-temporaries_among (v ∷ vs) = if is_kind Kind.PcodeTmp v then v.number ∷ temporaries_among vs else temporaries_among vs
+temporaries_among (v ∷ vs) = when is_kind Kind.PcodeTmp v then v.number ∷ temporaries_among vs else temporaries_among vs
 
 unfoldable pub under_rule : List Step → SemanticAction → List ℕ
 under_rule [] a = []
@@ -31,7 +31,7 @@ unfoldable pub union : List ℕ → List ℕ → List ℕ
 union [] ns = ns
 union (m ∷ ms) ns =
     let rest = union ms ns in
-    if any (eqb m) rest then rest else m ∷ rest
+    when any (eqb m) rest then rest else m ∷ rest
 
 -- The forward pass: the temporaries that it sizes too late, each once. Before stand those of the operations nearer the
 -- list's start.

@@ -1,19 +1,19 @@
 -- THE SCOPE: what a name means, locals and labels; the section's own scope and a macro's.
 use Rattle.std.specs.Prelude.{ℕ, suc, ◌+◌, true, false, not, List, [], ◌∷◌, ◌++◌, map, eqb, leb}
 use Rattle.std.proofs.Math.Option.{Option, none, some}
-use Rattle.prelude.specs.Base.{if◌then◌else◌, ◌or◌, and_then, is_some, first}
+use Rattle.prelude.specs.Base.{when◌then◌else◌, ◌or◌, and_then, is_some, first}
 use Rattle.definition.specs.Refusals.{Refusal, undefined, wrong_kind, redeclared, too_many_labels, label_twice}
 use Rattle.definition.specs.Value.{Kind, Value, local}
 use Rattle.definition.specs.Ast.{Space as SpaceEntry, Register as RegisterEntry, BitRange as BitRangeEntry, Table as TableEntry, Macro as MacroEntry, Field as FieldEntry, Subtable as SubtableEntry, Section}
 use Rattle.definition.specs.Walk.{ExprValue, Label, Scope, Walk, ◌>>=◌, ◌>>◌, pure, refuse, require, section, state, change, with_scope, with_label, add_tmp}
 
 unfoldable pub find : {A : Type 0} → ℕ → List (ℕ × A) → Option A
-find n entries = first (λ e. if eqb n e.0 then some e.1 else none) entries
+find n entries = first (λ e. when eqb n e.0 then some e.1 else none) entries
 
 -- the entry of that name replaced, or a new one at the end
 unfoldable pub put_entry : {A : Type 0} → ℕ → A → List (ℕ × A) → List (ℕ × A)
 put_entry n a [] = (n, a) ∷ []
-put_entry n a (e ∷ entries) = if eqb n e.0 then (n, a) ∷ entries else e ∷ put_entry n a entries
+put_entry n a (e ∷ entries) = when eqb n e.0 then (n, a) ∷ entries else e ∷ put_entry n a entries
 
 -- Globals.
 
@@ -93,8 +93,8 @@ global_meaning (some (Symbol.Other i)) = wrong wrong_kind
 unfoldable pub inner_meaning : Section → Scope → ℕ → Option ExprValue
 inner_meaning sec x n =
     find n x.params
-    or (if eqb n sec.header.inst_next then some (ExprValue.Local (local Kind.InstNext 0)) else none)
-    or (if eqb n sec.header.inst_start then some (ExprValue.Local (local Kind.InstStart 0)) else none)
+    or (when eqb n sec.header.inst_next then some (ExprValue.Local (local Kind.InstNext 0)) else none)
+    or (when eqb n sec.header.inst_start then some (ExprValue.Local (local Kind.InstStart 0)) else none)
     or (and_then (find n x.mapping) λ v. some (ExprValue.Local v))
 
 unfoldable pub meaning_of : Section → Option ExprValue → ℕ → Meaning

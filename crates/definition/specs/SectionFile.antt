@@ -3,7 +3,7 @@
 use Rattle.std.specs.Prelude.{ℕ, zero, suc, ◌+◌, ◌*◌, ◌/◌, ◌%◌, Bool, true, false, ◌&&◌, not, List, [], ◌∷◌, ◌++◌, map, length, take, drop, get_or, eqb, leb, ltb}
 use Rattle.std.proofs.Math.Option.{Option, none, some}
 use Rattle.std.proofs.Math.ListN.{get_elem?}
-use Rattle.prelude.specs.Base.{if◌then◌else◌, any, all, sum, same_numbers}
+use Rattle.prelude.specs.Base.{when◌then◌else◌, any, all, sum, same_numbers}
 use Rattle.definition.specs.Refusals.{Refusal, bad_length, block_check, malformed}
 use Rattle.definition.specs.Refusals.{outside_limit, names_nothing, spelled_twice}
 use Rattle.definition.specs.Operations.{Operation, operators}
@@ -98,7 +98,7 @@ naming count v = do
 
 -- 65,535 where absent is allowed
 unfoldable pub or_absent : (ℕ → Read ℕ) → ℕ → Read (Option ℕ)
-or_absent check v = if eqb v 65535 then pure none else do
+or_absent check v = when eqb v 65535 then pure none else do
   w ← check v
   pure (some w)
 

@@ -2,7 +2,7 @@
 use Rattle.std.specs.Prelude.{ℕ, Bool, true, false, ◌||◌, List, [], ◌∷◌, ◌++◌, set, eqb}
 use Rattle.std.proofs.Math.Option.{Option, none, some}
 use Rattle.std.proofs.Math.ListN.{get_elem?}
-use Rattle.prelude.specs.Base.{if◌then◌else◌, ◌or◌, or_else, and_then, is_some, all, first, contains}
+use Rattle.prelude.specs.Base.{when◌then◌else◌, ◌or◌, or_else, and_then, is_some, all, first, contains}
 use Rattle.definition.specs.Operations.{Operation, among}
 use Rattle.definition.specs.Value.{Kind, Value, is_kind, truncate, SemanticAction, operation_of, Temporary}
 use Rattle.definition.specs.Ast.{Space, Register, Table, Field, Subtable, Section}
@@ -76,7 +76,7 @@ rules =
 
 -- others: no rule
 unfoldable pub rule_of : Operation → List Step
-rule_of op = or_else [] (first (λ (r : Rule). if among r.operations op then some r.steps else none) rules)
+rule_of op = or_else [] (first (λ (r : Rule). when among r.operations op then some r.steps else none) rules)
 
 unfoldable pub steps_of : Option Operation → List Step
 steps_of (some op) = rule_of op
@@ -85,7 +85,7 @@ steps_of none = []
 -- all but the first that passes
 unfoldable pub but_first : (Operand → Bool) → List Operand → List Operand
 but_first passes [] = []
-but_first passes (p ∷ ps) = if passes p then ps else p ∷ but_first passes ps
+but_first passes (p ∷ ps) = when passes p then ps else p ∷ but_first passes ps
 
 unfoldable pub at : Operand → SemanticAction → Option Value
 at in0 a = get_elem? a.inputs 0
@@ -148,7 +148,7 @@ module _ (sec : Section) where
   -- the fallback: pointer size for InstStart, InstNext, a constant or a field
   unfoldable pub fallback_size : Value → Option ℕ
   fallback_size v =
-      if is_kind Kind.InstStart v || is_kind Kind.InstNext v || is_kind Kind.Constant v || is_kind Kind.Field v
+      when is_kind Kind.InstStart v || is_kind Kind.InstNext v || is_kind Kind.Constant v || is_kind Kind.Field v
       then some pointer_size else none
 
   unfoldable pub set_tmp_size : ℕ → Option Temporary → ℕ → Sizing → Sizing
@@ -158,12 +158,12 @@ module _ (sec : Section) where
   -- an unknown size on a temporary sizes it everywhere
   unfoldable pub size_temporary : ℕ → Value → Sizing → Sizing
   size_temporary n v s =
-      if is_kind Kind.PcodeTmp v then set_tmp_size v.number (get_elem? s.temporaries v.number) n s else s
+      when is_kind Kind.PcodeTmp v then set_tmp_size v.number (get_elem? s.temporaries v.number) n s else s
 
   -- a different known size is an error, but for a subtable
   unfoldable pub settled : Option ℕ → ℕ → Value → Sizing → Sizing
   settled none n v s = size_temporary n v s
-  settled (some known) n v s = if eqb known n || is_kind Kind.Subtable v then s else error s
+  settled (some known) n v s = when eqb known n || is_kind Kind.Subtable v then s else error s
 
   -- in every case the operand has the size afterwards
   unfoldable pub set_size : ℕ → Value → Sizer Value
@@ -191,7 +191,7 @@ module _ (sec : Section) where
   -- the fallback, where there is one.
   unfoldable pub share_size : Option ℕ → Option ℕ → List Operand → SemanticAction → Sizer SemanticAction
   share_size (some n) fallback ps a s =
-      if all (λ p. contains n (known_at a s p)) ps then (a, s)
+      when all (λ p. contains n (known_at a s p)) ps then (a, s)
       else set_operands n (but_first (λ p. is_some (known_at a s p)) ps) a s
   share_size none (some n) ps a s = set_operands n ps a s
   share_size none none ps a s = (a, s)
@@ -200,7 +200,7 @@ module _ (sec : Section) where
   unfoldable pub set_size_of_all : Bool → List Operand → SemanticAction → Sizer SemanticAction
   set_size_of_all use_fallback ps a s =
       share_size (first (known_at a s) ps)
-      (if use_fallback then first (λ p. and_then (at p a) fallback_size) ps else none) ps a s
+      (when use_fallback then first (λ p. and_then (at p a) fallback_size) ps else none) ps a s
 
   unfoldable pub set_unsized : Option ℕ → ℕ → Operand → SemanticAction → Sizer SemanticAction
   set_unsized (some known) n p a = pure a

@@ -3,7 +3,7 @@ use Rattle.std.specs.Prelude.{ℕ, List, [], ◌∷◌}
 use Prim.Native.Char.{code}
 use Prim.Native.String.{String, [] as end, ◌∷◌ as ◌then◌}
 use Rattle.std.proofs.Math.Option.{Option, none, some}
-use Rattle.prelude.specs.Base.{if◌then◌else◌, first, same_numbers}
+use Rattle.prelude.specs.Base.{when◌then◌else◌, first, same_numbers}
 use Rattle.definition.specs.Operations.{Operation}
 
 unfoldable pub bytes_of : String → List ℕ
@@ -45,4 +45,4 @@ inbuilts =
     ∷ []
 
 unfoldable pub translate_inbuilt_func : List ℕ → Option Inbuilt
-translate_inbuilt_func name = first (λ (x : Inbuilt). if same_numbers name x.spelling then some x else none) inbuilts
+translate_inbuilt_func name = first (λ (x : Inbuilt). when same_numbers name x.spelling then some x else none) inbuilts

@@ -1,7 +1,7 @@
 -- THE STATEMENT RULES, statements and macros.
 use Rattle.std.specs.Prelude.{ℕ, zero, suc, ◌+◌, ◌*◌, ◌-◌, ◌/◌, ◌%◌, ◌^◌, not, List, [], ◌∷◌, map, length, take, eqb, leb, ltb}
 use Rattle.std.proofs.Math.Option.{Option, none, some}
-use Rattle.prelude.specs.Base.{if◌then◌else◌, and_then, is_some, position, sum}
+use Rattle.prelude.specs.Base.{when◌then◌else◌, and_then, is_some, position, sum}
 use Rattle.definition.specs.Refusals.{too_many_statements, macro_too_deep, after_export, undefined, wrong_kind, absent_table, delay_slot_argument, macro_arguments, store_to_no_address, jump_to_non_local, not_assignable, shift_too_far}
 use Rattle.definition.specs.Operations.{Operation}
 use Rattle.definition.specs.Value.{Kind, Value, is_kind, constant, ActionKind, ExportKind, Export}
@@ -102,7 +102,7 @@ copy_into x (Destination.RamRef pointer size) = do
   v ← read_value x none
   store size pointer v
 copy_into x (Destination.BitRange to from bits) =
-    if byte_aligned from bits then sliced (from / 8) (bits / 8) to >>= read_to x else write_bits x to from bits
+    when byte_aligned from bits then sliced (from / 8) (bits / 8) to >>= read_to x else write_bits x to from bits
 
 -- References: a pointer into RAM or into the register space, and the size of what it points to.
 
@@ -173,7 +173,7 @@ unfoldable pub direct_address : ExprValue → Walk Value
 direct_address x = do
   sec ← section
   v ← expect jump_to_non_local (as_local x)
-  pure (if is_kind Kind.Subtable v then subtable_ref (pointer_size sec) v else v)
+  pure (when is_kind Kind.Subtable v then subtable_ref (pointer_size sec) v else v)
 
 unfoldable pub resolve_branch : Value → BranchDst → BranchHint → Walk (Unit {0})
 resolve_branch cond (BranchDst.Direct l) hint = do
@@ -222,7 +222,7 @@ module _ (enter : ℕ → Macro → List ExprValue → Walk (Unit {0})) where
   unfoldable pub call_statement : ℕ → Args → Walk (Unit {0})
   call_statement name args = do
     sec ← section
-    if eqb name sec.header.delay_slot then delay_slot (only_integer args) else lookup name >>= symbol_statement args
+    when eqb name sec.header.delay_slot then delay_slot (only_integer args) else lookup name >>= symbol_statement args
 
   unfoldable pub resolve_statement : Statement → Walk (Unit {0})
   resolve_statement Statement.Unimplemented = op_no_output Operation.Invalid 0 []

@@ -7,7 +7,7 @@ use mathlib.Core.Option.{Option, none, some}
 use native.Mathlib.Omega.{arith}
 use lib.Dec.{eqb, leb}
 use lib.ListN.{length, get_elem?, replicate, take, drop}
-use Rattle.prelude.specs.Base.{if◌then◌else◌, or_else, and_then, is_some, any, all, first}
+use Rattle.prelude.specs.Base.{when◌then◌else◌, or_else, and_then, is_some, any, all, first}
 use Rattle.definition.specs.Operations.{Operation, operation_number}
 use Rattle.definition.specs.Value.{Kind, Value, ActionKind, SemanticAction, operation_of}
 use Rattle.definition.specs.Sizes.{Operand, equal, exactly, rule_of, steps_of, at, fixed_size}
@@ -51,7 +51,7 @@ option_at p none v h e = none_some {x = none} refl e
 option_at {A} p (some u) v h e = subst (λ (x : A). p x ≡ true) (some_same e) h
 
 same-counts : (n m : ℕ) (x y : Bool) → same_count (n, x) (m, y) ≡ true → ◌≡◌ {A = ℕ × Bool} (m, y) (n, x)
-unfolding same_count if◌then◌else◌
+unfolding same_count when◌then◌else◌
 same-counts n m true true h = let e = eq_of n m (and_true _ _ h).0 in rw e
 same-counts n m true false h = never (and_true (eqb n m) _ h).1
 same-counts n m false true h = never (and_true (eqb n m) _ h).1

@@ -5,7 +5,7 @@ use mathlib.Core.Bool.{Bool, true, false}
 use mathlib.Core.List.{List, [], ◌∷◌, ◌++◌}
 use mathlib.Core.Option.{none, some}
 use lib.Dec.{eqb}
-use Rattle.prelude.specs.Base.{if◌then◌else◌, ◌or◌, first}
+use Rattle.prelude.specs.Base.{when◌then◌else◌, ◌or◌, first}
 use Rattle.definition.specs.Scope.{find, put_entry}
 use Rattle.definition_guarantee.specs.Tests.{Each}
 use Rattle.definition_guarantee.proofs.Tests.{eq_of, differs, each_at, first_from, chosen, none_some}
@@ -20,12 +20,12 @@ find-each {A} P n xs a h e =
 module _ {A : Type 0} (n : ℕ) (a : A) where
   -- two entries of different names may stand either way round
   either_way : (m : ℕ) (x : ℕ × A) (xs : List (ℕ × A)) → eqb n x.0 ≡ false → find m (x ∷ (n, a) ∷ xs) ≡ find m ((n, a) ∷ x ∷ xs)
-  unfolding find first if◌then◌else◌ ◌or◌
+  unfolding find first when◌then◌else◌ ◌or◌
   either_way m x xs h = go (eqb m x.0) refl (eqb m n) refl
     where
       go : (b : Bool) → eqb m x.0 ≡ b → (c : Bool) → eqb m n ≡ c
-          → (if b then some x.1 else none) or (if c then some a else none) or find m xs
-          ≡ (if c then some a else none) or (if b then some x.1 else none) or find m xs
+          → (when b then some x.1 else none) or (when c then some a else none) or find m xs
+          ≡ (when c then some a else none) or (when b then some x.1 else none) or find m xs
       go true p true q = absurd (differs n x.0 h (sym (eq_of m n q) ∙ eq_of m x.0 p))
       go true p false q = refl
       go false p true q = refl
@@ -33,10 +33,10 @@ module _ {A : Type 0} (n : ℕ) (a : A) where
 
   -- an entry behind another of its name is never found
   hidden : (m : ℕ) (x : ℕ × A) (xs : List (ℕ × A)) → eqb n x.0 ≡ true → find m ((n, a) ∷ xs) ≡ find m ((n, a) ∷ x ∷ xs)
-  unfolding find first if◌then◌else◌ ◌or◌
+  unfolding find first when◌then◌else◌ ◌or◌
   hidden m x xs h = rw (← eq_of n x.0 h) (go (eqb m n))
     where
-      go : (b : Bool) → (if b then some a else none) or find m xs ≡ (if b then some a else none) or (if b then some x.1 else none) or find m xs
+      go : (b : Bool) → (when b then some a else none) or find m xs ≡ (when b then some a else none) or (when b then some x.1 else none) or find m xs
       go true = refl
       go false = refl
 
@@ -46,12 +46,12 @@ module _ {A : Type 0} (n : ℕ) (a : A) where
 
   -- an entry that was put is found as if it stood in front
   pub find-put : (m : ℕ) (xs : List (ℕ × A)) → find m (put_entry n a xs) ≡ find m ((n, a) ∷ xs)
-  unfolding put_entry if◌then◌else◌
+  unfolding put_entry when◌then◌else◌
   find-put m [] = refl
   find-put m (x ∷ xs) = go (eqb n x.0) refl (find-put m xs)
     where
       go : (b : Bool) → eqb n x.0 ≡ b → find m (put_entry n a xs) ≡ find m ((n, a) ∷ xs)
-          → find m (if b then (n, a) ∷ xs else x ∷ put_entry n a xs) ≡ find m ((n, a) ∷ x ∷ xs)
+          → find m (when b then (n, a) ∷ xs else x ∷ put_entry n a xs) ≡ find m ((n, a) ∷ x ∷ xs)
       go true h rest = hidden m x xs h
       go false h rest = behind m x (put_entry n a xs) ((n, a) ∷ xs) rest ∙ either_way m x xs h
 
@@ -60,10 +60,10 @@ module _ {A : Type 0} (n : ℕ) (a : A) where
   find-last m [] h = refl
   find-last m (x ∷ xs) h = go (eqb n x.0) refl (unfold find first in h) (find-last m xs)
     where
-      go : (b : Bool) → eqb n x.0 ≡ b → (if b then some x.1 else none) or find n xs ≡ none
+      go : (b : Bool) → eqb n x.0 ≡ b → (when b then some x.1 else none) or find n xs ≡ none
           → (find n xs ≡ none → find m (xs ++ ((n, a) ∷ [])) ≡ find m ((n, a) ∷ xs))
           → find m (x ∷ xs ++ ((n, a) ∷ [])) ≡ find m ((n, a) ∷ x ∷ xs)
-      go true p q rest = let r : some x.1 ≡ none = unfold if◌then◌else◌ ◌or◌ in q in none_some r refl
+      go true p q rest = let r : some x.1 ≡ none = unfold when◌then◌else◌ ◌or◌ in q in none_some r refl
       go false p q rest =
-          let r : find n xs ≡ none = unfold if◌then◌else◌ ◌or◌ in q in
+          let r : find n xs ≡ none = unfold when◌then◌else◌ ◌or◌ in q in
           behind m x (xs ++ ((n, a) ∷ [])) ((n, a) ∷ xs) (rest r) ∙ either_way m x xs p

@@ -6,7 +6,7 @@ use mathlib.Core.List.{List, [], ◌∷◌, ◌++◌}
 use mathlib.Core.Option.{Option, none, some}
 use native.Mathlib.Omega.{arith}
 use lib.ListN.{length}
-use Rattle.prelude.specs.Base.{if◌then◌else◌, and_then}
+use Rattle.prelude.specs.Base.{when◌then◌else◌, and_then}
 use Rattle.definition.specs.Refusals.{Refusal, subpiece_size}
 use Rattle.definition.specs.Operations.{Operation, is_op}
 use Rattle.definition.specs.Value.{Value, truncate, slice_bytes, ActionKind, SemanticAction, operation_of, Temporary, Export}
@@ -187,7 +187,7 @@ module _ (e : Env) where
   finished-op : (o : Option Operation) (x y : SemanticAction) (s t : State) → operation_of x.kind ≡ o → finish_op o x e s ≡ done y t
       → t.sizing.errors ≡ []
       → (t ≡ s) × Finished sec s.sizing.temporaries x y
-  unfolding finish_op on if◌then◌else◌
+  unfolding finish_op on when◌then◌else◌
   finished-op none x y s t k h n = (sym (done_state h), unchanged k (sym (done_value h)))
   finished-op (some op) x y s t k h n = go (is_op Operation.Subpiece op) refl h
     where
@@ -200,7 +200,7 @@ module _ (e : Env) where
       ends : t ≡ u → ((fix_operands sec x s.sizing).1 ≡ s.sizing) × FixedAction sec s.sizing.temporaries x b
       ends c = fix_operands_lem sec x s.sizing (ap (λ (q : State). q.sizing.errors) (sym c) ∙ n)
 
-      go : (c : Bool) → is_op Operation.Subpiece op ≡ c → (if c then subpiece_copy b else (λ f q. done b q)) e u ≡ done y t
+      go : (c : Bool) → is_op Operation.Subpiece op ≡ c → (when c then subpiece_copy b else (λ f q. done b q)) e u ≡ done y t
           → (t ≡ s) × Finished sec s.sizing.temporaries x y
       go true d h =
           let p = copy_done sec b y e u t h in

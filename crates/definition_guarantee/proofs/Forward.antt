@@ -8,7 +8,7 @@ use mathlib.Core.Option.{Option, none, some}
 use native.Mathlib.Omega.{arith}
 use lib.Dec.{eqb}
 use lib.ListN.{get_elem?}
-use Rattle.prelude.specs.Base.{if◌then◌else◌, is_some, any, filter}
+use Rattle.prelude.specs.Base.{when◌then◌else◌, is_some, any, filter}
 use Rattle.definition.specs.Operations.{Operation}
 use Rattle.definition.specs.Value.{Kind, kind_number, Value, is_kind, ActionKind, SemanticAction, operation_of, Temporary, operands}
 use Rattle.definition.specs.Ast.{Section}
@@ -20,21 +20,21 @@ use Rattle.definition_guarantee.proofs.Growth.{tmp_size, Grown, grown_refl, grow
 use Rattle.definition_guarantee.proofs.Rules.{Core, core_of, is_tmp, AllObeyed, RuleHolds, nothing_holds, rule_holds, steps_grown, steps_alike}
 
 union_empty : (ms ns : List ℕ) → union ms ns ≡ [] → (ms ≡ []) × (ns ≡ [])
-unfolding union any if◌then◌else◌
+unfolding union any when◌then◌else◌
 union_empty [] ns e = (refl, e)
 union_empty (m ∷ ms) ns e = absurd (go (union ms ns) (any (eqb m) (union ms ns)) refl e)
   where
-    go : (rest : List ℕ) (b : Bool) → any (eqb m) rest ≡ b → (if b then rest else m ∷ rest) ≡ [] → ⊥
+    go : (rest : List ℕ) (b : Bool) → any (eqb m) rest ≡ b → (when b then rest else m ∷ rest) ≡ [] → ⊥
     go [] true d e = never d
     go (x ∷ xs) true d e = let z : ◌≡◌ {A = ℕ} 0 1 = cc in omega (arith, z)
     go rest false d e = let z : ◌≡◌ {A = ℕ} 0 1 = cc in omega (arith, z)
 
 pub filter_none : (p : ℕ → Bool) (xs : List ℕ) (n : ℕ) → filter p xs ≡ [] → In n xs → p n ≡ false
-unfolding filter if◌then◌else◌
+unfolding filter when◌then◌else◌
 filter_none p [] n e i = absurd i
 filter_none p (x ∷ xs) n e i = go (p x) refl i e (filter_none p xs n)
   where
-    go : (b : Bool) → p x ≡ b → (n ≡ x) ⊎ In n xs → (if b then x ∷ filter p xs else filter p xs) ≡ []
+    go : (b : Bool) → p x ≡ b → (n ≡ x) ⊎ In n xs → (when b then x ∷ filter p xs else filter p xs) ≡ []
         → (filter p xs ≡ [] → In n xs → p n ≡ false) → p n ≡ false
     go true d i e r = let z : ◌≡◌ {A = ℕ} 0 1 = cc in absurd (omega arith)
     go false d (inl k) e r = ap p k ∙ d
@@ -75,14 +75,14 @@ module _ (sec : Section) where
   -- an operand's temporary is among the ruled ones
 
   among_first : (v : Value) (vs : List Value) → is_tmp sec v ≡ true → In v.number (temporaries_among (v ∷ vs))
-  unfolding temporaries_among is_kind if◌then◌else◌
+  unfolding temporaries_among is_kind when◌then◌else◌
   among_first v vs e = rw e (inl refl)
 
   among_next : (v : Value) (vs : List Value) (n : ℕ) → In n (temporaries_among vs) → In n (temporaries_among (v ∷ vs))
-  unfolding temporaries_among is_kind if◌then◌else◌
+  unfolding temporaries_among is_kind when◌then◌else◌
   among_next v vs n i = go (is_tmp sec v)
     where
-      go : (b : Bool) → In n (if b then v.number ∷ temporaries_among vs else temporaries_among vs)
+      go : (b : Bool) → In n (when b then v.number ∷ temporaries_among vs else temporaries_among vs)
       go true = inr i
       go false = i
 

@@ -7,7 +7,7 @@ use mathlib.Core.List.{List, [], ◌∷◌, ◌++◌}
 use mathlib.Core.Option.{Option, none, some}
 use lib.Dec.{eqb}
 use lib.ListN.{length, get_elem?, set, length-set}
-use Rattle.prelude.specs.Base.{if◌then◌else◌, ◌or◌, and_then}
+use Rattle.prelude.specs.Base.{when◌then◌else◌, ◌or◌, and_then}
 use Rattle.definition.specs.Value.{Kind, kind_number, Value, is_kind, Temporary}
 use Rattle.definition.specs.Ast.{Section}
 use Rattle.definition.specs.Sizes.{Sizing, size_of_local, size_of, set_tmp_size, size_temporary, settled}
@@ -126,11 +126,11 @@ module _ (sec : Section) where
 
   pub settled_touched : (v : Value) (n : ℕ) (s : Sizing) (k : Option ℕ) → size_of sec s.temporaries v ≡ k
       → Touched n s.temporaries (settled sec k n v s).temporaries
-  unfolding settled size_temporary is_kind if◌then◌else◌
+  unfolding settled size_temporary is_kind when◌then◌else◌
   settled_touched v n s (some m) e = go (eqb m n || is_kind Kind.Subtable v)
     where
       go : (b : Bool) → Touched n s.temporaries
-          (if b then s else record {
+          (when b then s else record {
             begun = s.begun;
             temporaries = s.temporaries;
             errors = s.errors ++ (s.begun ∷ []);
@@ -140,7 +140,7 @@ module _ (sec : Section) where
   settled_touched v n s none e = go (eqb (kind_number Kind.PcodeTmp) (kind_number v.kind)) refl
     where
       go : (b : Bool) → eqb (kind_number Kind.PcodeTmp) (kind_number v.kind) ≡ b
-          → Touched n s.temporaries (if b then set_tmp_size sec v.number (get_elem? s.temporaries v.number)
+          → Touched n s.temporaries (when b then set_tmp_size sec v.number (get_elem? s.temporaries v.number)
           n s else s).temporaries
       go true d = tmp_touched v.number n (get_elem? s.temporaries v.number) s
           (sym (local-tmp s.temporaries v.kind v.number d) ∙ (size_none s.temporaries v e).1)

@@ -8,7 +8,7 @@ use mathlib.Core.Option.{Option, none, some}
 use native.Mathlib.Omega.{arith}
 use lib.Dec.{ltb}
 use lib.ListN.{length, get_elem?}
-use Rattle.prelude.specs.Base.{if◌then◌else◌, or_else, and_then, any}
+use Rattle.prelude.specs.Base.{when◌then◌else◌, or_else, and_then, any}
 use Rattle.definition.specs.Refusals.{Refusal}
 use Rattle.definition.specs.Operations.{Operation}
 use Rattle.definition.specs.Value.{Kind, Value, ActionKind, SemanticAction}
@@ -258,8 +258,8 @@ keep_expect r (some a) = keep_pure a (λ k l. refl)
 keep_expect r none = keep_refuse r
 
 pub keep_if : {A : Type 0} {e : Env} {n : ℕ} {P : ℕ → A → Type 0} (b : Bool) (m r : Walk A) → Keeps e n P m → Keeps e n P r
-    → Keeps e n P (if b then m else r)
-unfolding if◌then◌else◌
+    → Keeps e n P (when b then m else r)
+unfolding when◌then◌else◌
 keep_if true m r h g = h
 keep_if false m r h g = g
 

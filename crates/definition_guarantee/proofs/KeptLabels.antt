@@ -8,7 +8,7 @@ use mathlib.Core.Option.{Option, none, some}
 use native.Mathlib.Omega.{arith}
 use lib.Dec.{eqb, leb}
 use lib.ListN.{length, length-append}
-use Rattle.prelude.specs.Base.{if◌then◌else◌, ◌or◌, or_else, and_then, is_some, first}
+use Rattle.prelude.specs.Base.{when◌then◌else◌, ◌or◌, or_else, and_then, is_some, first}
 use Rattle.definition.specs.Refusals.{list_full, redeclared, too_many_labels, label_twice}
 use Rattle.definition.specs.Operations.{Operation, operation_number}
 use Rattle.definition.specs.Value.{Value, ActionKind, SemanticAction, operation_of}
@@ -30,16 +30,16 @@ use Rattle.definition_guarantee.proofs.Shapes.{label_applies}
 -- the entry that was put, or another under another name
 found : {A : Type 0} (n m : ℕ) (l k : A) (xs : List (ℕ × A)) → find m (put_entry n l xs) ≡ some k
     → ((m ≡ n) × (l ≡ k)) ⊎ ((m ≢ n) × (find m xs ≡ some k))
-unfolding find first if◌then◌else◌ ◌or◌
+unfolding find first when◌then◌else◌ ◌or◌
 found {A} n m l k xs e = go (eqb m n) refl (sym (find-put n l m xs) ∙ e)
   where
-    go : (b : Bool) → eqb m n ≡ b → (if b then some l else none) or find m xs ≡ some k
+    go : (b : Bool) → eqb m n ≡ b → (when b then some l else none) or find m xs ≡ some k
         → ((m ≡ n) × (l ≡ k)) ⊎ ((m ≢ n) × (find m xs ≡ some k))
     go true d e = inl (eq_of m n d, some_same e)
     go false d e = inr (differs m n d, e)
 
 own : {A : Type 0} (n : ℕ) (l : A) (xs : List (ℕ × A)) → find n (put_entry n l xs) ≡ some l
-unfolding find first if◌then◌else◌ ◌or◌
+unfolding find first when◌then◌else◌ ◌or◌
 own n l xs = find-put n l n xs ∙ rw (same n)
 
 pub no_label : {A : Type 0} (l : Label) (n : ℕ) → find n [] ≡ some l → A

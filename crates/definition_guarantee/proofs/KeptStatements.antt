@@ -7,7 +7,7 @@ use mathlib.Core.Option.{Option, none, some}
 use native.Mathlib.Omega.{arith}
 use lib.Dec.{eqb}
 use lib.ListN.{length, get_elem?}
-use Rattle.prelude.specs.Base.{if◌then◌else◌, or_else, and_then, position}
+use Rattle.prelude.specs.Base.{when◌then◌else◌, or_else, and_then, position}
 use Rattle.definition.specs.Refusals.{macro_too_deep}
 use Rattle.definition.specs.Operations.{Operation, operation_number}
 use Rattle.definition.specs.Value.{Kind, kind_number, Value, is_kind, constant, operation_of, Export}
@@ -41,11 +41,11 @@ hint-small BranchHint.Call = omega arith
 hint-small BranchHint.Return = omega arith
 
 position-below : {A : Type 0} (p : A → Bool) (i n : ℕ) (xs : List A) → position p i xs ≡ some n → n < i + length xs
-unfolding position if◌then◌else◌
+unfolding position when◌then◌else◌
 position-below p i n [] e = none_some {x = none} refl e
 position-below {A} p i n (x ∷ xs) e = go (p x) e (position-below p (suc i) n xs)
   where
-    go : (b : Bool) → (if b then some i else position p (suc i) xs) ≡ some n → (position p (suc i) xs ≡ some n → n < suc i + length xs)
+    go : (b : Bool) → (when b then some i else position p (suc i) xs) ≡ some n → (position p (suc i) xs ≡ some n → n < suc i + length xs)
         → n < i + length (x ∷ xs)
     go true d r = let q : i ≡ n = cc in omega arith
     go false d r = let q = r d in omega arith
@@ -229,14 +229,14 @@ module _ (e : Env) (w : WithinLimits e.section) where
   keep_jump (JumpLabel.Integer v z) h = keep_pure _ λ k l. omega arith
 
   keep_direct : {n : ℕ} (x : ExprValue) → ExprFits e n x → Keeps e n (λ k v. ValueFits e k v) (direct_address x)
-  unfolding direct_address if◌then◌else◌ is_kind or_else
+  unfolding direct_address when◌then◌else◌ is_kind or_else
   keep_direct {n} x f =
       keep_bind _ _ keep_section λ k l sec d.
       keep_bind _ _ (keep_expect _ _) λ k₁ l₁ v p.
       keep_pure _ λ j m. go j sec v d (as_local_lem e j x v (expr_more e n j (omega arith) x f) p) (is_kind Kind.Subtable v) refl
     where
       go : (j : ℕ) (sec : Section) (v : Value) → sec ≡ e.section → ValueFits e j v → (b : Bool) → is_kind Kind.Subtable v ≡ b
-          → ValueFits e j (if b then record {
+          → ValueFits e j (when b then record {
             kind = Kind.SubtableRef;
             number = v.number;
             offset = v.offset;

@@ -8,7 +8,7 @@ use mathlib.Core.Option.{Option, none, some}
 use native.Mathlib.Omega.{arith}
 use lib.Dec.{eqb}
 use lib.ListN.{length, get_elem?}
-use Rattle.prelude.specs.Base.{if◌then◌else◌, ◌or◌, or_else, and_then, is_some, all, first, contains}
+use Rattle.prelude.specs.Base.{when◌then◌else◌, ◌or◌, or_else, and_then, is_some, all, first, contains}
 use Rattle.definition.specs.Operations.{Operation, operation_number, is_op}
 use Rattle.definition.specs.Value.{Kind, Value, is_kind, truncate, slice_bytes, ActionKind, SemanticAction, operation_of, Temporary}
 use Rattle.definition.specs.Ast.{Register, Field, Section}
@@ -75,10 +75,10 @@ module _ (sec : Section) (limits : SmallSection sec) where
       go none d e = local-small ts v.kind v.number n s e
 
   pub fallback_small : (v : Value) (n : ℕ) → fallback_size sec v ≡ some n → n < 65535
-  unfolding fallback_size if◌then◌else◌
+  unfolding fallback_size when◌then◌else◌
   fallback_small v n e = go (is_kind Kind.InstStart v || is_kind Kind.InstNext v || is_kind Kind.Constant v || is_kind Kind.Field v) e
     where
-      go : (b : Bool) → (if b then some (pointer_size sec) else none) ≡ some n → n < 65535
+      go : (b : Bool) → (when b then some (pointer_size sec) else none) ≡ some n → n < 65535
       go true e = let d : pointer_size sec ≡ n = cc in rw (← d) limits.pointer
       go false e = none_some {x = none} refl e
 
@@ -190,14 +190,14 @@ module _ (sec : Section) (limits : SmallSection sec) where
     share_good : (op : Operation) (x y : Option ℕ) (ps : List Operand) (a : SemanticAction) (s : Sizing)
         → ((n : ℕ) → x ≡ some n → n < 65535) → ((n : ℕ) → y ≡ some n → n < 65535) → Good op a s
         → Good op (share_size sec x y ps a s).0 (share_size sec x y ps a s).1
-    unfolding share_size if◌then◌else◌
+    unfolding share_size when◌then◌else◌
     share_good op (some n) y ps a s h k g = go (all (λ p. contains n (known_at sec a s p)) ps)
       where
         qs : List Operand
         qs = but_first (λ p. is_some (known_at sec a s p)) ps
 
-        go : (b : Bool) → Good op (if b then (a, s) else set_operands sec n qs a s).0
-            (if b then (a, s) else set_operands sec n qs a s).1
+        go : (b : Bool) → Good op (when b then (a, s) else set_operands sec n qs a s).0
+            (when b then (a, s) else set_operands sec n qs a s).1
         go true = g
         go false = sets_good op n qs a s (h n refl) g
     share_good op none (some n) ps a s h k g = sets_good op n ps a s (k n refl) g
@@ -211,8 +211,8 @@ module _ (sec : Section) (limits : SmallSection sec) where
         known_small t sub s.temporaries r.0 n g.sizes (at_fits q.1 a r.0 g.laid r.1) r.2
 
     first_fallback : (late : Bool) (ps : List Operand) (a : SemanticAction) (n : ℕ)
-        → (if late then first (λ p. and_then (at p a) (fallback_size sec)) ps else none) ≡ some n → n < 65535
-    unfolding if◌then◌else◌
+        → (when late then first (λ p. and_then (at p a) (fallback_size sec)) ps else none) ≡ some n → n < 65535
+    unfolding when◌then◌else◌
     first_fallback true ps a n e =
         let q = first_from (λ p. and_then (at p a) (fallback_size sec)) ps n e in
         let r = then_some (at q.1 a) (fallback_size sec) n q.3 in

@@ -7,7 +7,7 @@ use mathlib.Core.Option.{none, some}
 use native.Mathlib.Omega.{arith}
 use lib.Dec.{eqb}
 use lib.ListN.{length, get_elem?}
-use Rattle.prelude.specs.Base.{if◌then◌else◌, or_else}
+use Rattle.prelude.specs.Base.{when◌then◌else◌, or_else}
 use Rattle.definition.specs.Refusals.{malformed, outside_limit}
 use Rattle.definition.specs.Ast.{PcodeExpr, Args, no_args, arg, Statement, Space, Register, BitRange, Table, Macro, Field, Header, Section}
 use Rattle.definition.specs.Expressions.{arg_count}
@@ -16,8 +16,8 @@ use Rattle.definition_guarantee.specs.Tests.{Each}
 use Rattle.definition_guarantee.specs.Limits.{SizeWithin, ExprWithin, ArgsWithin, JumpWithin, DestinationWithin, StatementWithin, WithinLimits}
 use Rattle.definition_guarantee.proofs.Readings.{Reading, Reads, bind, returns, refuses, passed, passes, reads-up_to, reads-bits}
 
-reads-absent : (limit v : ℕ) (b : Bool) → Reads (λ z. or_else 0 z ≤ limit) (if b then pure none else (up_to limit v >>= λ w. pure (some w)))
-unfolding if◌then◌else◌ or_else
+reads-absent : (limit v : ℕ) (b : Bool) → Reads (λ z. or_else 0 z ≤ limit) (when b then pure none else (up_to limit v >>= λ w. pure (some w)))
+unfolding when◌then◌else◌ or_else
 reads-absent limit v true = returns none (omega arith)
 reads-absent limit v false = bind (up_to limit v) _ (reads-up_to limit v) (λ w h. returns (some w) h)
 

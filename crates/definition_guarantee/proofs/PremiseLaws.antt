@@ -9,7 +9,7 @@ use mathlib.Core.Option.{Option, none, some}
 use native.Mathlib.Omega.{arith}
 use lib.Dec.{eqb, ltb}
 use lib.ListN.{length, get_elem?}
-use Rattle.prelude.specs.Base.{if◌then◌else◌, or_else, and_then, is_some, any, filter, is_empty}
+use Rattle.prelude.specs.Base.{when◌then◌else◌, or_else, and_then, is_some, any, filter, is_empty}
 use Rattle.definition.specs.Value.{SemanticAction, operation_of, Temporary}
 use Rattle.definition.specs.Ast.{Section}
 use Rattle.definition.specs.SectionFile.{Parsed, parsed, refused, read}
@@ -90,7 +90,7 @@ not_late ts us i g (inl k) = rw k.1
 not_late ts us i g (inr k) = let c = g.count in rw (size_past ts i k, size_past us i (omega arith))
 
 filter_empty : (p : ℕ → Bool) (xs : List ℕ) → ((n : ℕ) → In n xs → p n ≡ false) → filter p xs ≡ []
-unfolding filter if◌then◌else◌
+unfolding filter when◌then◌else◌
 filter_empty p [] h = refl
 filter_empty p (x ∷ xs) h = rw (h x (inl refl)) (filter_empty p xs (λ n i. h n (inr i)))
 
@@ -199,23 +199,23 @@ five_copies_unsized = refl
 -- The premise fails at each of its temporaries once.
 
 not_among : (m : ℕ) (ns : List ℕ) → any (eqb m) ns ≡ false → ¬ In m ns
-unfolding any if◌then◌else◌
+unfolding any when◌then◌else◌
 not_among m [] h i = absurd i
 not_among m (n ∷ ns) h i = go (eqb m n) refl h i (not_among m ns)
   where
-    go : (b : Bool) → eqb m n ≡ b → (if b then true else any (eqb m) ns) ≡ false → (m ≡ n) ⊎ In m ns
+    go : (b : Bool) → eqb m n ≡ b → (when b then true else any (eqb m) ns) ≡ false → (m ≡ n) ⊎ In m ns
         → (any (eqb m) ns ≡ false → ¬ In m ns) → ⊥
     go true d h i r = clash refl h
     go false d h (inl e) r = differs m n d e
     go false d h (inr i) r = r h i
 
 union_distinct : (ms ns : List ℕ) → Distinct ns → Distinct (union ms ns)
-unfolding union if◌then◌else◌
+unfolding union when◌then◌else◌
 union_distinct [] ns h = h
 union_distinct (m ∷ ms) ns h = go (any (eqb m) (union ms ns)) refl (union_distinct ms ns h)
   where
     go : (b : Bool) → any (eqb m) (union ms ns) ≡ b → Distinct (union ms ns)
-        → Distinct (if b then union ms ns else m ∷ union ms ns)
+        → Distinct (when b then union ms ns else m ∷ union ms ns)
     go true d r = r
     go false d r = (not_among m (union ms ns) d, r)
 

@@ -8,7 +8,7 @@ use mathlib.Core.Option.{Option, none, some}
 use native.Mathlib.Omega.{arith}
 use lib.Dec.{eqb, leb, ltb}
 use lib.ListN.{length, length-append}
-use Rattle.prelude.specs.Base.{if◌then◌else◌, or_else, and_then, is_some, any, all, first}
+use Rattle.prelude.specs.Base.{when◌then◌else◌, or_else, and_then, is_some, any, all, first}
 use Rattle.definition.specs.Refusals.{list_full, too_many_temporaries}
 use Rattle.definition.specs.Operations.{Operation, operation_number, is_op}
 use Rattle.definition.specs.Value.{Kind, Value, local, ActionKind, SemanticAction, operation_of, Temporary}
@@ -252,12 +252,12 @@ places_none operation c i h true d = let n : operation_number operation ≡ 62 =
     absent (operation_number operation) n h
   where
     absent : (n : ℕ) → n ≡ 62
-        → or_else false (and_then (first (λ (row : OperationShape). if any (λ other. eqb n (operation_number other)) row.operations
+        → or_else false (and_then (first (λ (row : OperationShape). when any (λ other. eqb n (operation_number other)) row.operations
         then some row.shape else none) shapes) λ (shape : Shape). some
         (any (same_count (i, true)) shape.counts && ltb c shape.below)) ≡ true
         → true ≡ false
     absent n d e =
-        let q : ((if eqb i 0 && false then true else false) && ltb c 256) ≡ true = rw d at e in
+        let q : ((when eqb i 0 && false then true else false) && ltb c 256) ≡ true = rw d at e in
         never (and_true (eqb i 0) false (if_true (eqb i 0 && false) true (and_true _ (ltb c 256) q).0).0).1
 
 pub apply_places_not : (operation : Operation) (c i : ℕ) → Applicable operation c i → placing (ActionKind.Op operation) ≡ false

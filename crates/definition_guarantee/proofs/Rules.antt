@@ -8,7 +8,7 @@ use mathlib.Core.List.{List, [], ◌∷◌}
 use mathlib.Core.Option.{Option, none, some}
 use lib.Dec.{eqb}
 use lib.ListN.{length, get_elem?, set, length-set}
-use Rattle.prelude.specs.Base.{if◌then◌else◌, ◌or◌, or_else, and_then, is_some, all, first, contains}
+use Rattle.prelude.specs.Base.{when◌then◌else◌, ◌or◌, or_else, and_then, is_some, all, first, contains}
 use Rattle.definition.specs.Operations.{Operation, among}
 use Rattle.definition.specs.Value.{Kind, kind_number, Value, truncate, SemanticAction, Temporary}
 use Rattle.definition.specs.Ast.{Section}
@@ -268,7 +268,7 @@ module _ (sec : Section) where
       go : (x : Option ℕ) → known_at sec a s p ≡ x → (i : ℕ) → get_elem? (p ∷ ps) i ≡ some q → x or first (known_at sec a s) ps ≡ some n
           → ((j : ℕ) → get_elem? ps j ≡ some q → first (known_at sec a s) ps ≡ some n
           → Covered (but_first (λ p. is_some (known_at sec a s p)) ps))
-          → Covered (if is_some x then ps else p ∷ but_first (λ p. is_some (known_at sec a s p)) ps)
+          → Covered (when is_some x then ps else p ∷ but_first (λ p. is_some (known_at sec a s p)) ps)
       go (some m) k zero d e r = inr (subst (λ (x : Operand). KnownAs n x a s) (some_same d) (known_from n p a s (k ∙ e)))
       go (some m) k (suc i) d e r = inl (i, d)
       go none k zero d e r = inl (0, d)
@@ -283,7 +283,7 @@ module _ (sec : Section) where
   share : (ps : List Operand) (a : SemanticAction) (s : Sizing) (x y : Option ℕ) → first (known_at sec a s) ps ≡ x
       → first (λ p. and_then (at p a) (fallback_size sec)) ps ≡ y
       → Shared ps a s (share_size sec x y ps a s).0 (share_size sec x y ps a s).1
-  unfolding share_size if◌then◌else◌ and_then
+  unfolding share_size when◌then◌else◌ and_then
   share ps a s (some n) y e d = go (all (λ p. contains n (known_at sec a s p)) ps) refl
     where
       qs : List Operand
@@ -295,7 +295,7 @@ module _ (sec : Section) where
       pick q (inr c) = all_keep n qs q a s c
 
       go : (b : Bool) → all (λ p. contains n (known_at sec a s p)) ps ≡ b
-          → Shared ps a s (if b then (a, s) else set_operands sec n qs a s).0 (if b then (a, s) else set_operands sec n qs a s).1
+          → Shared ps a s (when b then (a, s) else set_operands sec n qs a s).0 (when b then (a, s) else set_operands sec n qs a s).1
       go true h = sharing n (λ i q c. known_from n q a s (is_size n _ (all_at (λ p. contains n (known_at sec a s p)) ps i q h c)))
       go false h = sharing n (λ i q c. pick q (covered n ps i q a s e c))
   share ps a s none (some n) e d = sharing n (λ i q c. all_known n ps i q a s c)
@@ -306,10 +306,10 @@ module _ (sec : Section) where
 
   share_grown : (x y : Option ℕ) (ps : List Operand) (a : SemanticAction) (s : Sizing)
       → Grown s.temporaries (share_size sec x y ps a s).1.temporaries
-  unfolding share_size if◌then◌else◌
+  unfolding share_size when◌then◌else◌
   share_grown (some n) y ps a s = go (all (λ p. contains n (known_at sec a s p)) ps)
     where
-      go : (b : Bool) → Grown s.temporaries (if b then (a, s) else set_operands sec n (but_first (λ p. is_some (known_at sec a s p)) ps)
+      go : (b : Bool) → Grown s.temporaries (when b then (a, s) else set_operands sec n (but_first (λ p. is_some (known_at sec a s p)) ps)
           a s).1.temporaries
       go true = grown_refl
       go false = all_touched n _ a s
@@ -317,10 +317,10 @@ module _ (sec : Section) where
   share_grown none none ps a s = grown_refl
 
   share_alike : (x y : Option ℕ) (ps : List Operand) (a : SemanticAction) (s : Sizing) → Alike a (share_size sec x y ps a s).0
-  unfolding share_size if◌then◌else◌
+  unfolding share_size when◌then◌else◌
   share_alike (some n) y ps a s = go (all (λ p. contains n (known_at sec a s p)) ps)
     where
-      go : (b : Bool) → Alike a (if b then (a, s) else set_operands sec n (but_first (λ p. is_some (known_at sec a s p)) ps) a s).0
+      go : (b : Bool) → Alike a (when b then (a, s) else set_operands sec n (but_first (λ p. is_some (known_at sec a s p)) ps) a s).0
       go true = alike_refl
       go false = all_alike n _ a s
   share_alike none (some n) ps a s = all_alike n ps a s
@@ -448,7 +448,7 @@ module _ (sec : Section) where
       → ((i : ℕ) (q : Operand) → get_elem? ps i ≡ some q → (a : SemanticAction) (s : Sizing)
       → at q (apply_steps sec true xs a s).0 ≡ at q a)
       → RuleHolds xs → RuleHolds (equal ps ∷ xs)
-  unfolding apply_steps apply_step set_size_of_all if◌then◌else◌
+  unfolding apply_steps apply_step set_size_of_all when◌then◌else◌
   equal-holds ps xs z touch frame rest = record {
     holds = λ a s w g q. (go a s w g q (share ps a s _ _ refl refl), rest.holds _ _ w g q);
   }
@@ -589,12 +589,12 @@ module _ (sec : Section) where
 
   pub rule_holds : (op : Operation) → RuleHolds (rule_of op)
   unfolding rule_of or_else
-  rule_holds op = go (first (λ (r : Rule). if among r.operations op then some r.steps else none) rules) refl
+  rule_holds op = go (first (λ (r : Rule). when among r.operations op then some r.steps else none) rules) refl
     where
-      go : (x : Option (List Step)) → first (λ (r : Rule). if among r.operations op then some r.steps else none) rules ≡ x
+      go : (x : Option (List Step)) → first (λ (r : Rule). when among r.operations op then some r.steps else none) rules ≡ x
           → RuleHolds (or_else [] x)
       go none e = nothing_holds
       go (some steps) e =
-          let f = first_from (λ (r : Rule). if among r.operations op then some r.steps else none) rules steps e in
+          let f = first_from (λ (r : Rule). when among r.operations op then some r.steps else none) rules steps e in
           subst RuleHolds (chosen (among f.1.operations op) f.1.steps steps f.3)
           (rules_at rules f.0 f.1 table-holds f.2)

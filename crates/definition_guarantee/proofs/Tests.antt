@@ -8,7 +8,7 @@ use mathlib.Core.Option.{Option, none, some}
 use native.Mathlib.Omega.{arith}
 use lib.Dec.{T, eqb, leb, ltb, eqb→eq, eqb_refl, leb→le, le→leb, ltb→lt, lt→ltb, nltb→le}
 use lib.ListN.{get_elem?, set}
-use Rattle.prelude.specs.Base.{if◌then◌else◌, ◌or◌, or_else, and_then, any, all, first, same_numbers}
+use Rattle.prelude.specs.Base.{when◌then◌else◌, ◌or◌, or_else, and_then, any, all, first, same_numbers}
 use Rattle.definition_guarantee.specs.Tests.{Each}
 
 pub T_of : {b : Bool} → b ≡ true → T b
@@ -65,13 +65,13 @@ and_true false b e = never e
 pub both : {a b : Bool} → a ≡ true → b ≡ true → a && b ≡ true
 both {a} {b} p q = rw p q
 
-pub if_true : (b c : Bool) → (if b then c else false) ≡ true → (b ≡ true) × (c ≡ true)
-unfolding if◌then◌else◌
+pub if_true : (b c : Bool) → (when b then c else false) ≡ true → (b ≡ true) × (c ≡ true)
+unfolding when◌then◌else◌
 if_true true c e = (refl, e)
 if_true false c e = never e
 
-pub if_both : {b c : Bool} → b ≡ true → c ≡ true → (if b then c else false) ≡ true
-unfolding if◌then◌else◌
+pub if_both : {b c : Bool} → b ≡ true → c ≡ true → (when b then c else false) ≡ true
+unfolding when◌then◌else◌
 if_both {b} {c} p q = rw p q
 
 -- options
@@ -82,8 +82,8 @@ some_same e = cc
 pub none_some : {A B : Type 0} {a : A} {x : Option A} → x ≡ none → x ≡ some a → B
 none_some {A} {B} {a} {x} p q = let z : ◌≡◌ {A = ℕ} 0 1 = cc in absurd (omega arith)
 
-pub chosen : {A : Type 0} (b : Bool) (x y : A) → (if b then some x else none) ≡ some y → x ≡ y
-unfolding if◌then◌else◌
+pub chosen : {A : Type 0} (b : Bool) (x y : A) → (when b then some x else none) ≡ some y → x ≡ y
+unfolding when◌then◌else◌
 chosen true x y e = some_same e
 chosen false x y e = none_some {x = none} refl e
 
@@ -161,11 +161,11 @@ module _ {A : Type 0} where
 
   -- what passes a test that something passes
   pub any_from : (p : A → Bool) (xs : List A) → any p xs ≡ true → (i : ℕ) × (x : A) × (get_elem? xs i ≡ some x) × (p x ≡ true)
-  unfolding any if◌then◌else◌
+  unfolding any when◌then◌else◌
   any_from p [] e = never e
   any_from p (x ∷ xs) e = go (p x) refl e (any_from p xs)
     where
-      go : (b : Bool) → p x ≡ b → (if b then true else any p xs) ≡ true
+      go : (b : Bool) → p x ≡ b → (when b then true else any p xs) ≡ true
           → (any p xs ≡ true → (i : ℕ) × (z : A) × (get_elem? xs i ≡ some z) × (p z ≡ true))
           → (i : ℕ) × (z : A) × (get_elem? (x ∷ xs) i ≡ some z) × (p z ≡ true)
       go true d e r = (0, x, refl, d)
@@ -181,8 +181,8 @@ same-list [] = refl
 same-list (x ∷ xs) = if_both (same x) (same-list xs)
 
 by_head : (x y : ℕ) (xs ys : List ℕ) → (b : Bool) → eqb x y ≡ b → (same_numbers xs ys ≡ true → xs ≡ ys)
-    → (if b then same_numbers xs ys else false) ≡ true → (x ∷ xs) ≡ (y ∷ ys)
-unfolding if◌then◌else◌
+    → (when b then same_numbers xs ys else false) ≡ true → (x ∷ xs) ≡ (y ∷ ys)
+unfolding when◌then◌else◌
 by_head x y xs ys true e tails h = let p : x ≡ y = eq_of x y e in let q : xs ≡ ys = tails h in cc
 by_head x y xs ys false e tails h = never h
 

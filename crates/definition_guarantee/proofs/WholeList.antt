@@ -8,7 +8,7 @@ use mathlib.Core.Option.{none, some}
 use native.Mathlib.Omega.{arith}
 use lib.Dec.{eqb}
 use lib.ListN.{length}
-use Rattle.prelude.specs.Base.{if◌then◌else◌, or_else, and_then, is_some, any, all}
+use Rattle.prelude.specs.Base.{when◌then◌else◌, or_else, and_then, is_some, any, all}
 use Rattle.definition.specs.Operations.{Operation, operation_number, is_op}
 use Rattle.definition.specs.Value.{ActionKind, SemanticAction, operation_of, Temporary}
 use Rattle.definition.specs.Ast.{Section}
@@ -50,12 +50,12 @@ numbers_append (a ∷ xs) ys = go (placing a.kind) (numbers_append xs ys)
     go false e = e
 
 not_placed : (n : ℕ) (xs : List SemanticAction) → ¬ In n (label_numbers xs) → any (places n) xs ≡ false
-unfolding label_numbers place any places places_label placing if◌then◌else◌
+unfolding label_numbers place any places places_label placing when◌then◌else◌
 not_placed n [] h = refl
 not_placed n (a ∷ xs) h = go (placing a.kind) (not_placed n xs) h
   where
     go : (b : Bool) → (¬ In n (label_numbers xs) → any (places n) xs ≡ false) → ¬ In n (place b a.number (label_numbers xs))
-        → (if b && eqb n a.number then true else any (places n) xs) ≡ false
+        → (when b && eqb n a.number then true else any (places n) xs) ≡ false
     go true r h = rw (differ n a.number (λ e. h (inl e))) (r (λ i. h (inr i)))
     go false r h = r h
 
@@ -87,13 +87,13 @@ same-labels xs ys (head {x = x} {y = y} {xs = xr} {ys = yr} p b n m r) = rw (p, 
     go false n = refl
 
 pub same-builds : (i : ℕ) (xs ys : List SemanticAction) → SameHeads xs ys → any (builds i) ys ≡ any (builds i) xs
-unfolding any builds if◌then◌else◌
+unfolding any builds when◌then◌else◌
 same-builds i xs ys no_heads = refl
 same-builds i xs ys (head {x = x} {y = y} {xs = xr} {ys = yr} p b n m r) = rw (b, same-builds i xr yr r) (go (is_build x.kind) m)
   where
     go : (b : Bool) → (b ≡ true → y.number ≡ x.number)
-        → (if (if b then eqb i y.number else false) then true else any (builds i) xr) ≡
-        (if (if b then eqb i x.number else false) then true else any (builds i) xr)
+        → (when (when b then eqb i y.number else false) then true else any (builds i) xr) ≡
+        (when (when b then eqb i x.number else false) then true else any (builds i) xr)
     go true n = rw (n refl)
     go false n = refl
 
@@ -152,11 +152,11 @@ module _ (sec : Section) where
 -- the Builds in front
 
 any_right : (p : SemanticAction → Bool) (xs ys : List SemanticAction) → any p ys ≡ true → any p (xs ++ ys) ≡ true
-unfolding any if◌then◌else◌
+unfolding any when◌then◌else◌
 any_right p [] ys h = h
 any_right p (x ∷ xs) ys h = go (p x) (any_right p xs ys h)
   where
-    go : (b : Bool) → any p (xs ++ ys) ≡ true → (if b then true else any p (xs ++ ys)) ≡ true
+    go : (b : Bool) → any p (xs ++ ys) ≡ true → (when b then true else any p (xs ++ ys)) ≡ true
     go true e = refl
     go false e = e
 
@@ -167,37 +167,37 @@ abbrev pub build_of : ℕ → SemanticAction
 build_of i = record { kind = ActionKind.Build; number = i; inputs = []; output = none }
 
 own_build : (i : ℕ) (xs : List SemanticAction) → any (builds i) (build_of i ∷ xs) ≡ true
-unfolding any builds is_build if◌then◌else◌
+unfolding any builds is_build when◌then◌else◌
 own_build i xs = rw (same i)
 
 -- what holds of the Builds in front of a list, if it holds of each Build below j + n
 module _ (P : List SemanticAction → Type 0) (bound : ℕ)
     (more : (i : ℕ) (xs : List SemanticAction) → i < bound → P xs → P (build_of i ∷ xs)) where
   pub with_builds : (xs ys : List SemanticAction) (j n : ℕ) → j + n ≤ bound → P ys → P (implicit_builds xs j n ++ ys)
-  unfolding implicit_builds if◌then◌else◌
+  unfolding implicit_builds when◌then◌else◌
   with_builds xs ys j zero h p = p
   with_builds xs ys j (suc n) h p = go (any (builds j) xs) (with_builds xs ys (suc j) n (omega arith) p)
     where
       go : (b : Bool) → P (implicit_builds xs (suc j) n ++ ys)
-          → P ((if b then implicit_builds xs (suc j) n else build_of j ∷ implicit_builds xs (suc j) n) ++ ys)
+          → P ((when b then implicit_builds xs (suc j) n else build_of j ∷ implicit_builds xs (suc j) n) ++ ys)
       go true p = p
       go false p = more j (implicit_builds xs (suc j) n ++ ys) (omega arith) p
 
 built_each : (xs ys : List SemanticAction) (j n i : ℕ) → (any (builds i) xs ≡ true → any (builds i) ys ≡ true) → j ≤ i → i < j + n
     → any (builds i) (implicit_builds xs j n ++ ys) ≡ true
-unfolding implicit_builds if◌then◌else◌
+unfolding implicit_builds when◌then◌else◌
 built_each xs ys j zero i h p q = absurd (omega arith)
 built_each xs ys j (suc n) i h p q = go (eqb i j) refl (any (builds j) xs) refl (λ k. built_each xs ys (suc j) n i h k (omega arith))
   where
     rest : List SemanticAction
     rest = implicit_builds xs (suc j) n
 
-    onward : (b : Bool) → any (builds i) (rest ++ ys) ≡ true → any (builds i) ((if b then rest else build_of j ∷ rest) ++ ys) ≡ true
+    onward : (b : Bool) → any (builds i) (rest ++ ys) ≡ true → any (builds i) ((when b then rest else build_of j ∷ rest) ++ ys) ≡ true
     onward true e = e
     onward false e = any_later (builds i) (build_of j) (rest ++ ys) e
 
     go : (c : Bool) → eqb i j ≡ c → (b : Bool) → any (builds j) xs ≡ b → (suc j ≤ i → any (builds i) (rest ++ ys) ≡ true)
-        → any (builds i) ((if b then rest else build_of j ∷ rest) ++ ys) ≡ true
+        → any (builds i) ((when b then rest else build_of j ∷ rest) ++ ys) ≡ true
     go false c b d r = onward b (r (let k = differs i j c in omega arith))
     go true c true d r = let k : i ≡ j = eq_of i j c in any_right (builds i) rest ys (h (rw k d))
     go true c false d r = let k : i ≡ j = eq_of i j c in rw k (own_build j (rest ++ ys))
@@ -220,7 +220,7 @@ labels_once_lem xs ys n r d = distinct_once _ (with_builds (λ zs. Distinct (lab
     unplaced i zs p = p
 
 pub build_laid : (t sub i : ℕ) → i < sub → Laid t sub (build_of i)
-unfolding shape_of counts_fit same_count is_some any if◌then◌else◌ all option_fits base_fits
+unfolding shape_of counts_fit same_count is_some any when◌then◌else◌ all option_fits base_fits
 build_laid t sub i h = record {
   shaped = record { shape = record { counts = (0, false) ∷ []; below = sub }; is = refl; counts = refl; number = h };
   inputs = refl;
@@ -244,11 +244,11 @@ builds_hold p xs ys n h = with_builds (λ zs. all (sizes_hold p) zs ≡ true) n
     (λ i zs k q. all_cons (sizes_hold p) (build_of i) zs (build-sized p i) q) xs ys 0 n (omega arith) h
 
 pub builds_length : (xs ys : List SemanticAction) (j n : ℕ) → length (implicit_builds xs j n ++ ys) ≤ n + length ys
-unfolding implicit_builds if◌then◌else◌
+unfolding implicit_builds when◌then◌else◌
 builds_length xs ys j zero = omega arith
 builds_length xs ys j (suc n) = go (any (builds j) xs) (builds_length xs ys (suc j) n)
   where
     go : (b : Bool) → length (implicit_builds xs (suc j) n ++ ys) ≤ n + length ys
-        → length ((if b then implicit_builds xs (suc j) n else build_of j ∷ implicit_builds xs (suc j) n) ++ ys) ≤ suc n + length ys
+        → length ((when b then implicit_builds xs (suc j) n else build_of j ∷ implicit_builds xs (suc j) n) ++ ys) ≤ suc n + length ys
     go true h = omega arith
     go false h = omega arith

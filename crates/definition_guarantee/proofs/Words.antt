@@ -9,7 +9,7 @@ use lib.Dec.{eqb, leb}
 use lib.ListN.{length, get_elem?}
 use lib.Seq.{take_at, drop_at}
 use borrow.Author.Tests.{not-true}
-use Rattle.prelude.specs.Base.{if◌then◌else◌, or_else, and_then, is_some, any, all}
+use Rattle.prelude.specs.Base.{when◌then◌else◌, or_else, and_then, is_some, any, all}
 use Rattle.definition.specs.Operations.{Operation, operation_number, among}
 use Rattle.definition.specs.Value.{Kind, kind_number, Value, ActionKind, SemanticAction, operation_of}
 use Rattle.definition.specs.ActionList.{or_none, value_words, input_words, action_kind_number, output_words, operation_word, filled, action_words, list_words}
@@ -54,12 +54,12 @@ kind_numbered Kind.PcodeTmp = refl
 kind_numbered Kind.Constant = refl
 
 -- A subpiece alone is not read back.
-read_back : (op : Operation) → operation_numbered (operation_number op) ≡ (if eqb (operation_number op) 66 then none else some op)
+read_back : (op : Operation) → operation_numbered (operation_number op) ≡ (when eqb (operation_number op) 66 then none else some op)
 unfolding operation_numbered shapes operations_opens
-read_back = alike (λ op. operation_numbered (operation_number op)) (λ op. if eqb (operation_number op) 66 then none else some op) refl
+read_back = alike (λ op. operation_numbered (operation_number op)) (λ op. when eqb (operation_number op) 66 then none else some op) refl
 
 pub numbered : (op : Operation) → eqb (operation_number op) 66 ≡ false → operation_numbered (operation_number op) ≡ some op
-unfolding if◌then◌else◌
+unfolding when◌then◌else◌
 numbered op h = rw h at (read_back op)
 
 op_numbered_lem : (op : Operation) → eqb (operation_number op) 66 ≡ false → op_numbered (operation_number op) ≡ some (ActionKind.Op op)
@@ -69,7 +69,7 @@ op_numbered_lem op h = rw (numbered op h)
 -- a value's two words
 
 size_back : (z : Option ℕ) → or_else 0 z < 65535 → size_from (or_none z) ≡ z
-unfolding size_from or_none or_else if◌then◌else◌
+unfolding size_from or_none or_else when◌then◌else◌
 size_back none h = refl
 size_back (some n) h = rw (differ n 65535 (omega arith))
 
@@ -128,10 +128,10 @@ no_clash v = let k = kind_small v.kind in differ (packed v) 255 (λ e. absurd (o
 
 output_back : (v : Value) → v.offset ≤ 65535 → or_else 0 v.size < 65535 → (operation : Operation)
     → output_from (ActionKind.Op operation) v.number (packed v) ≡ some (some v)
-unfolding output_from some_value and_then if◌then◌else◌
+unfolding output_from some_value and_then when◌then◌else◌
 output_back v h j operation = go (eqb v.number 0)
   where
-    go : (b : Bool) → (if b && eqb (packed v) 255 then some none else some_value (value_from v.number (packed v))) ≡ some (some v)
+    go : (b : Bool) → (when b && eqb (packed v) 255 then some none else some_value (value_from v.number (packed v))) ≡ some (some v)
     go true = rw (no_clash v, value_back v h j)
     go false = rw (value_back v h j)
 
@@ -179,7 +179,7 @@ pub subpiece_shapeless : (t sub : ℕ) (op : Operation) (shape : Shape) → shap
 unfolding is_some
 subpiece_shapeless t sub op shape e b d = not-true b (sym (rw (e, d) at (shaped_others t sub op)))
 
-wrong-output : {A : Type 0} (n m : ℕ) (here there : Bool) → (if here then there else not there) ≡ false
+wrong-output : {A : Type 0} (n m : ℕ) (here there : Bool) → (when here then there else not there) ≡ false
     → any (same_count (n, here)) ((m, there) ∷ []) ≡ true → A
 unfolding any same_count
 wrong-output n m here there d e = clash (and_true (eqb n m) _ (if_true _ true e).0).1 d
@@ -258,7 +258,7 @@ module _ (t sub : ℕ) where
     back : (kind : ActionKind) (output : Option Value) → option_fits (value_fits t sub) output ≡ true → Shaped (made kind output)
         → action_from (action_words (made kind output)) ≡ some (made kind output)
     unfolding option_fits action_from action_words filled action_kind_number operation_word operation_of output_words value_words
-        action_kind_numbered or_else and_then output_from shape_of counts_fit is_some if◌then◌else◌
+        action_kind_numbered or_else and_then output_from shape_of counts_fit is_some when◌then◌else◌
     back (ActionKind.Op op) (some v) o s =
         let f = fits_parts {t = t} {sub = sub} {v = v} o in
         rw (
@@ -315,7 +315,7 @@ module _ (t sub : ℕ) where
   pub words-pass : (xs : List SemanticAction) (la pointer_size : ℕ) → 24 * length xs ≤ la → all (layout_fits t sub) xs ≡ true
       → all (sizes_hold pointer_size) xs ≡ true
       → labels_once xs ≡ true → all_built xs sub ≡ true → check (filled la (list_words xs)) (length xs) t sub pointer_size ≡ true
-  unfolding check list_holds if◌then◌else◌ or_else and_then
+  unfolding check list_holds when◌then◌else◌ or_else and_then
   words-pass xs la p h f z l b =
       rw (filled_length la (list_words xs), of_le (24 * length xs) la h, actions_back xs la h f)
       (both (both (both (both (same-list (filled la (list_words xs))) f) z) l) b)

@@ -1,10 +1,10 @@
 -- The built-in functions by the bytes of their names: an operation's number and its count of arguments, both 0 for other names.
 use Rattle.std.specs.Prelude.{ℕ, ◌+◌, List, [], ◌∷◌, get_or, take, drop}
-use Rattle.prelude.specs.Base.{if◌then◌else◌, same_numbers}
+use Rattle.prelude.specs.Base.{when◌then◌else◌, same_numbers}
 use Rattle.expr_inbuilts.specs.declared.inbuilt.Inbuilt.{Inbuilt}
 
 unfoldable pub attempt : List ℕ → List ℕ → ℕ → ℕ → Inbuilt → Inbuilt
-attempt w spelling op arguments other = if same_numbers w spelling then record { op = op; arguments = arguments } else other
+attempt w spelling op arguments other = when same_numbers w spelling then record { op = op; arguments = arguments } else other
 
 unfoldable pub logical : List ℕ → Inbuilt → Inbuilt
 logical w r =

@@ -9,7 +9,7 @@ use Rattle.list_pushes.specs.declared.push.Env.{Env}
 use Rattle.list_pushes.specs.declared.push.Read.{Read}
 use Rattle.list_pushes.specs.declared.push.Pushed.{Pushed}
 use Rattle.list_values.specs.Base.{Listed, listed, then_l}
-use Rattle.prelude.specs.Base.{if◌then◌else◌}
+use Rattle.prelude.specs.Base.{when◌then◌else◌}
 use Rattle.list_values.specs.Values.{local, with_size, absent, slice_bytes}
 use Rattle.list_values.specs.Sizes.{size_of, settled}
 use Rattle.list_pushes.specs.Pushes.{ReadOut, read, on_read, on_tmp, with_sizing, add_tmp, output_or, push, op_to, op}
@@ -31,21 +31,21 @@ set_size s t m v size st =
 
 -- a register access's stated size is set; 0 sets none
 unfoldable pub set_stated : List ℕ → List ℕ → List ℕ → Value → ℕ → State → Listed Stated
-set_stated s t m v size st = if eqb size 0 then listed (stated v st) m else set_size s t m v size st
+set_stated s t m v size st = when eqb size 0 then listed (stated v st) m else set_size s t m v size st
 
 -- a RAM access's stated size is taken silently; 0 sets none
 unfoldable pub take_stated : List ℕ → List ℕ → List ℕ → Value → ℕ → State → Listed Stated
 take_stated s t m v size st =
-    if eqb size 0 then listed (stated v st) m
-    else if eqb (size_of s t m v) 65535 then set_size s t m v size st
+    when eqb size 0 then listed (stated v st) m
+    else when eqb (size_of s t m v) 65535 then set_size s t m v size st
     else listed (stated (with_size size v) st) m
 
 unfoldable pub copy_to : List ℕ → List ℕ → List ℕ → List ℕ → Env → Bool → Value → Value → State → ReadOut
 copy_to s t a m e given to v st =
-    if given then op_to s t a m e 57 0 1 to v absent st else read (Read.Value v st) a m
+    when given then op_to s t a m e 57 0 1 to v absent st else read (Read.Value v st) a m
 
 unfoldable pub byte_aligned : ℕ → ℕ → Bool
-byte_aligned from bits = if eqb (from % 8) 0 then eqb (bits % 8) 0 else false
+byte_aligned from bits = when eqb (from % 8) 0 then eqb (bits % 8) 0 else false
 
 unfoldable pub slice_read : Slice → State → Read
 slice_read (Slice.Is v) st = Read.Value v st
@@ -72,7 +72,7 @@ shift_and_mask s t a m e v from bits st =
 
 unfoldable pub part_of : List ℕ → List ℕ → List ℕ → List ℕ → Env → Value → ℕ → ℕ → State → ReadOut
 part_of s t a m e v from bits st =
-    if byte_aligned from bits then read (sliced v (from / 8) (bits / 8) st) a m else shift_and_mask s t a m e v from bits st
+    when byte_aligned from bits then read (sliced v (from / 8) (bits / 8) st) a m else shift_and_mask s t a m e v from bits st
 
 unfoldable pub read_slice : List ℕ → List ℕ → List ℕ → List ℕ → Env → Value → ℕ → ℕ → Bool → Value → State → ReadOut
 read_slice s t a m e v from bits given to st =
@@ -90,7 +90,7 @@ pushed_out (listed r a) v m = read (pushed_to r v) a m
 
 unfoldable pub read_address : List ℕ → List ℕ → Value → ℕ → Bool → Value → State → ReadOut
 read_address a m base size given to st =
-    if eqb base.offset 0
+    when eqb base.offset 0
     then on_tmp (output_or m given to size st)
     (λ v st1 w. pushed_out (push a 1 0 0 1 v (local base.kind base.number) absent st1) v w)
     (λ n w. read (Read.No n) a w)

@@ -10,7 +10,7 @@ use lib.Dec.{eqb}
 use borrow.Author.Tests.{ne_eqb}
 use Rattle.access.specs.Le.{le16}
 use Rattle.prelude.specs.Base as definition
-use Rattle.prelude.specs.Base.{◌or◌, or_else, and_then, if◌then◌else◌, contains}
+use Rattle.prelude.specs.Base.{◌or◌, or_else, and_then, when◌then◌else◌, contains}
 use Rattle.definition.specs.Refusals.{Refusal, refusal_number, undefined, wrong_kind, no_default_space}
 use Rattle.definition.specs.Value.{Value}
 use Rattle.definition.specs.Ast.{SpaceKind, Space as SpaceEntry}
@@ -60,12 +60,12 @@ pub data Finds (st : State) : Space → Outcome SpaceEntry → Type 0 where
   lost : (r : Refusal) (n : ℕ) → n ≡ refusal_number r → Finds st (Space.No n) (stopped r st.sizing.begun 0)
 
 or_size_lem : (a b : Option ℕ) → Small a → or_size (or_none a) (or_none b) ≡ or_none (a or b)
-unfolding or_size or_none or_else ◌or◌ if◌then◌else◌
+unfolding or_size or_none or_else ◌or◌ when◌then◌else◌
 or_size_lem none b h = refl
 or_size_lem (some n) b h = rw (ne_eqb n 65535 (λ q. omega arith))
 
 or_zero : (a : Option ℕ) → Small a → or_size (or_none a) 0 ≡ or_else 0 a
-unfolding or_size or_none or_else if◌then◌else◌
+unfolding or_size or_none or_else when◌then◌else◌
 or_zero none h = refl
 or_zero (some n) h = rw (ne_eqb n 65535 (λ q. omega arith))
 
@@ -101,9 +101,9 @@ module _ (s t : List ℕ) (e : Env) (holds : Holds s t e.section) (st : State) w
   named_finds (some (Symbol.Macro i x)) h = lost wrong_kind 23 (unfold refusal_number in refl)
   named_finds (some (Symbol.Other i)) h = lost wrong_kind 23 (unfold refusal_number in refl)
 
-  default_finds : (b : Bool) → eqb (le16 s 24) 65535 ≡ b → absent_at s 24 ≡ (definition.if◌then◌else◌ b none (some (le16 s 24)))
-      → Finds st (if b then Space.No 39 else kind_of_space s t (le16 s 24)) (expect no_default_space (and_then (definition.if◌then◌else◌ b none (some (le16 s 24))) (get_elem? e.section.spaces)) e st)
-  unfolding if◌then◌else◌ base_opens expect
+  default_finds : (b : Bool) → eqb (le16 s 24) 65535 ≡ b → absent_at s 24 ≡ (definition.when◌then◌else◌ b none (some (le16 s 24)))
+      → Finds st (when b then Space.No 39 else kind_of_space s t (le16 s 24)) (expect no_default_space (and_then (definition.when◌then◌else◌ b none (some (le16 s 24))) (get_elem? e.section.spaces)) e st)
+  unfolding when◌then◌else◌ base_opens expect
   default_finds true q h = lost no_default_space 39 (unfold refusal_number in refl)
   default_finds false q h =
       let g : absent_at s 24 ≡ some (le16 s 24) = h in
@@ -113,9 +113,9 @@ module _ (s t : List ℕ) (e : Env) (holds : Holds s t e.section) (st : State) w
       rw x (space_finds (le16 s 24) _ x)
 
   pub space_found : (space : Option ℕ) → ((y : ℕ) → space ≡ some y → y < 1024) → Finds st (resolve_space s t (or_none space)) (d.resolve_space space e st)
-  unfolding resolve_space d.resolve_space or_none or_else if◌then◌else◌ default_space named_space lookup on
+  unfolding resolve_space d.resolve_space or_none or_else when◌then◌else◌ default_space named_space lookup on
   space_found none h =
-      subst (λ (x : Option ℕ). Finds st (if eqb (le16 s 24) 65535 then Space.No 39 else kind_of_space s t (le16 s 24)) (expect no_default_space (and_then x (get_elem? e.section.spaces)) e st)) (sym holds.default_space) (default_finds (eqb (le16 s 24) 65535) refl refl)
+      subst (λ (x : Option ℕ). Finds st (when eqb (le16 s 24) 65535 then Space.No 39 else kind_of_space s t (le16 s 24)) (expect no_default_space (and_then x (get_elem? e.section.spaces)) e st)) (sym holds.default_space) (default_finds (eqb (le16 s 24) 65535) refl refl)
   space_found (some n) h =
       let k = h n refl in
       rw (ne_eqb n 65535 (λ q. omega arith), lookup_is s t e.section holds n k) (named_finds (find n (globals e.section)) (found_placed e.section n _ refl))
@@ -156,7 +156,7 @@ module _ (s t : List ℕ) (e : Env) (front tail rest : List ℕ) (we : WordEnv) 
 
   refers : (st : State) → Stood e.section tail rest spare st → (k : SpaceKind) (n : ℕ) → IsKind k n → (size : Option ℕ) (v : Value) → Small size → Sound e.section (count st) v
       → Answers st (resolved (reference_to n (or_none size) next (enc_v v) (W st)) (A st) (M st)) (d.reference k v (or_else 0 size) e st)
-  unfolding reference_to d.reference if◌then◌else◌
+  unfolding reference_to d.reference when◌then◌else◌
   refers st f SpaceKind.RamSpace n ram size v l h = rw (or_zero size l) (unfold enc_x in means-done s t e front tail rest we below spare room next st f (ExprValue.RamRef v (or_else 0 size)) (h, l))
   refers st f SpaceKind.RegisterSpace n register size v l h = rw (or_zero size l) (unfold enc_x in means-done s t e front tail rest we below spare room next st f (ExprValue.RegisterRef v (or_else 0 size)) (h, l))
   refers st f SpaceKind.OtherSpace n (other m) size v l h = rw (ne_eqb (2 + m) 0 (λ q. omega arith), ne_eqb (2 + m) 1 (λ q. omega arith)) (refused st 40 _ (unfold refusal_number in refl))
@@ -190,10 +190,10 @@ module _ (s t : List ℕ) (e : Env) (front tail rest : List ℕ) (we : WordEnv) 
 
   -- the place that a pointer, already resolved, refers to
   pub address : (st : State) → Stood e.section tail rest spare st → (space size : Option ℕ) (x : ExprValue) → ((y : ℕ) → space ≡ some y → y < 1024) → Small size → SoundX e.section (count st) x
-      → Answers st (resolve_address s t (A st) (M st) we (or_none space) (or_none size) (enc_x x) next (W st)) ((definition.if◌then◌else◌ (contains e.section.header.const space) (d.in_const_space size x) (d.address_in space size x)) e st)
+      → Answers st (resolve_address s t (A st) (M st) we (or_none space) (or_none size) (enc_x x) next (W st)) ((definition.when◌then◌else◌ (contains e.section.header.const space) (d.in_const_space size x) (d.address_in space size x)) e st)
   unfolding resolve_address
   address st f space size x k l h = rw (const_is s t e holds st space k) (go (contains e.section.header.const space))
     where
-      go : (b : Bool) → Answers st (if b then resolved (in_const_space (enc_x x) (or_none size) next (W st)) (A st) (M st) else address_in s t (A st) (M st) we (or_none space) (or_none size) (enc_x x) next (W st)) ((definition.if◌then◌else◌ b (d.in_const_space size x) (d.address_in space size x)) e st)
-      go true = unfold if◌then◌else◌ base_opens in in_const st f size x l h
-      go false = unfold if◌then◌else◌ base_opens in address_in_lem st f space size x k l h
+      go : (b : Bool) → Answers st (when b then resolved (in_const_space (enc_x x) (or_none size) next (W st)) (A st) (M st) else address_in s t (A st) (M st) we (or_none space) (or_none size) (enc_x x) next (W st)) ((definition.when◌then◌else◌ b (d.in_const_space size x) (d.address_in space size x)) e st)
+      go true = unfold when◌then◌else◌ base_opens in in_const st f size x l h
+      go false = unfold when◌then◌else◌ base_opens in address_in_lem st f space size x k l h

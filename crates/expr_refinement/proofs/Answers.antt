@@ -15,7 +15,7 @@ use Rattle.list_pushes.specs.declared.push.State.{State as WordState}
 use Rattle.list_pushes.specs.declared.push.Read.{Read}
 use Rattle.list_pushes.specs.declared.push.Pushed.{Pushed}
 use Rattle.list_values.specs.Base.{Listed, listed}
-use Rattle.prelude.specs.Base.{if◌then◌else◌}
+use Rattle.prelude.specs.Base.{when◌then◌else◌}
 use Rattle.list_pushes.specs.Pushes.{ReadOut, read, PushedOut, pushed, on_read, on_pushed, on_tmp}
 use Rattle.list_refinement.specs.Encoding.{actions_in, temporaries_in, enc_s}
 use Rattle.list_refinement.proofs.Seen.{Seen, no, yes, seen_read, seen_pushed, seen_tmp, outcome}
@@ -223,14 +223,14 @@ module _ (sec : Section) (front tail rest : List ℕ) where
   -- a test: on with what passes it
   module _ {B C R : Type 0} (more : ℕ) (e : Env) (st : State) (seen : R → Seen B) (enc_c : C → B) (Q : ℕ → C → Type 0) where
     pub bind_require : (b : Bool) (r : Refusal) (y z : R) (k : Unit {0} → Walk C) → seen z ≡ no (refusal_number r) → (b ≡ true → Refines more st enc_c Q (seen y) (k tt e st))
-        → Refines more st enc_c Q (seen (if b then y else z)) (on e (require b r e st) k)
-    unfolding if◌then◌else◌ on require
+        → Refines more st enc_c Q (seen (when b then y else z)) (on e (require b r e st) k)
+    unfolding when◌then◌else◌ on require
     bind_require true r y z k h f = f refl
     bind_require false r y z k h f = rw h (refines_stopped more st enc_c Q (refusal_number r) r refl)
 
     -- the same, the other way round
     pub bind_unless : (b : Bool) (r : Refusal) (y z : R) (k : Unit {0} → Walk C) → seen z ≡ no (refusal_number r) → (b ≡ false → Refines more st enc_c Q (seen y) (k tt e st)) → (c : Bool) → (b ≡ false → c ≡ true) → (b ≡ true → c ≡ false)
-        → Refines more st enc_c Q (seen (if b then z else y)) (on e (require c r e st) k)
-    unfolding if◌then◌else◌ on require
+        → Refines more st enc_c Q (seen (when b then z else y)) (on e (require c r e st) k)
+    unfolding when◌then◌else◌ on require
     bind_unless true r y z k h f c i j = rw (j refl) (rw h (refines_stopped more st enc_c Q (refusal_number r) r refl))
     bind_unless false r y z k h f c i j = rw (i refl) (f refl)

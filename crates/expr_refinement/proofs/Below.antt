@@ -9,7 +9,7 @@ use native.Mathlib.Omega.{arith}
 use lib.ListN.{length, get_elem?}
 use lib.Dec.{eqb}
 use Rattle.prelude.specs.Base as definition
-use Rattle.prelude.specs.Base.{or_else, if◌then◌else◌}
+use Rattle.prelude.specs.Base.{or_else, when◌then◌else◌}
 use Rattle.definition.specs.Operations.{Operation, operation_number}
 use Rattle.definition.specs.Value.{Kind, kind_number, Value, truncate, is_kind, SemanticAction, operation_of, Temporary}
 use Rattle.definition.specs.Ast.{Section}
@@ -69,12 +69,12 @@ module _ (sec : Section) (n : ℕ) (v : Value) (z : Sizing) where
   unfolding sizes.settled sizes.size_temporary base_opens
   settled-begun none = go (is_kind Kind.PcodeTmp v)
     where
-      go : (b : Bool) → (definition.if◌then◌else◌ b (sizes.set_tmp_size sec v.number (get_elem? z.temporaries v.number) n z) z).begun ≡ z.begun
+      go : (b : Bool) → (definition.when◌then◌else◌ b (sizes.set_tmp_size sec v.number (get_elem? z.temporaries v.number) n z) z).begun ≡ z.begun
       go true = tmp-begun v.number (get_elem? z.temporaries v.number)
       go false = refl
   settled-begun (some m) = go (eqb m n || is_kind Kind.Subtable v)
     where
-      go : (b : Bool) → (definition.if◌then◌else◌ b z (sizes.error z)).begun ≡ z.begun
+      go : (b : Bool) → (definition.when◌then◌else◌ b z (sizes.error z)).begun ≡ z.begun
       go true = refl
       go false = refl
 

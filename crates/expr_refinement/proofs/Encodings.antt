@@ -4,7 +4,7 @@ use mathlib.Core.Path.{◌≡◌, refl, ◌∙◌}
 use mathlib.Core.List.{List, [], ◌∷◌, ◌++◌}
 use mathlib.Core.Option.{Option, none, some}
 use native.Mathlib.Omega.{arith}
-use Rattle.prelude.specs.Base.{if◌then◌else◌, sum}
+use Rattle.prelude.specs.Base.{when◌then◌else◌, sum}
 use Rattle.definition.specs.Value.{Kind, Value, SemanticAction}
 use Rattle.definition.specs.Ast.{Section}
 use Rattle.definition.specs.Walk.{ExprValue, State}
@@ -78,7 +78,7 @@ pub each_last : {A : Type 0} (P : A → Type 0) (xs : List A) (x : A) → Each P
 each_last P [] x h g = (g, tt)
 each_last P (y ∷ xs) x h g = (h.0, each_last P xs x h.1 g)
 
-pub placed-last : (xs : List SemanticAction) (x : SemanticAction) → labels_placed (xs ++ (x ∷ [])) ≡ labels_placed xs + (if places_label x then 1 else 0)
+pub placed-last : (xs : List SemanticAction) (x : SemanticAction) → labels_placed (xs ++ (x ∷ [])) ≡ labels_placed xs + (when places_label x then 1 else 0)
 unfolding labels_placed sum
 placed-last [] x = omega arith
 placed-last (y ∷ xs) x = let h = placed-last xs x in omega arith

@@ -4,7 +4,7 @@ use mathlib.Core.Path.{◌≡◌, refl, sym, ◌∙◌, ap}
 use mathlib.Core.Bool.{Bool, true, false}
 use mathlib.Core.List.{List, [], ◌∷◌}
 use mathlib.Core.Option.{Option, none, some}
-use Rattle.prelude.specs.Base.{if◌then◌else◌, first, ◌or◌, same_numbers}
+use Rattle.prelude.specs.Base.{when◌then◌else◌, first, ◌or◌, same_numbers}
 use Rattle.definition.specs.Operations.{operation_number}
 use Rattle.definition.specs.Spellings.{bytes_of, inbuilt, inbuilts, translate_inbuilt_func}
 use Rattle.definition.specs.Spellings as definition
@@ -21,15 +21,15 @@ attempts : List ℕ → List definition.Inbuilt → Inbuilt
 attempts w [] = record { op = 0; arguments = 0 }
 attempts w (x ∷ xs) = attempt w x.spelling (operation_number x.op) x.arguments (attempts w xs)
 
-words_or : (w : List ℕ) (x : definition.Inbuilt) (y : Option definition.Inbuilt) (b : Bool) → same_numbers w x.spelling ≡ b → inbuilt_words ((if b then some x else none) or y) ≡ attempt w x.spelling (operation_number x.op) x.arguments (inbuilt_words y)
-unfolding inbuilt_words attempt if◌then◌else◌ ◌or◌
+words_or : (w : List ℕ) (x : definition.Inbuilt) (y : Option definition.Inbuilt) (b : Bool) → same_numbers w x.spelling ≡ b → inbuilt_words ((when b then some x else none) or y) ≡ attempt w x.spelling (operation_number x.op) x.arguments (inbuilt_words y)
+unfolding inbuilt_words attempt when◌then◌else◌ ◌or◌
 words_or w x y true e = rw e
 words_or w x y false e = rw e
 
-searched : (w : List ℕ) (xs : List definition.Inbuilt) → inbuilt_words (first (λ (x : definition.Inbuilt). if same_numbers w x.spelling then some x else none) xs) ≡ attempts w xs
+searched : (w : List ℕ) (xs : List definition.Inbuilt) → inbuilt_words (first (λ (x : definition.Inbuilt). when same_numbers w x.spelling then some x else none) xs) ≡ attempts w xs
 unfolding attempts first inbuilt_words
 searched w [] = refl
-searched w (x ∷ xs) = words_or w x (first (λ (x : definition.Inbuilt). if same_numbers w x.spelling then some x else none) xs) (same_numbers w x.spelling) refl ∙ ap (attempt w x.spelling (operation_number x.op) x.arguments) (searched w xs)
+searched w (x ∷ xs) = words_or w x (first (λ (x : definition.Inbuilt). when same_numbers w x.spelling then some x else none) xs) (same_numbers w x.spelling) refl ∙ ap (attempt w x.spelling (operation_number x.op) x.arguments) (searched w xs)
 
 in_groups : (w : List ℕ) → logical w (carries w (extensions w (roundings w (conversions w (record { op = 0; arguments = 0 }))))) ≡ attempts w inbuilts
 unfolding attempts logical carries extensions roundings conversions inbuilts inbuilt bytes_of operation_number

@@ -8,7 +8,7 @@ use native.Mathlib.Omega.{arith}
 use lib.ListN.{length, get_elem?}
 use lib.Dec.{eqb, ltb}
 use borrow.Author.Tests.{not-true, eqb-true}
-use Rattle.prelude.specs.Base.{is_some, all, same_numbers, if◌then◌else◌}
+use Rattle.prelude.specs.Base.{is_some, all, same_numbers, when◌then◌else◌}
 use Rattle.definition.specs.Operations.{Operation, operation_number, is_op}
 use Rattle.definition.specs.Value.{Value}
 use Rattle.definition.specs.Ast.{PcodeOp}
@@ -64,7 +64,7 @@ coded_at (x ∷ os) i zero o h q = let p : x ≡ o = cc in let r : i + 0 ≡ i =
 coded_at (x ∷ os) i (suc code) o h q = let r : i + suc code ≡ suc i + code = omega arith in rw r (coded_at os (suc i) code o (and_true (coded i x) (all_coded (suc i) os) h).1 q)
 
 all_coded_lem : all_coded 0 pcode_ops ≡ true
-unfolding all_coded coded takes suits pcode_ops operations_opens operation_of if◌then◌else◌ kind_of
+unfolding all_coded coded takes suits pcode_ops operations_opens operation_of when◌then◌else◌ kind_of
 all_coded_lem = refl
 
 pub order_is : (code : ℕ) (o : PcodeOp) → get_elem? pcode_ops code ≡ some o → OrderIs o code

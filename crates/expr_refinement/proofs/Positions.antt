@@ -8,7 +8,7 @@ use lib.ListN.{length, get_or, get_elem?, drop, length-drop}
 use lib.Dec.{eqb, leb, ltb}
 use borrow.Author.Tests.{eqb-true, eqb-false, le-leb, lt-ltb, leb-true}
 use Rattle.access.specs.Le.{le16}
-use Rattle.prelude.specs.Base.{if◌then◌else◌}
+use Rattle.prelude.specs.Base.{when◌then◌else◌}
 use Rattle.definition.specs.Ast.{PcodeExpr}
 use Rattle.definition.specs.SectionFile.{Parsed, parsed, refused, on, Read, choose, args_of, expr_within}
 use Rattle.definition.specs.SectionFile as d
@@ -31,7 +31,7 @@ pub record Passed (v n len lim k : ℕ) (c : Cursor) : Type 0 where
   pub fits : c.at + n ≤ len
 
 pub passed : (v n len lim k : ℕ) (c : Cursor) → eqb k 0 ≡ false → (number v n len lim k c).bad ≡ 0 → Passed v n len lim k c
-unfolding number if◌then◌else◌
+unfolding number when◌then◌else◌
 passed v n len lim k c z h = go (eqb c.bad 0) (leb (c.at + n) len) (ltb v lim) refl refl refl
   where
     go : (a b l : Bool) → eqb c.bad 0 ≡ a → leb (c.at + n) len ≡ b → ltb v lim ≡ l → Passed v n len lim k c
@@ -41,7 +41,7 @@ passed v n len lim k c z h = go (eqb c.bad 0) (leb (c.at + n) len) (ltb v lim) r
     go false b l p q r = let x : c.bad ≡ 0 = rw p at h in absurd (eqb-false c.bad 0 p x)
 
 pub skipped : (s : List ℕ) (n p v : ℕ) → (skip s n (cursor p 0 v)).bad ≡ 0 → (skip s n (cursor p 0 v)).at ≡ p + n
-unfolding skip number if◌then◌else◌
+unfolding skip number when◌then◌else◌
 skipped s n p v h = go (leb (p + n) (length s)) refl
   where
     go : (b : Bool) → leb (p + n) (length s) ≡ b → (skip s n (cursor p 0 v)).at ≡ p + n
@@ -83,7 +83,7 @@ module _ (s : List ℕ) (m : ℕ) where
     starts = let b = (expr-begun s m deep pos x (drop next s) reads).inside in omega arith
 
     coded : u8 s 9 3 (cursor pos 0 0) ≡ cursor (pos + 1) 0 (get_or s pos 0)
-    unfolding u8 number if◌then◌else◌
+    unfolding u8 number when◌then◌else◌
     coded =
         let b = expr-begun s m deep pos x (drop next s) reads in
         rw (le-leb (pos + 1) (length s) starts, lt-ltb (get_or s pos 0) 9 b.known)
@@ -117,7 +117,7 @@ module _ (s : List ℕ) (m : ℕ) where
     address_of_ends c =
         let r = rest_ends 2 c in
         let p = passed _ 2 (length s) m 5 (u16or s 1025 4 (cursor (pos + 1) 0 2)) refl (ap (λ (k : Cursor). k.bad) r.1) in
-        let u = passed (le16 s (pos + 1)) 2 (length s) (if eqb (le16 s (pos + 1)) 65535 then 65536 else 1025) 4 (cursor (pos + 1) 0 2) refl p.good in
+        let u = passed (le16 s (pos + 1)) 2 (length s) (when eqb (le16 s (pos + 1)) 65535 then 65536 else 1025) 4 (cursor (pos + 1) 0 2) refl p.good in
         let q = ap (λ (k : Cursor). k.at) r.1 in
         omega (arith, p.at, u.at)
 
@@ -156,10 +156,10 @@ module _ (s : List ℕ) (m : ℕ) where
 -- a cursor never goes back
 
 number_on : (v n len lim k : ℕ) (c : Cursor) → c.at ≤ (number v n len lim k c).at
-unfolding number if◌then◌else◌
+unfolding number when◌then◌else◌
 number_on v n len lim k c = go (eqb c.bad 0) (leb (c.at + n) len) (ltb v lim)
   where
-    go : (a b l : Bool) → c.at ≤ (if a then (if b then (if l then cursor (c.at + n) 0 v else cursor c.at k 0) else cursor c.at 3 0) else c).at
+    go : (a b l : Bool) → c.at ≤ (when a then (when b then (when l then cursor (c.at + n) 0 v else cursor c.at k 0) else cursor c.at 3 0) else c).at
     go true true true = omega arith
     go true true false = omega arith
     go true false l = omega arith
@@ -195,10 +195,10 @@ after_on Kind.pool s m f h c = omega (arith, u8_on s 9 4 c, run_on (u8 s 9 4 c).
 after_on Kind.calling s m f h c = omega (arith, u16_on s m 5 c, u8_on s 9 4 (u16 s m 5 c), run_on (u8 s 9 4 (u16 s m 5 c)).val 0 f h (u8 s 9 4 (u16 s m 5 c)))
 
 refuse_on : (k : ℕ) (c : Cursor) → c.at ≤ (refuse k c).at
-unfolding refuse if◌then◌else◌
+unfolding refuse when◌then◌else◌
 refuse_on k c = go (eqb c.bad 0)
   where
-    go : (b : Bool) → c.at ≤ (if b then cursor c.at k 0 else c).at
+    go : (b : Bool) → c.at ≤ (when b then cursor c.at k 0 else c).at
     go true = omega arith
     go false = omega arith
 

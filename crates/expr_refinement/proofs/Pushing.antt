@@ -60,7 +60,7 @@ module _ (sec : Section) where
   share_keeps none (some n) ps x z = sets_keep n ps x z
   share_keeps (some n) b ps x z = go (all (λ p. contains n (sizes.known_at sec x z p)) ps)
     where
-      go : (c : Bool) → Keeps z (definition.if◌then◌else◌ c (x, z) (sizes.set_operands sec n (sizes.but_first (λ p. is_some (sizes.known_at sec x z p)) ps) x z))
+      go : (c : Bool) → Keeps z (definition.when◌then◌else◌ c (x, z) (sizes.set_operands sec n (sizes.but_first (λ p. is_some (sizes.known_at sec x z p)) ps) x z))
       go true = unfold base_opens in refl
       go false = unfold base_opens in sets_keep n _ x z
 
@@ -200,7 +200,7 @@ module _ (s t : List ℕ) (e : Env) (front tail rest : List ℕ) (we : WordEnv) 
         later = record { temporaries = omega arith; statements = refl; scope = refl; next_label = refl; export = refl; begun = begun; actions = omega arith; placed = placed-last st.actions x ∙ unlabelled };
       })
     where
-      unlabelled : labels_placed st.actions + (definition.if◌then◌else◌ (places_label x) 1 0) ≡ labels_placed st.actions
+      unlabelled : labels_placed st.actions + (definition.when◌then◌else◌ (places_label x) 1 0) ≡ labels_placed st.actions
       unlabelled = rw plain (unfold base_opens in omega arith)
 
   -- an operation

@@ -10,7 +10,7 @@ use lib.ListN.{length, get_or, get_elem?}
 use lib.Dec.{eqb, ltb}
 use borrow.Author.Tests.{eqb-true, eqb-false, ne_eqb, eq-eqb, lt-ltb}
 use Rattle.prelude.specs.Base as definition
-use Rattle.prelude.specs.Base.{◌or◌, and_then, or_else, first, if◌then◌else◌}
+use Rattle.prelude.specs.Base.{◌or◌, and_then, or_else, first, when◌then◌else◌}
 use Rattle.definition.specs.Refusals.{refusal_number}
 use Rattle.definition.specs.Value.{Kind, kind_number, Value, local}
 use Rattle.definition.specs.Ast.{BitRange as BitRangeEntry, Section}
@@ -50,16 +50,16 @@ means_or none other = other
 
 -- the search, with the meaning that it finds
 found : ℕ → List ℕ → WordMeaning → WordMeaning
-unfolding if◌then◌else◌
-found i p other = if ltb 0 i then WordMeaning.Means (of_slot (slot_at p (param_place (i - 1)))) else other
+unfolding when◌then◌else◌
+found i p other = when ltb 0 i then WordMeaning.Means (of_slot (slot_at p (param_place (i - 1)))) else other
 
 param_is : (ps : List (ℕ × ExprValue)) (p : List ℕ) (name : ℕ) (other : WordMeaning) → ParamsIn p ps → found (find_param (length ps) p name) p other ≡ means_or (find name ps) other
-unfolding found find_param find first means_or base_opens if◌then◌else◌
+unfolding found find_param find first means_or base_opens when◌then◌else◌
 param_is [] p name other h = refl
 param_is (x ∷ xs) p name other h = rw (h.0, eqb_swap x.0 name) (go (eqb name x.0) (param_is xs p name other h.2))
   where
     go : (b : Bool) → found (find_param (length xs) p name) p other ≡ means_or (find name xs) other
-        → found (if b then suc (length xs) else find_param (length xs) p name) p other ≡ means_or ((definition.if◌then◌else◌ b (some x.1) none) or (find name xs)) other
+        → found (when b then suc (length xs) else find_param (length xs) p name) p other ≡ means_or ((definition.when◌then◌else◌ b (some x.1) none) or (find name xs)) other
     go true q =
         let i : ltb 0 (suc (length xs)) ≡ true = lt-ltb 0 (suc (length xs)) (omega arith) in
         let j : suc (length xs) - 1 ≡ length xs = omega arith in
@@ -80,12 +80,12 @@ unfolding find first base_opens
 find-each P n [] a h q = let z : ◌≡◌ {A = ℕ} 0 1 = cc in absurd (omega arith)
 find-each {A} P n (x ∷ xs) a h q = go (eqb n x.0) (find-each P n xs a h.1) q
   where
-    go : (b : Bool) → (find n xs ≡ some a → P a) → (definition.if◌then◌else◌ b (some x.1) none) or (find n xs) ≡ some a → P a
+    go : (b : Bool) → (find n xs ≡ some a → P a) → (definition.when◌then◌else◌ b (some x.1) none) or (find n xs) ≡ some a → P a
     go true f q = let r : x.1 ≡ a = cc in subst P r h.0
     go false f q = f q
 
 word_parts : (k i : ℕ) → k < 8 → symbol_of (1 + k + 8 * i) ≡ of_kind k i
-unfolding symbol_of if◌then◌else◌
+unfolding symbol_of when◌then◌else◌
 word_parts k i h =
     let z : 1 + k + 8 * i - 1 ≡ k + 8 * i = omega arith in
     let a : (k + 8 * i) % 8 ≡ k = omega arith in
@@ -94,14 +94,14 @@ word_parts k i h =
 
 symbol_is : (y : Option Symbol) → symbol_of (symbol_word y) ≡ enc_symbol y
 unfolding symbol_word enc_symbol
-symbol_is none = unfold symbol_of if◌then◌else◌ in refl
-symbol_is (some (Symbol.Space i x)) = word_parts 0 i (omega arith) ∙ (unfold of_kind if◌then◌else◌ in refl)
-symbol_is (some (Symbol.Register i x)) = word_parts 1 i (omega arith) ∙ (unfold of_kind if◌then◌else◌ in refl)
-symbol_is (some (Symbol.BitRange i x)) = word_parts 2 i (omega arith) ∙ (unfold of_kind if◌then◌else◌ in refl)
-symbol_is (some (Symbol.Table i x)) = word_parts 3 i (omega arith) ∙ (unfold of_kind if◌then◌else◌ in refl)
-symbol_is (some (Symbol.UserOp i)) = word_parts 4 i (omega arith) ∙ (unfold of_kind if◌then◌else◌ in refl)
-symbol_is (some (Symbol.Macro i x)) = word_parts 5 i (omega arith) ∙ (unfold of_kind if◌then◌else◌ in refl)
-symbol_is (some (Symbol.Other i)) = word_parts 6 i (omega arith) ∙ (unfold of_kind if◌then◌else◌ in refl)
+symbol_is none = unfold symbol_of when◌then◌else◌ in refl
+symbol_is (some (Symbol.Space i x)) = word_parts 0 i (omega arith) ∙ (unfold of_kind when◌then◌else◌ in refl)
+symbol_is (some (Symbol.Register i x)) = word_parts 1 i (omega arith) ∙ (unfold of_kind when◌then◌else◌ in refl)
+symbol_is (some (Symbol.BitRange i x)) = word_parts 2 i (omega arith) ∙ (unfold of_kind when◌then◌else◌ in refl)
+symbol_is (some (Symbol.Table i x)) = word_parts 3 i (omega arith) ∙ (unfold of_kind when◌then◌else◌ in refl)
+symbol_is (some (Symbol.UserOp i)) = word_parts 4 i (omega arith) ∙ (unfold of_kind when◌then◌else◌ in refl)
+symbol_is (some (Symbol.Macro i x)) = word_parts 5 i (omega arith) ∙ (unfold of_kind when◌then◌else◌ in refl)
+symbol_is (some (Symbol.Other i)) = word_parts 6 i (omega arith) ∙ (unfold of_kind when◌then◌else◌ in refl)
 
 module _ (s t : List ℕ) (sec : Section) (holds : Holds s t sec) where
   pub lookup_is : (name : ℕ) → name < 1024 → lookup t name ≡ enc_symbol (find name (globals sec))
@@ -138,7 +138,7 @@ module _ (s t : List ℕ) (sec : Section) (holds : Holds s t sec) where
 
 module _ (s t : List ℕ) (e : Env) (p : List ℕ) (we : WordEnv) (holds : Holds s t e.section) (st : State) (scoped : Scoped t p we st) (name : ℕ) (known : name < 1024) where
   inner_is : words.inner_meaning s t p we name
-      ≡ enc_m (meaning_of e.section ((definition.if◌then◌else◌ (eqb name e.section.header.inst_next) (some (ExprValue.Local (local Kind.InstNext 0))) none) or (definition.if◌then◌else◌ (eqb name e.section.header.inst_start) (some (ExprValue.Local (local Kind.InstStart 0))) none)
+      ≡ enc_m (meaning_of e.section ((definition.when◌then◌else◌ (eqb name e.section.header.inst_next) (some (ExprValue.Local (local Kind.InstNext 0))) none) or (definition.when◌then◌else◌ (eqb name e.section.header.inst_start) (some (ExprValue.Local (local Kind.InstStart 0))) none)
       or (and_then (find name st.scope.mapping) λ v. some (ExprValue.Local v))) name)
   unfolding words.inner_meaning
   inner_is =
@@ -146,12 +146,12 @@ module _ (s t : List ℕ) (e : Env) (p : List ℕ) (we : WordEnv) (holds : Holds
       (go (eqb name e.section.header.inst_next) (eqb name e.section.header.inst_start) (find name st.scope.mapping))
     where
       go : (a b : Bool) (v : Option Value)
-          → (if a then WordMeaning.Means (WordExpr.Local (record { kind = 1; number = 0; offset = 0; size = 65535 })) else if b then WordMeaning.Means (WordExpr.Local (record { kind = 0; number = 0; offset = 0; size = 65535 })) else found_or (enc_f v) (words.global_meaning s t (enc_symbol (find name (globals e.section)))))
-          ≡ enc_m (meaning_of e.section ((definition.if◌then◌else◌ a (some (ExprValue.Local (local Kind.InstNext 0))) none) or (definition.if◌then◌else◌ b (some (ExprValue.Local (local Kind.InstStart 0))) none) or (and_then v λ v. some (ExprValue.Local v))) name)
-      go true b v = unfold if◌then◌else◌ base_opens meaning_of enc_m enc_x kind_number or_none or_else in refl
-      go false true v = unfold if◌then◌else◌ base_opens meaning_of enc_m enc_x kind_number or_none or_else in refl
-      go false false (some v) = unfold if◌then◌else◌ base_opens meaning_of enc_m enc_x found_or enc_f in refl
-      go false false none = unfold if◌then◌else◌ base_opens meaning_of found_or enc_f in global_means s t e.section holds (find name (globals e.section)) (found_placed e.section name _ refl)
+          → (when a then WordMeaning.Means (WordExpr.Local (record { kind = 1; number = 0; offset = 0; size = 65535 })) else when b then WordMeaning.Means (WordExpr.Local (record { kind = 0; number = 0; offset = 0; size = 65535 })) else found_or (enc_f v) (words.global_meaning s t (enc_symbol (find name (globals e.section)))))
+          ≡ enc_m (meaning_of e.section ((definition.when◌then◌else◌ a (some (ExprValue.Local (local Kind.InstNext 0))) none) or (definition.when◌then◌else◌ b (some (ExprValue.Local (local Kind.InstStart 0))) none) or (and_then v λ v. some (ExprValue.Local v))) name)
+      go true b v = unfold when◌then◌else◌ base_opens meaning_of enc_m enc_x kind_number or_none or_else in refl
+      go false true v = unfold when◌then◌else◌ base_opens meaning_of enc_m enc_x kind_number or_none or_else in refl
+      go false false (some v) = unfold when◌then◌else◌ base_opens meaning_of enc_m enc_x found_or enc_f in refl
+      go false false none = unfold when◌then◌else◌ base_opens meaning_of found_or enc_f in global_means s t e.section holds (find name (globals e.section)) (found_placed e.section name _ refl)
 
   pub ident_is : words.resolve_ident s t p we name ≡ enc_m (meaning_of e.section (inner_meaning e.section st.scope name) name)
   unfolding words.resolve_ident param_or found inner_meaning words.inner_meaning
@@ -160,7 +160,7 @@ module _ (s t : List ℕ) (e : Env) (p : List ℕ) (we : WordEnv) (holds : Holds
       (param_is st.scope.params p name _ scoped.params ∙ go (find name st.scope.params))
     where
       go : (x : Option ExprValue) → means_or x (words.inner_meaning s t p we name)
-          ≡ enc_m (meaning_of e.section (x or (definition.if◌then◌else◌ (eqb name e.section.header.inst_next) (some (ExprValue.Local (local Kind.InstNext 0))) none) or (definition.if◌then◌else◌ (eqb name e.section.header.inst_start) (some (ExprValue.Local (local Kind.InstStart 0))) none)
+          ≡ enc_m (meaning_of e.section (x or (definition.when◌then◌else◌ (eqb name e.section.header.inst_next) (some (ExprValue.Local (local Kind.InstNext 0))) none) or (definition.when◌then◌else◌ (eqb name e.section.header.inst_start) (some (ExprValue.Local (local Kind.InstStart 0))) none)
           or (and_then (find name st.scope.mapping) λ v. some (ExprValue.Local v))) name)
       go (some x) = unfold means_or ◌or◌ meaning_of enc_m in refl
       go none = unfold means_or ◌or◌ in inner_is
@@ -182,7 +182,7 @@ module _ (sec : Section) (tail rest : List ℕ) (spare : ℕ) (st : State) (name
   meaning-sound = go (find name st.scope.params) refl (eqb name sec.header.inst_next) (eqb name sec.header.inst_start) (find name st.scope.mapping) refl
     where
       go : (x : Option ExprValue) → find name st.scope.params ≡ x → (a b : Bool) (v : Option Value) → find name st.scope.mapping ≡ v
-          → SoundM sec (count st) (meaning_of sec (x or (definition.if◌then◌else◌ a (some (ExprValue.Local (local Kind.InstNext 0))) none) or (definition.if◌then◌else◌ b (some (ExprValue.Local (local Kind.InstStart 0))) none) or (and_then v λ v. some (ExprValue.Local v))) name)
+          → SoundM sec (count st) (meaning_of sec (x or (definition.when◌then◌else◌ a (some (ExprValue.Local (local Kind.InstNext 0))) none) or (definition.when◌then◌else◌ b (some (ExprValue.Local (local Kind.InstStart 0))) none) or (and_then v λ v. some (ExprValue.Local v))) name)
       go (some x) h a b v k = unfold base_opens meaning_of in find-each (SoundX sec (count st)) name st.scope.params x stood.params h
       go none h true b v k = unfold base_opens meaning_of in record { number = tt; offset = omega arith; size = omega arith }
       go none h false true v k = unfold base_opens meaning_of in record { number = tt; offset = omega arith; size = omega arith }

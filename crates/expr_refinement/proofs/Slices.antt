@@ -7,7 +7,7 @@ use mathlib.Core.Option.{Option, none, some}
 use native.Mathlib.Omega.{arith}
 use lib.Dec.{leb, ltb}
 use borrow.Author.Tests.{ltb-true, ltb-false, leb-true, leb-false, le-leb, lt-leb, lt-ltb, le-ltb, ne_eqb}
-use Rattle.prelude.specs.Base.{or_else, is_some, if◌then◌else◌}
+use Rattle.prelude.specs.Base.{or_else, is_some, when◌then◌else◌}
 use Rattle.definition.specs.Refusals.{refusal_number, slice_past_end, shift_too_far}
 use Rattle.definition.specs.Value.{Value}
 use Rattle.definition.specs.Walk.{ExprValue, State, Env, Outcome, done}
@@ -39,7 +39,7 @@ pub less : (a b : ℕ) → ltb a b ≡ true → leb b a ≡ false
 less a b h = lt-leb b a (ltb-true a b h)
 
 const-bytes : (z : Option ℕ) → Small z → const_bytes (or_none z) ≡ or_else 8 z
-unfolding const_bytes or_none or_else if◌then◌else◌
+unfolding const_bytes or_none or_else when◌then◌else◌
 const-bytes none h = refl
 const-bytes (some n) h = rw (ne_eqb n 65535 (λ q. omega arith)) (omega arith)
 

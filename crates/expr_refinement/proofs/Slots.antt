@@ -14,7 +14,7 @@ use Rattle.definition.proofs.EveryOperation.{alike}
 use Rattle.definition.specs.Value.{Value}
 use Rattle.definition.specs.Ast.{Section}
 use Rattle.definition.specs.Walk.{ExprValue}
-use Rattle.prelude.specs.Base.{if◌then◌else◌}
+use Rattle.prelude.specs.Base.{when◌then◌else◌}
 use Rattle.definition.proofs.Openers.{operations_opens}
 use Rattle.list_values.specs.Values.{absent, word, value_of, value_at, put_value}
 use Rattle.list_refinement.specs.Encoding.{enc_v, Sound, Each, first_of, second_of}
@@ -123,7 +123,7 @@ high_part a b h = omega arith
 
 -- a slot gives back what was put into it
 slot_back : (sec : Section) (n : ℕ) (x : ExprValue) → SoundX sec n x → of_slot (read_as (slot_of (enc_x x))) ≡ enc_x x
-unfolding of_slot read_as slot_of enc_x of_parts if◌then◌else◌
+unfolding of_slot read_as slot_of enc_x of_parts when◌then◌else◌
 slot_back sec n (ExprValue.Local v) h = rw (value_again v h)
 slot_back sec n (ExprValue.Unbound v) h = rw (value_again v h)
 slot_back sec n (ExprValue.Const c z) h = refl

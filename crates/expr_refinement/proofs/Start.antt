@@ -9,7 +9,7 @@ use lib.ListN.{get_or, replicate}
 use lib.Dec.{eqb}
 use borrow.Author.Tests.{ne_eqb}
 use Rattle.prelude.specs.Base as definition
-use Rattle.prelude.specs.Base.{◌or◌, and_then, first, position, if◌then◌else◌}
+use Rattle.prelude.specs.Base.{◌or◌, and_then, first, position, when◌then◌else◌}
 use Rattle.definition.specs.Value.{Kind, kind_number, local}
 use Rattle.definition.specs.Ast.{Field, Subtable, Section}
 use Rattle.definition.specs.Scope.{find, locals, section_scope}
@@ -41,13 +41,13 @@ unfolding small
 none_small n i = rw (zero_word_lem n (64 + i / 6)) (zero_place (i % 6) (omega arith))
 
 pub none_local : (name : ℕ) → tmp_local (replicate 406 0) name ≡ Found.Nothing
-unfolding tmp_local tmp_of if◌then◌else◌
+unfolding tmp_local tmp_of when◌then◌else◌
 none_local name = rw (none_small 406 (name % 1024))
 
 pub find_append : {A : Type 0} (n : ℕ) (xs ys : List (ℕ × A)) → find n (xs ++ ys) ≡ find n xs or find n ys
 unfolding find first ◌or◌
 find_append n [] ys = refl
-find_append {A} n (x ∷ xs) ys = go (definition.if◌then◌else◌ (eqb n x.0) (some x.1) none) (find_append n xs ys)
+find_append {A} n (x ∷ xs) ys = go (definition.when◌then◌else◌ (eqb n x.0) (some x.1) none) (find_append n xs ys)
   where
     go : (o : Option A) → find n (xs ++ ys) ≡ find n xs or find n ys → o or find n (xs ++ ys) ≡ (o or find n xs) or find n ys
     go (some a) h = refl
@@ -59,12 +59,12 @@ find-locals k n i [] = refl
 find-locals k n i (x ∷ xs) = go (eqb n x) (find-locals k n (suc i) xs)
   where
     go : (b : Bool) → find n (locals k (suc i) xs) ≡ and_then (position (eqb n) (suc i) xs) (λ j. some (local k j))
-        → (definition.if◌then◌else◌ b (some (local k i)) none) or find n (locals k (suc i) xs) ≡ and_then (definition.if◌then◌else◌ b (some i) (position (eqb n) (suc i) xs)) (λ j. some (local k j))
+        → (definition.when◌then◌else◌ b (some (local k i)) none) or find n (locals k (suc i) xs) ≡ and_then (definition.when◌then◌else◌ b (some i) (position (eqb n) (suc i) xs)) (λ j. some (local k j))
     go true h = refl
     go false h = h
 
 own_word : (a b : Option ℕ) → own_of (local_word a b) ≡ enc_f (and_then a (λ j. some (local Kind.Field j)) or and_then b (λ j. some (local Kind.Subtable j)))
-unfolding own_of local_word if◌then◌else◌ enc_f base_opens kind_number or_none
+unfolding own_of local_word when◌then◌else◌ enc_f base_opens kind_number or_none
 own_word (some i) b =
     let p : (1 + 2 * i) % 2 ≡ 1 = omega arith in
     let q : (1 + 2 * i) / 2 ≡ i = omega arith in
@@ -91,7 +91,7 @@ module _ (s t : List ℕ) (sec : Section) (holds : Holds s t sec) (name : ℕ) (
 
   -- no local is declared
   pub start_locals : lookup_local t (replicate 406 0) true name ≡ enc_f (find name (section_scope sec).mapping)
-  unfolding lookup_local if◌then◌else◌
+  unfolding lookup_local when◌then◌else◌
   start_locals = go (own_local t name) own_is
     where
       go : (x : Found) → x ≡ enc_f (find name (section_scope sec).mapping) → or_tmp x (replicate 406 0) name ≡ enc_f (find name (section_scope sec).mapping)

@@ -9,7 +9,7 @@ use Rattle.list_values.specs.declared.value.Value.{Value}
 use Rattle.list_pushes.specs.declared.push.State.{State}
 use Rattle.list_pushes.specs.declared.push.Env.{Env}
 use Rattle.list_pushes.specs.declared.push.Read.{Read}
-use Rattle.prelude.specs.Base.{if◌then◌else◌}
+use Rattle.prelude.specs.Base.{when◌then◌else◌}
 use Rattle.list_values.specs.Values.{absent, local}
 use Rattle.expr_scope.specs.declared.scope.ExprValue.{ExprValue}
 use Rattle.expr_scope.specs.declared.scope.Meaning.{Meaning}
@@ -55,37 +55,37 @@ address_of s t p pos e st = address_meant (resolve_ident s t p e (le16 s (pos + 
 -- a name, an integer or the address of a local
 unfoldable pub atom : ℕ → List ℕ → List ℕ → List ℕ → ℕ → Env → State → Expr
 atom code s t p pos e st =
-    if eqb code 0 then means_at (resolve_ident s t p e (le16 s (pos + 1))) (after pos 3) st
-    else if eqb code 1 then Expr.Value (after pos 9) (ExprValue.Const (le64 s (after pos 1)) 65535) st
+    when eqb code 0 then means_at (resolve_ident s t p e (le16 s (pos + 1))) (after pos 3) st
+    else when eqb code 1 then Expr.Value (after pos 9) (ExprValue.Const (le64 s (after pos 1)) 65535) st
     else address_of s t p pos e st
 
 -- what stands at a position as one number: that of a plain local, or 7 for an integer; less for what has to be resolved
 unfoldable pub plain_at : ℕ → List ℕ → List ℕ → List ℕ → ℕ → Env → ℕ
 plain_at deep s t p pos e =
-    if eqb deep 0 then 0
-    else if eqb (get_or s (pos + 0) 0) 0 then plain_local s t p e (le16 s (pos + 1))
-    else if eqb (get_or s (pos + 0) 0) 1 then 7
+    when eqb deep 0 then 0
+    else when eqb (get_or s (pos + 0) 0) 0 then plain_local s t p e (le16 s (pos + 1))
+    else when eqb (get_or s (pos + 0) 0) 1 then 7
     else 0
 
 -- the operand of such a number
 unfoldable pub plain_operand : ℕ → List ℕ → ℕ → State → Operand
 plain_operand q s pos st =
-    if ltb q 8 then Operand.Value (constant (le64 s (after pos 1))) (after pos 9) st
+    when ltb q 8 then Operand.Value (constant (le64 s (after pos 1))) (after pos 9) st
     else Operand.Value (local (q % 8) (q / 8 - 1)) (after pos 3) st
 
 -- the operation of an operator: the six greater ones are the lesser ones swapped
 unfoldable pub operation_of : ℕ → ℕ
 operation_of code =
-    if eqb code 33 then 12
-    else if eqb code 34 then 13
-    else if eqb code 35 then 10
-    else if eqb code 36 then 11
-    else if eqb code 37 then 20
-    else if eqb code 38 then 21
+    when eqb code 33 then 12
+    else when eqb code 34 then 13
+    else when eqb code 35 then 10
+    else when eqb code 36 then 11
+    else when eqb code 37 then 20
+    else when eqb code 38 then 21
     else code
 
 unfoldable pub later : ℕ → ℕ → ℕ
-later x y = if ltb x y then y else x
+later x y = when ltb x y then y else x
 
 -- where the expression at a position ends
 unfoldable pub skip_expr : List ℕ → ℕ → ℕ
@@ -95,7 +95,7 @@ abbrev pub order : ℕ → ℕ → ℕ → Order
 order op first second = record { op = op; first = first; second = second }
 
 unfoldable pub order_of : ℕ → ℕ → ℕ → Order
-order_of code first second = if ltb code 33 then order code first second else order (operation_of code) second first
+order_of code first second = when ltb code 33 then order code first second else order (operation_of code) second first
 
 -- the first operand ends where the operator's code stands
 unfoldable pub operands_around : List ℕ → ℕ → ℕ → Order
@@ -114,12 +114,12 @@ apply2 op v end (Operand.No n) = Expr.No n
 
 -- where the part of a truncation, a slice or a dereference stands, after its code
 unfoldable pub part_at : ℕ → ℕ
-part_at code = if eqb code 6 then 5 else 1
+part_at code = when eqb code 6 then 5 else 1
 
 unfoldable pub with_part : ℕ → List ℕ → List ℕ → List ℕ → List ℕ → ℕ → Env → ExprValue → ℕ → State → ExprOut
 with_part code s t a m pos e x next st =
-    if eqb code 3 then slice_bits s t a m e x 0 (8 * le16 s (next + 0)) (after next 2) st
-    else if eqb code 4 then slice_bits s t a m e x (le16 s (next + 0)) (le16 s (next + 2)) (after next 4) st
+    when eqb code 3 then slice_bits s t a m e x 0 (8 * le16 s (next + 0)) (after next 2) st
+    else when eqb code 4 then slice_bits s t a m e x (le16 s (next + 0)) (le16 s (next + 2)) (after next 4) st
     else resolve_address s t a m e (le16 s (pos + 1)) (le16 s (pos + 3)) x next st
 
 -- a walk over the expression at a position
@@ -158,7 +158,7 @@ second_of walk s t e op first =
 
 unfoldable pub call_inbuilt : Walk → List ℕ → List ℕ → Env → ℕ → ℕ → ℕ → List ℕ → List ℕ → State → ExprOut
 call_inbuilt walk s t e pos op count a m st =
-    if eqb count 2
+    when eqb count 2
     then second_of walk s t e op (expr_value walk s t e (after pos 4) a m st)
     else applied_to (expr_value walk s t e (after pos 4) a m st) (apply1 op)
 
@@ -189,10 +189,10 @@ resolve_call walk s t p e pos a m st =
 
 unfoldable pub by_code : Walk → ℕ → List ℕ → List ℕ → List ℕ → Env → ℕ → List ℕ → List ℕ → State → ExprOut
 by_code walk code s t p e pos a m st =
-    if ltb code 3 then resolved (atom code s t p pos e st) a m
-    else if eqb code 5 then resolve_op walk s t e pos a m st
-    else if ltb code 7 then part walk code s t e pos a m st
-    else if eqb code 7 then resolved (Expr.No 32) a m
+    when ltb code 3 then resolved (atom code s t p pos e st) a m
+    else when eqb code 5 then resolve_op walk s t e pos a m st
+    else when ltb code 7 then part walk code s t e pos a m st
+    else when eqb code 7 then resolved (Expr.No 32) a m
     else resolve_call walk s t p e pos a m st
 
 -- depth left, the stream, the section's table, the scope's list, the walk's own; a position, the two lists, the state

@@ -6,7 +6,7 @@ use Rattle.list_values.specs.declared.value.Value.{Value}
 use Rattle.list_pushes.specs.declared.push.State.{State}
 use Rattle.list_pushes.specs.declared.push.Env.{Env}
 use Rattle.list_pushes.specs.declared.push.Read.{Read}
-use Rattle.prelude.specs.Base.{if◌then◌else◌}
+use Rattle.prelude.specs.Base.{when◌then◌else◌}
 use Rattle.list_values.specs.Values.{local}
 use Rattle.list_values.specs.Sizes.{entry}
 use Rattle.list_pushes.specs.Pushes.{ReadOut, read, add_tmp, on_tmp}
@@ -21,7 +21,7 @@ use Rattle.expr_scope.specs.Symbols.{lookup}
 unfoldable pub find_param : ℕ → List ℕ → ℕ → ℕ
 find_param zero p name = 0
 find_param (suc i) p name =
-    if eqb (get_or p (param_place i + 0) 0) name then suc i else find_param i p name
+    when eqb (get_or p (param_place i + 0) 0) name then suc i else find_param i p name
 
 -- what a search for a local gives
 pub data Found : Type 0 where
@@ -31,8 +31,8 @@ pub data Found : Type 0 where
 -- a field is 1 + 2 × its number, a subtable 2 + 2 × its number
 unfoldable pub own_of : ℕ → Found
 own_of k =
-    if eqb k 0 then Found.Nothing
-    else if eqb (k % 2) 1 then Found.Is (local 3 (k / 2))
+    when eqb k 0 then Found.Nothing
+    else when eqb (k % 2) 1 then Found.Is (local 3 (k / 2))
     else Found.Is (local 4 (k / 2 - 1))
 
 unfoldable pub own_local : List ℕ → ℕ → Found
@@ -40,7 +40,7 @@ own_local t name = own_of (get_or t (2048 + name % 1024) 0)
 
 -- one more than the number of a temporary
 unfoldable pub tmp_of : ℕ → Found
-tmp_of k = if eqb k 0 then Found.Nothing else Found.Is (local 6 (k - 1))
+tmp_of k = when eqb k 0 then Found.Nothing else Found.Is (local 6 (k - 1))
 
 unfoldable pub tmp_local : List ℕ → ℕ → Found
 tmp_local p name = tmp_of (small p (name % 1024))
@@ -51,7 +51,7 @@ or_tmp Found.Nothing p name = tmp_local p name
 
 -- fields and subtables are the section's own
 unfoldable pub lookup_local : List ℕ → List ℕ → Bool → ℕ → Found
-lookup_local t p own name = if own then or_tmp (own_local t name) p name else tmp_local p name
+lookup_local t p own name = when own then or_tmp (own_local t name) p name else tmp_local p name
 
 -- what stands at an entry of the list of bit ranges
 unfoldable pub bits_at : List ℕ → ℕ → ExprValue
@@ -77,13 +77,13 @@ found_or Found.Nothing other = other
 -- inst_next, else inst_start, else a local, else a global
 unfoldable pub inner_meaning : List ℕ → List ℕ → List ℕ → Env → ℕ → Meaning
 inner_meaning s t p e name =
-    if eqb name (le16 s 28) then Meaning.Means (ExprValue.Local (local 1 0))
-    else if eqb name (le16 s 26) then Meaning.Means (ExprValue.Local (local 0 0))
+    when eqb name (le16 s 28) then Meaning.Means (ExprValue.Local (local 1 0))
+    else when eqb name (le16 s 26) then Meaning.Means (ExprValue.Local (local 0 0))
     else found_or (lookup_local t p e.own name) (global_meaning s t (lookup t name))
 
 -- parameter number i - 1, unless i is 0
 unfoldable pub param_or : ℕ → List ℕ → Meaning → Meaning
-param_or i p other = if ltb 0 i then Meaning.Means (of_slot (slot_at p (param_place (i - 1)))) else other
+param_or i p other = when ltb 0 i then Meaning.Means (of_slot (slot_at p (param_place (i - 1)))) else other
 
 unfoldable pub resolve_ident : List ℕ → List ℕ → List ℕ → Env → ℕ → Meaning
 resolve_ident s t p e name = param_or (find_param e.count p name) p (inner_meaning s t p e name)
@@ -109,17 +109,17 @@ plain_global (Symbol.Macro i) = 1
 plain_global (Symbol.Other i) = 1
 
 unfoldable pub plain_or : ℕ → ℕ → ℕ
-plain_or q other = if eqb q 0 then other else q
+plain_or q other = when eqb q 0 then other else q
 
 unfoldable pub plain_inner : List ℕ → List ℕ → List ℕ → Env → ℕ → ℕ
 plain_inner s t p e name =
-    if eqb name (le16 s 28) then plain 1 0
-    else if eqb name (le16 s 26) then plain 0 0
+    when eqb name (le16 s 28) then plain 1 0
+    else when eqb name (le16 s 26) then plain 0 0
     else plain_or (plain_found (lookup_local t p e.own name)) (plain_global (lookup t name))
 
 -- what a name means, where that is a plain local or wrong; 0 for a parameter
 unfoldable pub plain_local : List ℕ → List ℕ → List ℕ → Env → ℕ → ℕ
-plain_local s t p e name = if ltb 0 (find_param e.count p name) then 0 else plain_inner s t p e name
+plain_local s t p e name = when ltb 0 (find_param e.count p name) then 0 else plain_inner s t p e name
 
 -- 21 where there was one of this name, else the scope's words that declare it
 unfoldable pub undeclared : Found → Value → State → List ℕ → List ℕ → List ℕ → ReadOut

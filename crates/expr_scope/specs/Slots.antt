@@ -1,7 +1,7 @@
 -- An expression's value as a slot of eight words keeps it: its name, which constructor, two numbers, two values.
 use Rattle.std.specs.Prelude.{ℕ, ◌+◌, ◌*◌, ◌/◌, ◌%◌, List, get_or, set, eqb}
 use Rattle.list_values.specs.declared.value.Value.{Value}
-use Rattle.prelude.specs.Base.{if◌then◌else◌}
+use Rattle.prelude.specs.Base.{when◌then◌else◌}
 use Rattle.list_values.specs.Values.{absent, value_at, put_value}
 use Rattle.expr_scope.specs.declared.scope.ExprValue.{ExprValue}
 use Rattle.expr_scope.specs.declared.scope.Slot.{Slot}
@@ -24,13 +24,13 @@ slot_of (ExprValue.BitRange v from bits) = one_value 7 from bits v
 
 unfoldable pub of_parts : ℕ → ℕ → ℕ → Value → Value → ExprValue
 of_parts tag x y a b =
-    if eqb tag 0 then ExprValue.Local a
-    else if eqb tag 1 then ExprValue.Unbound a
-    else if eqb tag 2 then ExprValue.Const x y
-    else if eqb tag 3 then ExprValue.Apply (x % 256) y (x / 256) a b
-    else if eqb tag 4 then ExprValue.RamRef a x
-    else if eqb tag 5 then ExprValue.RegisterRef a x
-    else if eqb tag 6 then ExprValue.AddressOf a x
+    when eqb tag 0 then ExprValue.Local a
+    else when eqb tag 1 then ExprValue.Unbound a
+    else when eqb tag 2 then ExprValue.Const x y
+    else when eqb tag 3 then ExprValue.Apply (x % 256) y (x / 256) a b
+    else when eqb tag 4 then ExprValue.RamRef a x
+    else when eqb tag 5 then ExprValue.RegisterRef a x
+    else when eqb tag 6 then ExprValue.AddressOf a x
     else ExprValue.BitRange a x y
 
 unfoldable pub of_slot : Slot → ExprValue

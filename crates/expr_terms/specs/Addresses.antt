@@ -6,7 +6,7 @@ use Rattle.list_values.specs.declared.value.Value.{Value}
 use Rattle.list_pushes.specs.declared.push.State.{State}
 use Rattle.list_pushes.specs.declared.push.Env.{Env}
 use Rattle.list_pushes.specs.declared.push.Read.{Read}
-use Rattle.prelude.specs.Base.{if◌then◌else◌}
+use Rattle.prelude.specs.Base.{when◌then◌else◌}
 use Rattle.list_values.specs.Values.{with_size}
 use Rattle.list_values.specs.Sizes.{entry}
 use Rattle.expr_scope.specs.declared.scope.ExprValue.{ExprValue}
@@ -18,7 +18,7 @@ use Rattle.expr_reading.specs.Reading.{read_operand}
 use Rattle.expr_terms.specs.Answers.{ExprOut, resolved, expr_of}
 
 unfoldable pub or_size : ℕ → ℕ → ℕ
-or_size size other = if eqb size 65535 then other else size
+or_size size other = when eqb size 65535 then other else size
 
 unfoldable pub in_const_space : ExprValue → ℕ → ℕ → State → Expr
 in_const_space (ExprValue.Local v) size next st = Expr.Value next (ExprValue.Local (with_size (or_size size v.size) v)) st
@@ -48,16 +48,16 @@ unfoldable pub named_space : List ℕ → List ℕ → ℕ → Space
 named_space s t name = space_of s t (lookup t name)
 
 unfoldable pub default_space : List ℕ → List ℕ → ℕ → Space
-default_space s t i = if eqb i 65535 then Space.No 39 else kind_of_space s t i
+default_space s t i = when eqb i 65535 then Space.No 39 else kind_of_space s t i
 
 -- the named space, else the default one
 unfoldable pub resolve_space : List ℕ → List ℕ → ℕ → Space
-resolve_space s t name = if eqb name 65535 then default_space s t (le16 s 24) else named_space s t name
+resolve_space s t name = when eqb name 65535 then default_space s t (le16 s 24) else named_space s t name
 
 unfoldable pub reference_to : ℕ → ℕ → ℕ → Value → State → Expr
 reference_to kind size next v st =
-    if eqb kind 0 then Expr.Value next (ExprValue.RamRef v (or_size size 0)) st
-    else if eqb kind 1 then Expr.Value next (ExprValue.RegisterRef v (or_size size 0)) st
+    when eqb kind 0 then Expr.Value next (ExprValue.RamRef v (or_size size 0)) st
+    else when eqb kind 1 then Expr.Value next (ExprValue.RegisterRef v (or_size size 0)) st
     else Expr.No 40
 
 unfoldable pub reference : ℕ → ℕ → ℕ → Read → Expr
@@ -74,4 +74,4 @@ address_in s t a m e space size x next st = in_space (resolve_space s t space) s
 
 unfoldable pub resolve_address : List ℕ → List ℕ → List ℕ → List ℕ → Env → ℕ → ℕ → ExprValue → ℕ → State → ExprOut
 resolve_address s t a m e space size x next st =
-    if eqb space (le16 s 30) then resolved (in_const_space x size next st) a m else address_in s t a m e space size x next st
+    when eqb space (le16 s 30) then resolved (in_const_space x size next st) a m else address_in s t a m e space size x next st

@@ -4,7 +4,7 @@ use Rattle.std.specs.Prelude.{ℕ, ◌+◌, List, ltb}
 use Rattle.list_values.specs.declared.value.Value.{Value}
 use Rattle.list_pushes.specs.declared.push.State.{State}
 use Rattle.list_pushes.specs.declared.push.Read.{Read}
-use Rattle.prelude.specs.Base.{if◌then◌else◌}
+use Rattle.prelude.specs.Base.{when◌then◌else◌}
 use Rattle.list_pushes.specs.Pushes.{ReadOut, read}
 use Rattle.expr_scope.specs.declared.scope.ExprValue.{ExprValue}
 use Rattle.expr_terms.specs.declared.answers.Expr.{Expr}
@@ -48,4 +48,4 @@ applied_to (operand r a m) f = resolved (f r) a m
 
 -- a position so many bytes on
 unfoldable pub after : ℕ → ℕ → ℕ
-after pos n = if ltb pos 65536 then (if ltb n 65536 then pos + n else pos) else pos
+after pos n = when ltb pos 65536 then (when ltb n 65536 then pos + n else pos) else pos

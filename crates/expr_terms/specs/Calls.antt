@@ -10,7 +10,7 @@ use Rattle.list_pushes.specs.declared.push.State.{State}
 use Rattle.list_pushes.specs.declared.push.Env.{Env}
 use Rattle.list_pushes.specs.declared.push.Read.{Read}
 use Rattle.list_pushes.specs.declared.push.Pushed.{Pushed}
-use Rattle.prelude.specs.Base.{if◌then◌else◌}
+use Rattle.prelude.specs.Base.{when◌then◌else◌}
 use Rattle.list_values.specs.Values.{absent, no_output}
 use Rattle.list_pushes.specs.Pushes.{PushedOut, pushed, push_op, on_read, on_pushed}
 use Rattle.expr_scope.specs.declared.scope.ExprValue.{ExprValue}
@@ -37,8 +37,8 @@ symbol_called (Symbol.Other i) = Callee.Local
 
 unfoldable pub inbuilt_or : Inbuilt → Symbol → ℕ → Callee
 inbuilt_or f x n =
-    if eqb f.arguments 0 then symbol_called x
-    else if eqb f.arguments n then Callee.Inbuilt f.op
+    when eqb f.arguments 0 then symbol_called x
+    else when eqb f.arguments n then Callee.Inbuilt f.op
     else Callee.No 33
 
 -- the built-in spellings come before any symbol
@@ -76,25 +76,25 @@ user_op_two s t a m args id next v e st =
 unfoldable pub user_op_some : List ℕ → List ℕ → List ℕ → List ℕ → List ℕ → ℕ → ℕ → ℕ → Env → State → ExprOut
 user_op_some s t a m args n id next e st =
     on_read (read_operand s t a m e (arg_at args 0) st)
-    (λ v st1 b w. if ltb 1 n then user_op_two s t b w args id next v e st1 else resolved (applied 63 id 1 v absent next st1) b w)
+    (λ v st1 b w. when ltb 1 n then user_op_two s t b w args id next v e st1 else resolved (applied 63 id 1 v absent next st1) b w)
     (λ k b w. resolved (Expr.No k) b w)
 
 -- a user op of n arguments that are resolved
 unfoldable pub call_user_op : List ℕ → List ℕ → List ℕ → List ℕ → List ℕ → ℕ → ℕ → ℕ → Env → State → ExprOut
 call_user_op s t a m args n id next e st =
     on_pushed (pass_args s t a m args n e st)
-    (λ st1 b w. if eqb n 0 then resolved (applied 63 id 0 absent absent next st1) b w else user_op_some s t b w args n id next e st1)
+    (λ st1 b w. when eqb n 0 then resolved (applied 63 id 0 absent absent next st1) b w else user_op_some s t b w args n id next e st1)
     (λ k b w. resolved (Expr.No k) b w)
 
 -- the number that is the one argument of a call at a position, or 2^64 - 1
 unfoldable pub only_integer : List ℕ → ℕ → ℕ → ℕ
 only_integer s pos n =
-    if eqb n 1
-    then (if eqb (get_or s (pos + 4) 0) 1 then le64 s (after pos 5) else 18446744073709551615)
+    when eqb n 1
+    then (when eqb (get_or s (pos + 4) 0) 1 then le64 s (after pos 5) else 18446744073709551615)
     else 18446744073709551615
 
 unfoldable pub subpiece_from : ℕ → ℕ → Value → State → Expr
-subpiece_from offset next v st = if ltb 255 offset then Expr.No 35 else applied 66 offset 1 v absent next st
+subpiece_from offset next v st = when ltb 255 offset then Expr.No 35 else applied 66 offset 1 v absent next st
 
 unfoldable pub subpiece_of : List ℕ → ℕ → ℕ → Read → Expr
 subpiece_of s pos n (Read.Value v st) = subpiece_from (only_integer s pos n) (after pos 13) v st

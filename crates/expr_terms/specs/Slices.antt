@@ -5,7 +5,7 @@ use Rattle.list_values.specs.declared.value.Value.{Value}
 use Rattle.list_pushes.specs.declared.push.State.{State}
 use Rattle.list_pushes.specs.declared.push.Env.{Env}
 use Rattle.list_pushes.specs.declared.push.Read.{Read}
-use Rattle.prelude.specs.Base.{if◌then◌else◌}
+use Rattle.prelude.specs.Base.{when◌then◌else◌}
 use Rattle.list_values.specs.Values.{absent}
 use Rattle.list_pushes.specs.Pushes.{on_read}
 use Rattle.expr_scope.specs.declared.scope.ExprValue.{ExprValue}
@@ -29,17 +29,17 @@ slice_read s t a m e x from bits next st =
 
 -- a constant with no size has eight bytes
 unfoldable pub const_bytes : ℕ → ℕ
-const_bytes size = if eqb size 65535 then 8 else size % 65536
+const_bytes size = when eqb size 65535 then 8 else size % 65536
 
 unfoldable pub slice_const : ℕ → ℕ → ℕ → ℕ → ℕ → State → Expr
 slice_const value size from bits next st =
-    if ltb (8 * const_bytes size) (from % 65536 + bits % 65536) then Expr.No 36
-    else if leb 64 from then Expr.No 41
+    when ltb (8 * const_bytes size) (from % 65536 + bits % 65536) then Expr.No 36
+    else when leb 64 from then Expr.No 41
     else Expr.Value next (ExprValue.Const (low_bits value from bits) (needed_bytes bits)) st
 
 unfoldable pub slice_range : Value → ℕ → ℕ → ℕ → ℕ → ℕ → State → Expr
 slice_range v before whole from bits next st =
-    if ltb whole (from % 65536 + bits % 65536) then Expr.No 36
+    when ltb whole (from % 65536 + bits % 65536) then Expr.No 36
     else Expr.Value next (ExprValue.BitRange v (before % 65536 + from % 65536) bits) st
 
 unfoldable pub slice_bits : List ℕ → List ℕ → List ℕ → List ℕ → Env → ExprValue → ℕ → ℕ → ℕ → State → ExprOut

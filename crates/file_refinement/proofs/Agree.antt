@@ -11,7 +11,7 @@ use lib.ListN.{length, get_or, drop, drop_of_length-le}
 use lib.Seq.{drop-cons}
 use lib.Dec.{eqb, leb, ltb, leb-suc-suc}
 use borrow.Author.Tests.{eqb-true, leb-true, leb-false, ltb-true}
-use Rattle.prelude.specs.Base.{if◌then◌else◌, or_else}
+use Rattle.prelude.specs.Base.{when◌then◌else◌, or_else}
 use Rattle.definition.specs.Refusals.{Refusal, refusal_number, malformed, outside_limit, names_nothing}
 use Rattle.definition.specs.SectionFile.{Parsed, parsed, refused, on, Read, require, little_endian, up_to, naming, or_absent, pure}
 use Rattle.definition.specs.SectionFile as d
@@ -128,21 +128,21 @@ le_16 s p = let o : p + 1 ≡ suc p = omega arith in rw o (omega arith)
 
 -- a test of a number: passed, or refused with r
 abbrev pub Tests : (ℕ → Read ℕ) → ℕ → Refusal → Type 0
-Tests check lim r = (v : ℕ) (u : List ℕ) → check v u ≡ (if ltb v lim then parsed v u else refused r)
+Tests check lim r = (v : ℕ) (u : List ℕ) → check v u ≡ (when ltb v lim then parsed v u else refused r)
 
 pub up_to_lem : (limit : ℕ) → Tests (up_to limit) (suc limit) outside_limit
-unfolding up_to on if◌then◌else◌ require
+unfolding up_to on when◌then◌else◌ require
 up_to_lem limit v u = rw (leb-suc-suc v limit) (go (leb v limit))
   where
-    go : (b : Bool) → on (require b outside_limit u) (λ _ t. parsed v t) ≡ (if b then parsed v u else refused outside_limit)
+    go : (b : Bool) → on (require b outside_limit u) (λ _ t. parsed v t) ≡ (when b then parsed v u else refused outside_limit)
     go true = refl
     go false = refl
 
 pub naming-below : (count : ℕ) → Tests (naming count) count names_nothing
-unfolding naming on if◌then◌else◌ require
+unfolding naming on when◌then◌else◌ require
 naming-below count v u = go (ltb v count)
   where
-    go : (b : Bool) → on (require b names_nothing u) (λ _ t. parsed v t) ≡ (if b then parsed v u else refused names_nothing)
+    go : (b : Bool) → on (require b names_nothing u) (λ _ t. parsed v t) ≡ (when b then parsed v u else refused names_nothing)
     go true = refl
     go false = refl
 
@@ -154,16 +154,16 @@ pub record Number (s : List ℕ) (n p lim : ℕ) (a q v : ℕ) : Type 0 where
   pub below : a < lim
 
 pub stuck_number : (v : Cursor → ℕ) (n len : ℕ) (lim : Cursor → ℕ) (k : ℕ) → Stuck (λ c. number (v c) n len (lim c) k c)
-unfolding number if◌then◌else◌
+unfolding number when◌then◌else◌
 stuck_number v n len lim k = record { stays = λ c h. rw h }
 
 -- a number of n bytes that is tested
 pub number_agrees : (s : List ℕ) (n v p lim w : ℕ) (check : ℕ → Read ℕ) (r : Refusal) → Tests check lim r → v ≡ le n s p → p ≤ length s →
     Agrees s (Number s n p lim) (on (little_endian n (drop p s)) check) (number v n (length s) lim (refusal_number r) (cursor p 0 w))
-unfolding number if◌then◌else◌ on refusal_number
+unfolding number when◌then◌else◌ on refusal_number
 number_agrees s n v p lim w check r test e b = go (leb (p + n) (length s)) refl
   where
-    passed : (t : Bool) → ltb v lim ≡ t → leb (p + n) (length s) ≡ true → Agrees s (Number s n p lim) (on (little_endian n (drop p s)) check) (if leb (p + n) (length s) then (if ltb v lim then cursor (p + n) 0 v else cursor p (refusal_number r) 0) else cursor p 3 0)
+    passed : (t : Bool) → ltb v lim ≡ t → leb (p + n) (length s) ≡ true → Agrees s (Number s n p lim) (on (little_endian n (drop p s)) check) (when leb (p + n) (length s) then (when ltb v lim then cursor (p + n) 0 v else cursor p (refusal_number r) 0) else cursor p 3 0)
     passed true g h =
         let i : p + n ≤ length s = leb-true _ _ h in
         went v (p + n) v i (record { is = e; same = refl; next = refl; below = ltb-true v lim g })
@@ -172,7 +172,7 @@ number_agrees s n v p lim w check r test e b = go (leb (p + n) (length s)) refl
         let i : p + n ≤ length s = leb-true _ _ h in
         stopped r p (rw (le_at n s p i, test, ← e, g)) (rw (h, g))
 
-    go : (t : Bool) → leb (p + n) (length s) ≡ t → Agrees s (Number s n p lim) (on (little_endian n (drop p s)) check) (if leb (p + n) (length s) then (if ltb v lim then cursor (p + n) 0 v else cursor p (refusal_number r) 0) else cursor p 3 0)
+    go : (t : Bool) → leb (p + n) (length s) ≡ t → Agrees s (Number s n p lim) (on (little_endian n (drop p s)) check) (when leb (p + n) (length s) then (when ltb v lim then cursor (p + n) 0 v else cursor p (refusal_number r) 0) else cursor p 3 0)
     go true h = passed (ltb v lim) refl h
     go false h = stopped malformed p (rw (le_cut n s p b (leb-false _ _ h))) (rw h)
 
@@ -188,14 +188,14 @@ stuck_u16 s lim k = stuck_number (λ c. le16 s c.at) 2 (length s) (λ _. lim) k
 
 pub stuck_u16or : (s : List ℕ) (lim k : ℕ) → Stuck (u16or s lim k)
 unfolding u16or
-stuck_u16or s lim k = stuck_number (λ c. le16 s c.at) 2 (length s) (λ c. if eqb (le16 s c.at) 65535 then 65536 else lim) k
+stuck_u16or s lim k = stuck_number (λ c. le16 s c.at) 2 (length s) (λ c. when eqb (le16 s c.at) 65535 then 65536 else lim) k
 
 pub stuck_skip : (s : List ℕ) (n : ℕ) → Stuck (skip s n)
 unfolding skip
 stuck_skip s n = stuck_number (λ _. 0) n (length s) (λ _. 1) 0
 
 pub stuck_refuse : (k : ℕ) → Stuck (refuse k)
-unfolding refuse if◌then◌else◌
+unfolding refuse when◌then◌else◌
 stuck_refuse k = record { stays = λ c h. rw h }
 
 pub u16_agrees : (s : List ℕ) (lim p w : ℕ) (check : ℕ → Read ℕ) (r : Refusal) → Tests check lim r → p ≤ length s →
@@ -221,16 +221,16 @@ u8_agrees s lim p w check r test b = rw (← le_u8) (number_agrees s 1 (get_or s
 -- 65,535 where absent is allowed
 pub record NumberOr (s : List ℕ) (p lim : ℕ) (a : Option ℕ) (q v : ℕ) : Type 0 where
   pub is : or_else 65535 a ≡ le16 s p
-  pub absent : a ≡ (if eqb (le16 s p) 65535 then none else some (le16 s p))
+  pub absent : a ≡ (when eqb (le16 s p) 65535 then none else some (le16 s p))
   pub next : q ≡ p + 2
   pub below : (x : ℕ) → a ≡ some x → x < lim
 
 pub u16or_agrees : (s : List ℕ) (lim p w : ℕ) (check : ℕ → Read ℕ) (r : Refusal) → Tests check lim r → p ≤ length s →
     Agrees s (NumberOr s p lim) (on (little_endian 2 (drop p s)) (or_absent check)) (u16or s lim (refusal_number r) (cursor p 0 w))
-unfolding u16or number if◌then◌else◌ on or_absent refusal_number or_else
+unfolding u16or number when◌then◌else◌ on or_absent refusal_number or_else
 u16or_agrees s lim p w check r test b = go (leb (p + 2) (length s)) (eqb (le16 s p) 65535) (ltb (le16 s p) lim) refl refl refl
   where
-    go : (t u x : Bool) → leb (p + 2) (length s) ≡ t → eqb (le16 s p) 65535 ≡ u → ltb (le16 s p) lim ≡ x → Agrees s (NumberOr s p lim) (on (little_endian 2 (drop p s)) (or_absent check)) (number (le16 s p) 2 (length s) (if eqb (le16 s p) 65535 then 65536 else lim) (refusal_number r) (cursor p 0 w))
+    go : (t u x : Bool) → leb (p + 2) (length s) ≡ t → eqb (le16 s p) 65535 ≡ u → ltb (le16 s p) lim ≡ x → Agrees s (NumberOr s p lim) (on (little_endian 2 (drop p s)) (or_absent check)) (number (le16 s p) 2 (length s) (when eqb (le16 s p) 65535 then 65536 else lim) (refusal_number r) (cursor p 0 w))
     go false u x h g k = stopped malformed p (rw (le_cut 2 s p b (leb-false _ _ h))) (rw h)
     go true true x h g k =
         let i : p + 2 ≤ length s = leb-true _ _ h in
@@ -249,9 +249,9 @@ u16or_agrees s lim p w check r test b = go (leb (p + 2) (length s)) (eqb (le16 s
 -- n bytes passed over
 pub skip_agrees : (s : List ℕ) (n p w : ℕ) → p ≤ length s →
     Agrees s (λ a q v. (a ≡ le n s p) × (q ≡ p + n)) (little_endian n (drop p s)) (skip s n (cursor p 0 w))
-unfolding skip number if◌then◌else◌ refusal_number
+unfolding skip number when◌then◌else◌ refusal_number
 skip_agrees s n p w b = go (leb (p + n) (length s)) refl
   where
-    go : (t : Bool) → leb (p + n) (length s) ≡ t → Agrees s (λ a q v. (a ≡ le n s p) × (q ≡ p + n)) (little_endian n (drop p s)) (if leb (p + n) (length s) then cursor (p + n) 0 0 else cursor p 3 0)
+    go : (t : Bool) → leb (p + n) (length s) ≡ t → Agrees s (λ a q v. (a ≡ le n s p) × (q ≡ p + n)) (little_endian n (drop p s)) (when leb (p + n) (length s) then cursor (p + n) 0 0 else cursor p 3 0)
     go true h = let i : p + n ≤ length s = leb-true _ _ h in went (le n s p) (p + n) 0 i (refl, refl) (le_at n s p i) (rw h)
     go false h = stopped malformed p (le_cut n s p b (leb-false _ _ h)) (rw h)

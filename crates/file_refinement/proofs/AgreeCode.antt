@@ -8,7 +8,7 @@ use native.Mathlib.Omega.{arith}
 use lib.ListN.{length, get_or, drop, get_elem?}
 use lib.Dec.{leb, ltb}
 use borrow.Author.Tests.{ltb-true, ltb-false, leb-true, leb-false}
-use Rattle.prelude.specs.Base.{if◌then◌else◌}
+use Rattle.prelude.specs.Base.{when◌then◌else◌}
 use Rattle.definition.specs.Operations.{operators}
 use Rattle.definition.specs.Refusals.{refusal_number, malformed, outside_limit, names_nothing}
 use Rattle.definition.specs.Ast.{PcodeExpr, Args, no_args, arg, JumpLabel, BranchDst, BranchHint, Statement}
@@ -29,11 +29,11 @@ pub code_agrees : (s : List ℕ) {A : Type 0} (P : A → ℕ → ℕ → Type 0)
     ((b : ℕ) → n ≤ b → get_elem? alternatives b ≡ none) →
     ((b : ℕ) → b < n → b ≡ get_or s p 0 → suc p ≤ length s → Agrees s P (choose (get_elem? alternatives b) (drop (suc p) s)) (f (cursor (suc p) 0 b))) →
     Agrees s P (d.code alternatives (drop p s)) (f (u8 s n 3 (cursor p 0 v)))
-unfolding d.code on u8 number if◌then◌else◌ choose refusal_number
+unfolding d.code on u8 number when◌then◌else◌ choose refusal_number
 code_agrees s {A} P alternatives f n p v b st past k = go (leb (p + 1) (length s)) (ltb (get_or s p 0) n) refl refl
   where
     go : (t x : Bool) → leb (p + 1) (length s) ≡ t → ltb (get_or s p 0) n ≡ x →
-        Agrees s P (on (d.u8 (drop p s)) (λ b. choose (get_elem? alternatives b))) (f (if leb (p + 1) (length s) then (if ltb (get_or s p 0) n then cursor (p + 1) 0 (get_or s p 0) else cursor p 3 0) else cursor p 3 0))
+        Agrees s P (on (d.u8 (drop p s)) (λ b. choose (get_elem? alternatives b))) (f (when leb (p + 1) (length s) then (when ltb (get_or s p 0) n then cursor (p + 1) 0 (get_or s p 0) else cursor p 3 0) else cursor p 3 0))
     go false x h g =
         let i : length s < p + 1 = leb-false _ _ h in
         stopped malformed p (rw (u8_cut s p (omega arith))) (rw h (st.stays _ refl))
@@ -202,7 +202,7 @@ arm s m item f r (suc (suc (suc (suc (suc (suc (suc (suc zero)))))))) q h b = ca
 arm s m item f r (suc (suc (suc (suc (suc (suc (suc (suc (suc n))))))))) q h b = absurd (omega arith)
 
 refuse-four : (q v : ℕ) → w.refuse 4 (cursor q 0 v) ≡ cursor q (refusal_number outside_limit) 0
-unfolding w.refuse if◌then◌else◌ refusal_number
+unfolding w.refuse when◌then◌else◌ refusal_number
 refuse-four q v = refl
 
 deepest : (s : List ℕ) (l : List (Read PcodeExpr)) (b q : ℕ) → b < length l → (u : List ℕ) → choose (get_elem? (map (λ (_ : Read PcodeExpr). refuse {A = PcodeExpr} outside_limit) l) b) u ≡ refused outside_limit

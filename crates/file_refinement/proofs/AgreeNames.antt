@@ -10,7 +10,7 @@ use lib.ListN.{length, get_or, set, take, drop, get_elem?, length-set, length-dr
 use lib.Seq.{drop-cons, get_or-set_same, get_or-set_other, length-take-le}
 use lib.Dec.{eqb, leb, ltb}
 use borrow.Author.Tests.{eqb-true, eqb-false, eq-eqb, ne_eqb, ltb-true, ltb-false, leb-true, leb-false, lt-leb, le-leb}
-use Rattle.prelude.specs.Base.{if◌then◌else◌, any, same_numbers}
+use Rattle.prelude.specs.Base.{when◌then◌else◌, any, same_numbers}
 use Rattle.definition.specs.Refusals.{Refusal, refusal_number, malformed, outside_limit, names_nothing, spelled_twice}
 use Rattle.definition.specs.SectionFile.{Parsed, parsed, refused, on, Read, pure, require, little_endian, up_to, naming, or_absent, list_of}
 use Rattle.definition.specs.Ast.{Header}
@@ -166,13 +166,13 @@ same-agree (suc n) i s a b h k =
     rw (drop-cons s (a + i) 0 (omega arith), drop-cons s (b + i) 0 (omega arith), p, q, same-agree n (suc i) s a b (omega arith) (omega arith))
 
 longer : (xs ys : List ℕ) → (length xs ≡ length ys → ⊥) → same_numbers xs ys ≡ false
-unfolding same_numbers if◌then◌else◌
+unfolding same_numbers when◌then◌else◌
 longer [] [] h = absurd (h refl)
 longer [] (y ∷ ys) h = refl
 longer (x ∷ xs) [] h = refl
 longer (x ∷ xs) (y ∷ ys) h = go (eqb x y) (longer xs ys (λ e. h (ap suc e)))
   where
-    go : (t : Bool) → same_numbers xs ys ≡ false → (if t then same_numbers xs ys else false) ≡ false
+    go : (t : Bool) → same_numbers xs ys ≡ false → (when t then same_numbers xs ys else false) ≡ false
     go true e = e
     go false e = refl
 
@@ -183,7 +183,7 @@ high n x y = go (eqb x y) refl
     go true e = let z : x ≡ y = eqb-true _ _ e in rw (e, eq-eqb (n + 256 * x) (n + 256 * y) (ap (λ (k : ℕ). n + 256 * k) z))
     go false e = rw (e, ne_eqb (n + 256 * x) (n + 256 * y) (λ z. eqb-false x y e (omega arith)))
 
-agree_open : (s : List ℕ) (p q k : ℕ) → agree (suc k) 1 s p q ≡ (if eqb (get_or s (p + 1) 0) (get_or s (q + 1) 0) then agree k 2 s p q else false)
+agree_open : (s : List ℕ) (p q k : ℕ) → agree (suc k) 1 s p q ≡ (when eqb (get_or s (p + 1) 0) (get_or s (q + 1) 0) then agree k 2 s p q else false)
 unfolding agree
 agree_open s p q k = refl
 
@@ -196,7 +196,7 @@ alike_length s p q n h a b i j =
     let e : same_numbers (take n (drop (p + 1) s)) (take n (drop (q + 1) s)) ≡ agree n 1 s p q = same-agree n 1 s p q (omega arith) (omega arith) in
     rw (← a, ← b, high) (rw (op, oq) at e ∙ first n (n - 1) (omega arith))
   where
-    first : (n k : ℕ) → n ≡ suc k → agree n 1 s p q ≡ (if eqb (get_or s (p + 1) 0) (get_or s (q + 1) 0) then agree k 2 s p q else false)
+    first : (n k : ℕ) → n ≡ suc k → agree n 1 s p q ≡ (when eqb (get_or s (p + 1) 0) (get_or s (q + 1) 0) then agree k 2 s p q else false)
     first n k z = rw z (agree_open s p q k)
 
 alike_lengths : (s : List ℕ) (p q n m : ℕ) → n ≡ m → 1 ≤ n → n ≡ get_or s p 0 → m ≡ get_or s q 0 → suc p + n ≤ length s → suc q + m ≤ length s → same_numbers (take n (drop (suc p) s)) (take m (drop (suc q) s)) ≡ alike s p q
@@ -206,7 +206,7 @@ letters_there : (s : List ℕ) (p : ℕ) → suc p + get_or s p 0 ≤ length s �
 letters_there s p h = rw length-drop (omega arith)
 
 pub alike_same : (s : List ℕ) (p q : ℕ) → Named s p → Named s q → same_numbers (spelled_at s p) (spelled_at s q) ≡ alike s p q
-unfolding alike le16 if◌then◌else◌
+unfolding alike le16 when◌then◌else◌
 alike_same s p q a b = go (eqb (get_or s p 0) (get_or s q 0)) refl
   where
     go : (t : Bool) → eqb (get_or s p 0) (get_or s q 0) ≡ t → same_numbers (spelled_at s p) (spelled_at s q) ≡ alike s p q
@@ -244,7 +244,7 @@ pub record Spelt (s : List ℕ) (p : ℕ) (a : List ℕ) (q v : ℕ) : Type 0 wh
 
 spelling-last : (s t : List ℕ) (i p v : ℕ) (x : Bool) → Named s p → ((j : ℕ) → j < i → Named s (get_or t j 0)) → leb (p + 1) (length s) ≡ true → eqb (get_or s p 0) 0 ≡ false → ltb (get_or s p 0) 25 ≡ true → leb (p + 1 + get_or s p 0) (length s) ≡ true → known s t p i ≡ x →
     Agrees s (Spelt s p) (d.spelling (taken_of s t i) (drop p s)) (spelling s t i (cursor p 0 v))
-unfolding d.spelling spelling letters u8 skip number w.refuse if◌then◌else◌ on require refusal_number
+unfolding d.spelling spelling letters u8 skip number w.refuse when◌then◌else◌ on require refusal_number
 spelling-last s t i p v true a n e1 e2 e3 e4 e5 =
     let f = a.few in
     let h = a.inside in
@@ -258,7 +258,7 @@ spelling-last s t i p v false a n e1 e2 e3 e4 e5 =
     (rw (u8_at s p (omega arith), le-leb 1 (get_or s p 0) a.some, le-leb (get_or s p 0) 24 f, bytes_at (get_or s p 0) s (suc p) h, known_any s t p i a n, e5)) (rw (e1, e3, e2, e4, e5, o))
 
 pub spelling_agrees : (s t : List ℕ) (i p v : ℕ) → p ≤ length s → ((j : ℕ) → j < i → Named s (get_or t j 0)) → Agrees s (Spelt s p) (d.spelling (taken_of s t i) (drop p s)) (spelling s t i (cursor p 0 v))
-unfolding d.spelling spelling letters u8 skip number w.refuse if◌then◌else◌ on require refusal_number
+unfolding d.spelling spelling letters u8 skip number w.refuse when◌then◌else◌ on require refusal_number
 spelling_agrees s t i p v b n = go (leb (p + 1) (length s)) (eqb (get_or s p 0) 0) (ltb (get_or s p 0) 25) (leb (p + 1 + get_or s p 0) (length s)) (known s t p i) refl refl refl refl refl
   where
     go : (x1 x2 x3 x4 x5 : Bool) → leb (p + 1) (length s) ≡ x1 → eqb (get_or s p 0) 0 ≡ x2 → ltb (get_or s p 0) 25 ≡ x3 → leb (p + 1 + get_or s p 0) (length s) ≡ x4 → known s t p i ≡ x5 →
@@ -302,7 +302,7 @@ pub place-fits : (s : List ℕ) (p : ℕ) → length s < 65536 → p ≤ length 
 place-fits s p h b = omega arith
 
 stuck_spelling : (s t : List ℕ) (i : ℕ) → Stuck (spelling s t i)
-unfolding spelling if◌then◌else◌
+unfolding spelling when◌then◌else◌
 stuck_spelling s t i = record { stays = λ c h. let e = (stuck_u8 s 25 4).stays c h in rw (e, h) }
 
 pub stays_name : (s : List ℕ) (i : ℕ) → Stays (name_at s i)

@@ -8,7 +8,7 @@ use lib.ListN.{length, get_or, set, drop, length-set, drop_of_length-le}
 use lib.Seq.{drop-cons, get_or-set_other}
 use lib.Dec.{eqb}
 use borrow.Author.Tests.{eqb-true, eqb-false, eq-eqb, ne_eqb}
-use Rattle.prelude.specs.Base.{if◌then◌else◌, all}
+use Rattle.prelude.specs.Base.{when◌then◌else◌, all}
 use Rattle.definition.specs.Refusals.{refusal_number, malformed}
 use Rattle.definition.specs.Ast.{Space, Register, BitRange, Table, Macro, Field, Subtable, Statement, Section}
 use Rattle.definition.specs.SectionFile.{on, pure, require, list_of, nothing_left}
@@ -43,22 +43,22 @@ zeros_all zero q s e = rw (drop_of_length-le s {i = q} (omega arith))
 zeros_all (suc n) q s e = rw (drop-cons s q 0 (omega arith), eqb_sym (get_or s q 0) 0, zeros_all n (suc q) s (omega arith))
 
 stuck_tail : (s : List ℕ) → Stuck (tail s)
-unfolding tail if◌then◌else◌
+unfolding tail when◌then◌else◌
 stuck_tail s = record { stays = λ c h. go c h (zeros (length s - c.at) c.at s) }
   where
-    go : (c : Cursor) → eqb c.bad 0 ≡ false → (b : Bool) → (if b then c else refuse 3 c) ≡ c
+    go : (c : Cursor) → eqb c.bad 0 ≡ false → (b : Bool) → (when b then c else refuse 3 c) ≡ c
     go c h true = refl
     go c h false = (stuck_refuse 3).stays c h
 
 refuse_three : (q v : ℕ) → refuse 3 (cursor q 0 v) ≡ cursor q (refusal_number malformed) 0
-unfolding refuse if◌then◌else◌ refusal_number
+unfolding refuse when◌then◌else◌ refusal_number
 refuse_three q v = refl
 
 pub tail_agrees : (s : List ℕ) (q v : ℕ) → q ≤ length s → Agrees s Any (nothing_left (drop q s)) (tail s (cursor q 0 v))
-unfolding nothing_left tail if◌then◌else◌ require
+unfolding nothing_left tail when◌then◌else◌ require
 tail_agrees s q v b = rw (zeros_all (length s - q) q s refl) (go (all (eqb 0) (drop q s)))
   where
-    go : (x : Bool) → Agrees s Any (require x malformed (drop q s)) (if x then cursor q 0 v else refuse 3 (cursor q 0 v))
+    go : (x : Bool) → Agrees s Any (require x malformed (drop q s)) (when x then cursor q 0 v else refuse 3 (cursor q 0 v))
     go true = went tt q v b tt refl refl
     go false = stopped malformed q refl (refuse_three q v)
 

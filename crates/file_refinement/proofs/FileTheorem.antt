@@ -10,7 +10,7 @@ use lib.ListN.{length, get_or, take, drop, replicate, length-append, length-drop
 use lib.Seq.{take-take, take_at, length-take-le}
 use lib.Dec.{eqb, leb, ltb}
 use borrow.Author.Tests.{leb-true, ltb-true, ltb-false}
-use Rattle.prelude.specs.Base.{if◌then◌else◌}
+use Rattle.prelude.specs.Base.{when◌then◌else◌}
 use Rattle.definition.specs.Refusals.{Refusal, refusal_number, bad_length, block_check}
 use Rattle.definition.specs.Ast.{Section}
 use Rattle.definition.specs.SectionFile.{Parsed, parsed, refused, on, pure, require, checks_out, bytes, payloads, whole_blocks, stream_of}
@@ -100,15 +100,15 @@ one_block file h = rw (h, append-nil)
 -- the code's three steps: the checks, the payloads joined, the reading of the stream
 unfoldable pub file_refusal : List ℕ → ℕ
 file_refusal file =
-    if eqb (refusal_of (stream_of file)) 0
+    when eqb (refusal_of (stream_of file)) 0
     then (read_stream (joined (length file / 512) file) no_table).refusal
     else refusal_of (stream_of file)
 
 pub file-refusal : (file : List ℕ) → file_refusal file ≡ refusal_of (d.read file)
-unfolding file_refusal d.read refusal_of if◌then◌else◌ on
+unfolding file_refusal d.read refusal_of when◌then◌else◌ on
 file-refusal file = go (stream_of file) refl
   where
-    go : (p : Parsed (List ℕ)) → stream_of file ≡ p → (if eqb (refusal_of p) 0 then (read_stream (joined (length file / 512) file) no_table).refusal else refusal_of p) ≡ refusal_of (on p (λ stream _. d.read_section stream))
+    go : (p : Parsed (List ℕ)) → stream_of file ≡ p → (when eqb (refusal_of p) 0 then (read_stream (joined (length file / 512) file) no_table).refusal else refusal_of p) ≡ refusal_of (on p (λ stream _. d.read_section stream))
     go (parsed x rest) e =
         let f = file_stream file x rest e in
         let l : length x < 65536 = (let m = f.1 in omega arith) in

@@ -7,7 +7,7 @@ use Prim.Native.Nat.{ℕ, zero, suc, ◌+◌, ◌≤◌, ◌<◌}
 use native.Mathlib.Omega.{arith}
 use lib.ListN.{length, length-drop, drop, get_elem?}
 use lib.Dec.{eqb}
-use Rattle.prelude.specs.Base.{if◌then◌else◌}
+use Rattle.prelude.specs.Base.{when◌then◌else◌}
 use Rattle.definition.specs.Refusals.{Refusal, malformed, outside_limit}
 use Rattle.definition.specs.Ast.{PcodeExpr, Args, no_args, Statement}
 use Rattle.definition.specs.SectionFile.{Parsed, parsed, refused, on, Read, ◌>>=◌, ◌>>◌, pure, refuse, require, u8, little_endian, up_to, naming, or_absent, choose, code, one_of, list_of, args_of}
@@ -73,10 +73,10 @@ unfolding naming
 naming_takes count v = then_takes 0 _ _ (require_takes _ _) (pure_takes v)
 
 absent_takes : (check : ℕ → Read ℕ) (v : ℕ) → ((w : ℕ) → Takes 0 (check w)) → Takes 0 (or_absent check v)
-unfolding or_absent if◌then◌else◌
+unfolding or_absent when◌then◌else◌
 absent_takes check v p = go (eqb v 65535)
   where
-    go : (b : Bool) → Takes 0 (if b then pure none else (check v >>= (λ w. pure (some w))))
+    go : (b : Bool) → Takes 0 (when b then pure none else (check v >>= (λ w. pure (some w))))
     go true = pure_takes none
     go false = bind_takes 0 (check v) _ (p v) (λ w. pure_takes (some w))
 

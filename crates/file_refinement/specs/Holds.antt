@@ -2,7 +2,7 @@
 use Rattle.std.specs.Prelude.{ℕ, suc, ◌+◌, ◌*◌, ◌≤◌, ◌<◌, ◌≡◌, List, [], ◌∷◌, map, length, get_or, take, drop, eqb}
 use Rattle.std.proofs.Math.Option.{Option, none, some}
 use Rattle.std.proofs.Math.ListN.{get_elem?}
-use Rattle.prelude.specs.Base.{if◌then◌else◌, position}
+use Rattle.prelude.specs.Base.{when◌then◌else◌, position}
 use Rattle.definition.specs.Ast.{SpaceKind, Space, Register, BitRange, Table, Macro, Field, Subtable, Statement, Section}
 use Rattle.definition.specs.SectionFile.{parsed, list_of}
 use Rattle.definition.specs.SectionFile as d
@@ -11,7 +11,7 @@ use Rattle.access.specs.Le.{le16}
 
 -- a u16 at p, 65,535 where absent
 abbrev pub absent_at : List ℕ → ℕ → Option ℕ
-absent_at s p = if eqb (le16 s p) 65535 then none else some (le16 s p)
+absent_at s p = when eqb (le16 s p) 65535 then none else some (le16 s p)
 
 -- the counts are within their limits, and the names name something
 pub record Limits (s : List ℕ) : Type 0 where

@@ -1,7 +1,7 @@
 -- Chains of the names whose spellings have the same hash. A list of 1,280 numbers keeps them: at j, 1 + the name before
 -- name j on its chain, and at 1,024 + h, 1 + the last name whose hash is h; 0 for none.
 use Rattle.std.specs.Prelude.{ℕ, zero, suc, ◌+◌, ◌-◌, ◌*◌, ◌/◌, ◌%◌, ◌<◌, ◌≡◌, ◌||◌, List, length, get_or, set, eqb, ltb}
-use Rattle.prelude.specs.Base.{if◌then◌else◌}
+use Rattle.prelude.specs.Base.{when◌then◌else◌}
 use Rattle.access.specs.Le.{le16}
 
 -- the four bytes up to the last letter of the name of l letters at p
@@ -13,7 +13,7 @@ last_four s p l =
 -- its length, first letter and last letter
 unfoldable pub key : List ℕ → ℕ → ℕ
 key s p =
-    if ltb (get_or s p 0) 3 || eqb (get_or s (p + get_or s p 0) 0) 0
+    when ltb (get_or s p 0) 3 || eqb (get_or s (p + get_or s p 0) 0) 0
     then le16 s p + 65536 * get_or s (p + get_or s p 0) 0
     else last_four s p (get_or s p 0)
 
@@ -33,7 +33,7 @@ pub record Hashed (s : List ℕ) (p h : ℕ) : Type 0 where
 -- 1 + the last of the first n names whose hash is h
 unfoldable pub last : List ℕ → List ℕ → ℕ → ℕ → ℕ
 last s t h zero = 0
-last s t h (suc i) = if eqb (hash s (get_or t i 0)) h then suc i else last s t h i
+last s t h (suc i) = when eqb (hash s (get_or t i 0)) h then suc i else last s t h i
 
 -- the chains of the first n names
 pub record Linked (s t k : List ℕ) (n : ℕ) : Type 0 where

@@ -1,7 +1,7 @@
 -- The lists of entries: each entry is its name, which the table marks, and what follows it. In all of these s is the stream,
 -- c the cursor, t the table, w the cursor with the table.
 use Rattle.std.specs.Prelude.{ℕ, ◌+◌, ◌-◌, ◌*◌, ◌%◌, List, [], ◌∷◌, get_or, set, eqb, ltb}
-use Rattle.prelude.specs.Base.{if◌then◌else◌}
+use Rattle.prelude.specs.Base.{when◌then◌else◌}
 use Rattle.access.specs.Le.{le16}
 use Rattle.file_syntax.specs.declared.cursor.Cursor.{Cursor}
 use Rattle.file_syntax.specs.Cursors.{refuse, u16, code, small_count, name, size, size_or, bits}
@@ -12,16 +12,16 @@ use Rattle.file_section.specs.Names.{Reading, reading}
 
 -- where list k marks a name
 unfoldable pub slot : ℕ → ℕ → ℕ
-slot k x = if ltb k 7 then 1024 + x % 65536 else 2048 + x % 65536
+slot k x = when ltb k 7 then 1024 + x % 65536 else 2048 + x % 65536
 
 -- what list k marks the name of its entry i with
 unfoldable pub stamp : ℕ → ℕ → ℕ
-stamp k i = if ltb k 7 then (1 + k + 8 * i) % 65536 else (k - 6 + 2 * i) % 65536
+stamp k i = when ltb k 7 then (1 + k + 8 * i) % 65536 else (k - 6 + 2 * i) % 65536
 
 unfoldable pub mark : ℕ → ℕ → Reading → Reading
 mark at v w =
-    if eqb w.cursor.bad 0
-    then (if eqb (get_or w.table at 0) 0 then reading w.cursor (set w.table at v) else reading (refuse 6 w.cursor) w.table)
+    when eqb w.cursor.bad 0
+    then (when eqb (get_or w.table at 0) 0 then reading w.cursor (set w.table at v) else reading (refuse 6 w.cursor) w.table)
     else w
 
 -- the lists, in their order
@@ -69,7 +69,7 @@ unfoldable pub named : ℕ → List ℕ → ℕ → Reading → Reading
 named k s i w = mark (slot k (name s (le16 s 2) w.cursor).val) (stamp k i) (reading (name s (le16 s 2) w.cursor) w.table)
 
 unfoldable pub rest_of : ℕ → List ℕ → ℕ → Reading → Reading
-rest_of k s i w = if eqb k 5 then macro s (le16 s 2) i w else reading (after k s w.cursor) w.table
+rest_of k s i w = when eqb k 5 then macro s (le16 s 2) i w else reading (after k s w.cursor) w.table
 
 -- entry i of list k
 unfoldable pub entry : ℕ → List ℕ → ℕ → Reading → Reading

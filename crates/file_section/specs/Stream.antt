@@ -8,7 +8,7 @@
 --                 subtables, statements (`Holds.spaces` and on)
 --   3338          the first ordinal of the section's own statements (`Holds.own_ordinal`)
 use Rattle.std.specs.Prelude.{ℕ, zero, suc, ◌-◌, ◌%◌, Bool, true, false, List, length, get_or, set, eqb}
-use Rattle.prelude.specs.Base.{if◌then◌else◌}
+use Rattle.prelude.specs.Base.{when◌then◌else◌}
 use Rattle.access.specs.Le.{le16}
 use Rattle.file_syntax.specs.declared.cursor.Cursor.{Cursor}
 use Rattle.file_syntax.specs.Cursors.{refuse}
@@ -20,11 +20,11 @@ use Rattle.file_section.specs.Lists.{lists}
 -- n bytes from i on are zero
 unfoldable pub zeros : ℕ → ℕ → List ℕ → Bool
 zeros zero i s = true
-zeros (suc n) i s = if eqb (get_or s i 0) 0 then zeros n (suc i) s else false
+zeros (suc n) i s = when eqb (get_or s i 0) 0 then zeros n (suc i) s else false
 
 -- the stream after the cursor is zero
 unfoldable pub tail : List ℕ → Cursor → Cursor
-tail s c = if zeros (length s - c.at) c.at s then c else refuse 3 c
+tail s c = when zeros (length s - c.at) c.at s then c else refuse 3 c
 
 -- the section's own statements, and the end
 unfoldable pub statements : List ℕ → Reading → Reading
@@ -43,6 +43,6 @@ answer_of w = answer w.cursor.bad w.table
 
 unfoldable pub read_stream : List ℕ → List ℕ → Answer
 read_stream s t =
-    if eqb (header s).bad 0
+    when eqb (header s).bad 0
     then answer_of (statements s (lists s (names s (le16 s 2) (reading (header s) t))))
     else answer (header s).bad t

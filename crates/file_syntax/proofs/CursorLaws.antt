@@ -8,7 +8,7 @@ use native.Mathlib.Omega.{arith}
 use lib.ListN.{length, get_or}
 use lib.Dec.{eqb, leb, ltb}
 use borrow.Author.Tests.{eq-eqb, ne_eqb, le-leb, lt-leb, lt-ltb, le-ltb, eqb-true, eqb-false, ltb-true, ltb-false, leb-true}
-use Rattle.prelude.specs.Base.{if◌then◌else◌}
+use Rattle.prelude.specs.Base.{when◌then◌else◌}
 use Rattle.access.specs.Le.{le16}
 use Rattle.file_syntax.specs.declared.cursor.Cursor.{Cursor}
 use Rattle.file_syntax.specs.Cursors.{cursor, refuse, number, u8, u16, u16or, skip}
@@ -18,19 +18,19 @@ both_true true b e = (refl, e)
 both_true false b e = absurd (false≢true e)
 
 pub refuse_kept : (k : ℕ) (c : Cursor) → (c.bad ≡ 0 → ⊥) → c ≡ refuse k c
-unfolding refuse if◌then◌else◌
+unfolding refuse when◌then◌else◌
 refuse_kept k c h = simp (ne_eqb c.bad 0 h)
 
 pub refuse_new : (k : ℕ) (c : Cursor) → c.bad ≡ 0 → cursor c.at k 0 ≡ refuse k c
-unfolding refuse if◌then◌else◌
+unfolding refuse when◌then◌else◌
 refuse_new k c h = simp (eq-eqb c.bad 0 h)
 
 pub number_kept : (v n len lim k : ℕ) (c : Cursor) → (c.bad ≡ 0 → ⊥) → c ≡ number v n len lim k c
-unfolding number if◌then◌else◌
+unfolding number when◌then◌else◌
 number_kept v n len lim k c h = simp (ne_eqb c.bad 0 h)
 
 number_cut : (v n len lim k : ℕ) (c r : Cursor) → c.bad ≡ 0 → len < c.at + n → r ≡ refuse 3 c → r ≡ number v n len lim k c
-unfolding number refuse if◌then◌else◌
+unfolding number refuse when◌then◌else◌
 number_cut v n len lim k c r h l e = simp (eq-eqb c.bad 0 h, lt-leb (c.at + n) len l) (e ∙ simp (eq-eqb c.bad 0 h))
 
 pub number_past : (v n len lim k : ℕ) (c r : Cursor) → c.bad ≡ 0 → len < c.at → r ≡ refuse 3 c → r ≡ number v n len lim k c
@@ -40,11 +40,11 @@ pub number_short : (v n len lim k : ℕ) (c r : Cursor) → c.bad ≡ 0 → c.at
 number_short v n len lim k c r h l m e = number_cut v n len lim k c r h (omega arith) e
 
 pub number_got : (v n len lim k : ℕ) (c : Cursor) → c.bad ≡ 0 → c.at ≤ len → n ≤ len - c.at → v < lim → cursor (c.at + n) 0 v ≡ number v n len lim k c
-unfolding number if◌then◌else◌
+unfolding number when◌then◌else◌
 number_got v n len lim k c h l m b = simp (eq-eqb c.bad 0 h, le-leb (c.at + n) len (omega arith), lt-ltb v lim b)
 
 pub number_out : (v n len lim k : ℕ) (c r : Cursor) → c.bad ≡ 0 → c.at ≤ len → n ≤ len - c.at → lim ≤ v → r ≡ refuse k c → r ≡ number v n len lim k c
-unfolding number refuse if◌then◌else◌
+unfolding number refuse when◌then◌else◌
 number_out v n len lim k c r h l m b e = simp (eq-eqb c.bad 0 h, le-leb (c.at + n) len (omega arith), le-ltb v lim b) (e ∙ simp (eq-eqb c.bad 0 h))
 
 -- a number that was read and not refused
@@ -55,12 +55,12 @@ pub record Read (v n len lim : ℕ) (c r : Cursor) : Type 0 where
   pub next : r.at ≡ c.at + n
 
 number_read : (v n len lim k : ℕ) (c : Cursor) → 0 < k → (number v n len lim k c).bad ≡ 0 → Read v n len lim c (number v n len lim k c)
-unfolding number if◌then◌else◌
+unfolding number when◌then◌else◌
 number_read v n len lim k c l e = go (eqb c.bad 0) (leb (c.at + n) len) (ltb v lim) refl refl refl e
   where
     go : (a b d : Bool) → eqb c.bad 0 ≡ a → leb (c.at + n) len ≡ b → ltb v lim ≡ d →
-        (if a then (if b then (if d then cursor (c.at + n) 0 v else cursor c.at k 0) else cursor c.at 3 0) else c).bad ≡ 0 →
-        Read v n len lim c (if a then (if b then (if d then cursor (c.at + n) 0 v else cursor c.at k 0) else cursor c.at 3 0) else c)
+        (when a then (when b then (when d then cursor (c.at + n) 0 v else cursor c.at k 0) else cursor c.at 3 0) else c).bad ≡ 0 →
+        Read v n len lim c (when a then (when b then (when d then cursor (c.at + n) 0 v else cursor c.at k 0) else cursor c.at 3 0) else c)
     go true true true p f q z = record { good = eqb-true _ _ p; fits = leb-true _ _ f; below = ltb-true _ _ q; next = refl }
     go true true false p f q z = absurd (omega arith)
     go true false d p f q z = absurd (omega arith)
@@ -70,20 +70,20 @@ pub u16-read : (s : List ℕ) (lim k : ℕ) (c : Cursor) → 0 < k → (u16 s li
 unfolding u16
 u16-read s lim k c l e = number_read (le16 s c.at) 2 (length s) lim k c l e
 
-pub u16or-read : (s : List ℕ) (lim k : ℕ) (c : Cursor) → 0 < k → (u16or s lim k c).bad ≡ 0 → Read (le16 s c.at) 2 (length s) (if eqb (le16 s c.at) 65535 then 65536 else lim) c (u16or s lim k c)
+pub u16or-read : (s : List ℕ) (lim k : ℕ) (c : Cursor) → 0 < k → (u16or s lim k c).bad ≡ 0 → Read (le16 s c.at) 2 (length s) (when eqb (le16 s c.at) 65535 then 65536 else lim) c (u16or s lim k c)
 unfolding u16or
-u16or-read s lim k c l e = number_read (le16 s c.at) 2 (length s) (if eqb (le16 s c.at) 65535 then 65536 else lim) k c l e
+u16or-read s lim k c l e = number_read (le16 s c.at) 2 (length s) (when eqb (le16 s c.at) 65535 then 65536 else lim) k c l e
 
 pub u8_law : (s : List ℕ) (lim k v : ℕ) (c r : Cursor) → (v ≡ get_or s (c.at + 0) 0) × (v < 256) → r ≡ number v 1 (length s) lim k c → r ≡ u8 s lim k c
 unfolding u8
 u8_law s lim k v c r h e = e ∙ rw (h.0, add-zero)
 
 pub u16_none : (s : List ℕ) (lim k v : ℕ) (c r : Cursor) → v ≡ le16 s c.at → v ≡ 65535 → r ≡ u16 s 65536 k c → r ≡ u16or s lim k c
-unfolding u16 u16or if◌then◌else◌
+unfolding u16 u16or when◌then◌else◌
 u16_none s lim k v c r h z e = e ∙ rw (eq-eqb (le16 s c.at) 65535 (sym h ∙ z))
 
 pub u16-some : (s : List ℕ) (lim k v : ℕ) (c r : Cursor) → v ≡ le16 s c.at → (v ≡ 65535 → ⊥) → r ≡ u16 s lim k c → r ≡ u16or s lim k c
-unfolding u16 u16or if◌then◌else◌
+unfolding u16 u16or when◌then◌else◌
 u16-some s lim k v c r h z e = e ∙ rw (ne_eqb (le16 s c.at) 65535 (λ q. z (h ∙ q)))
 
 pub skip_law : (s : List ℕ) (n : ℕ) (c r : Cursor) → r ≡ number 0 n (length s) 1 0 c → r ≡ skip s n c
@@ -118,12 +118,12 @@ u16_out s lim k v c t h e l =
 
 -- of a cursor that is refused, or stands at the end, the number is not asked
 number_any : (v w n len lim k : ℕ) (c : Cursor) → 0 < n → (ltb c.at len && eqb c.bad 0) ≡ false → number v n len lim k c ≡ number w n len lim k c
-unfolding number if◌then◌else◌
+unfolding number when◌then◌else◌
 number_any v w n len lim k c z e = go (eqb c.bad 0) (ltb c.at len) refl e
   where
     go : (a b : Bool) → ltb c.at len ≡ b → (b && a) ≡ false →
-        (if a then (if leb (c.at + n) len then (if ltb v lim then cursor (c.at + n) 0 v else cursor c.at k 0) else cursor c.at 3 0) else c)
-        ≡ (if a then (if leb (c.at + n) len then (if ltb w lim then cursor (c.at + n) 0 w else cursor c.at k 0) else cursor c.at 3 0) else c)
+        (when a then (when leb (c.at + n) len then (when ltb v lim then cursor (c.at + n) 0 v else cursor c.at k 0) else cursor c.at 3 0) else c)
+        ≡ (when a then (when leb (c.at + n) len then (when ltb w lim then cursor (c.at + n) 0 w else cursor c.at k 0) else cursor c.at 3 0) else c)
     go false b p h = refl
     go true true p h = absurd (false≢true (sym h))
     go true false p h = rw (lt-leb (c.at + n) len (omega (arith, ltb-false c.at len p)))

@@ -2,7 +2,7 @@
 -- passes every read unchanged, so the first position wins. In all of these s is the stream, c the cursor, m the number of
 -- names.
 use Rattle.std.specs.Prelude.{ℕ, ◌+◌, List, length, get_or, ltb, leb, eqb}
-use Rattle.prelude.specs.Base.{if◌then◌else◌}
+use Rattle.prelude.specs.Base.{when◌then◌else◌}
 use Rattle.access.specs.Le.{le16}
 use Rattle.file_syntax.specs.declared.cursor.Cursor.{Cursor}
 
@@ -10,14 +10,14 @@ abbrev pub cursor : ℕ → ℕ → ℕ → Cursor
 cursor p bad v = record { at = p; bad = bad; val = v }
 
 unfoldable pub refuse : ℕ → Cursor → Cursor
-refuse k c = if eqb c.bad 0 then cursor c.at k 0 else c
+refuse k c = when eqb c.bad 0 then cursor c.at k 0 else c
 
 -- the number v, which stands in the next n bytes of len: cut is 3, and lim or more is k
 unfoldable pub number : ℕ → ℕ → ℕ → ℕ → ℕ → Cursor → Cursor
 number v n len lim k c =
-    if eqb c.bad 0
-    then (if leb (c.at + n) len
-    then (if ltb v lim then cursor (c.at + n) 0 v else cursor c.at k 0)
+    when eqb c.bad 0
+    then (when leb (c.at + n) len
+    then (when ltb v lim then cursor (c.at + n) 0 v else cursor c.at k 0)
     else cursor c.at 3 0)
     else c
 
@@ -29,7 +29,7 @@ u16 s lim k c = number (le16 s c.at) 2 (length s) lim k c
 
 -- the same, or 65,535, which stands for absent
 unfoldable pub u16or : List ℕ → ℕ → ℕ → Cursor → Cursor
-u16or s lim k c = number (le16 s c.at) 2 (length s) (if eqb (le16 s c.at) 65535 then 65536 else lim) k c
+u16or s lim k c = number (le16 s c.at) 2 (length s) (when eqb (le16 s c.at) 65535 then 65536 else lim) k c
 
 -- n bytes passed over
 unfoldable pub skip : List ℕ → ℕ → Cursor → Cursor

@@ -8,7 +8,7 @@ use mathlib.Core.Option.{Option, none, some}
 use native.Mathlib.Omega.{arith}
 use lib.Dec.{eqb, leb, ltb}
 use borrow.Author.Tests.{lt-leb, eq-eqb, ne_eqb, ltb-true, ltb-false, eqb-true, eqb-false}
-use Rattle.prelude.specs.Base.{if◌then◌else◌, ◌or◌, or_else, and_then, is_some, any, first}
+use Rattle.prelude.specs.Base.{when◌then◌else◌, ◌or◌, or_else, and_then, is_some, any, first}
 use Rattle.definition.specs.Operations.{Operation, operation_number}
 use Rattle.definition.specs.Value.{ActionKind, operation_of}
 use Rattle.definition.specs.Sizes.{in0, in1, out, one, pointer, Step, equal, exactly, by_default, rules, rule_of}
@@ -86,11 +86,11 @@ first_from {A} {B} f P h (x ∷ xs) b e = go (λ p. first_from f P h xs b p) (f 
     go rest (some c) p e = h x b (p ∙ e)
 
 operation_number_lem : (n : ℕ) (o : Operation) → operation_numbered n ≡ some o → operation_number o ≡ n
-unfolding operation_numbered if◌then◌else◌
+unfolding operation_numbered when◌then◌else◌
 operation_number_lem n o e =
     first_from _ (λ o. operation_number o ≡ n) (λ row b p. first_from _ (λ o. operation_number o ≡ n) (λ x b p. go x b (eqb n (operation_number x)) refl p) row.operations b p) shapes o e
   where
-    go : (x b : Operation) (t : Bool) → eqb n (operation_number x) ≡ t → (if t then some x else none) ≡ some b → operation_number b ≡ n
+    go : (x b : Operation) (t : Bool) → eqb n (operation_number x) ≡ t → (when t then some x else none) ≡ some b → operation_number b ≡ n
     go x b true q p = let z : x ≡ b = cc in rw (← z) (sym (eqb-true _ _ q))
     go x b false q p = absurd (let z : ◌≡◌ {A = ℕ} 0 1 = cc in omega arith)
 
@@ -109,12 +109,12 @@ at_below f g (suc n) m h l = go (at_below f g n m) (eqb m n) refl
     go rest false e = let k : map f (below n) ≡ map g (below n) = cc in let d : m ≡ n → ⊥ = eqb-false m n e in rest k (omega arith)
 
 -- a number below 66 that is no operation's has no row
-none_below : (n : ℕ) → n < 66 → (if is_some (operation_numbered n) then unknown else row_of n) ≡ unknown
+none_below : (n : ℕ) → n < 66 → (when is_some (operation_numbered n) then unknown else row_of n) ≡ unknown
 unfolding below operation_numbered shapes operations_opens row_of
-none_below n = at_below (λ n. if is_some (operation_numbered n) then unknown else row_of n) (λ n. unknown) 66 n refl
+none_below n = at_below (λ n. when is_some (operation_numbered n) then unknown else row_of n) (λ n. unknown) 66 n refl
 
 operation_none : (n : ℕ) → operation_numbered n ≡ none → row_of n ≡ unknown
-unfolding if◌then◌else◌ is_some
+unfolding when◌then◌else◌ is_some
 operation_none n e = go (ltb n 66) refl
   where
     go : (b : Bool) → ltb n 66 ≡ b → row_of n ≡ unknown
@@ -125,21 +125,21 @@ operation_none n e = go (ltb n 66) refl
 
 -- only an Op has an operation
 unfoldable pub operation_right : ℕ → ℕ → Bool
-operation_right kind op = if eqb kind 0 then true else eqb op 0
+operation_right kind op = when eqb kind 0 then true else eqb op 0
 
 pub record KindIs (k op : ℕ) (kind : ActionKind) : Type 0 where
   pub number : action_kind_number kind ≡ k
   pub right : eqb op (operation_word (operation_of kind)) ≡ operation_right k op
 
 op_is : (op : ℕ) (x : Option Operation) → operation_numbered op ≡ x → (kind : ActionKind) → and_then x (λ o. some (ActionKind.Op o)) ≡ some kind → KindIs 0 op kind
-unfolding and_then action_kind_number operation_of operation_word operation_right if◌then◌else◌
+unfolding and_then action_kind_number operation_of operation_word operation_right when◌then◌else◌
 op_is op none p kind e = absurd (let z : ◌≡◌ {A = ℕ} 0 1 = cc in omega arith)
 op_is op (some o) p kind e =
     let z : ActionKind.Op o ≡ kind = cc in
     rw (← z) (record { number = refl; right = eq-eqb op (operation_number o) (sym (operation_number_lem op o p)) })
 
 pub kind_is : (k op : ℕ) (kind : ActionKind) → action_kind_numbered k op ≡ some kind → KindIs k op kind
-unfolding action_kind_numbered op_numbered or_else action_kind_number operation_of operation_word operation_right if◌then◌else◌
+unfolding action_kind_numbered op_numbered or_else action_kind_number operation_of operation_word operation_right when◌then◌else◌
 kind_is zero op kind e = op_is op (operation_numbered op) refl kind e
 kind_is (suc zero) op kind e = let z : ActionKind.AddressOf ≡ kind = cc in rw (← z) (record { number = refl; right = refl })
 kind_is (suc (suc zero)) op kind e = let z : ActionKind.LoadRegister ≡ kind = cc in rw (← z) (record { number = refl; right = refl })
@@ -171,24 +171,24 @@ kind_none (suc (suc (suc (suc (suc (suc k)))))) op e = no_kind {k = suc (suc (su
 -- Counts and shapes.
 
 pub one-count : (n m : ℕ) (b o : Bool) → any (same_count (n, b)) ((m, o) ∷ []) ≡ same_count (n, b) (m, o)
-unfolding any if◌then◌else◌
+unfolding any when◌then◌else◌
 one-count n m b o = go (same_count (n, b) (m, o))
   where
-    go : (x : Bool) → (if x then true else false) ≡ x
+    go : (x : Bool) → (when x then true else false) ≡ x
     go true = refl
     go false = refl
 
 no_outputs : (n : ℕ) (xs : List ℕ) (ys : List (ℕ × Bool)) → any (same_count (n, true)) (map no_output xs ++ ys) ≡ any (same_count (n, true)) ys
-unfolding any if◌then◌else◌ same_count
+unfolding any when◌then◌else◌ same_count
 no_outputs n [] ys = refl
 no_outputs n (x ∷ xs) ys = go (eqb n x) (no_outputs n xs ys)
   where
-    go : (b : Bool) {c d : Bool} → c ≡ d → (if b && false then true else c) ≡ d
+    go : (b : Bool) {c d : Bool} → c ≡ d → (when b && false then true else c) ≡ d
     go true e = e
     go false e = e
 
 few_outputs : (n : ℕ) → any (same_count (n, true)) (map with_output (0 ∷ 1 ∷ 2 ∷ [])) ≡ leb n 2
-unfolding any if◌then◌else◌ same_count
+unfolding any when◌then◌else◌ same_count
 few_outputs zero = refl
 few_outputs (suc zero) = refl
 few_outputs (suc (suc zero)) = refl
@@ -198,7 +198,7 @@ few_outputs (suc (suc (suc n))) = go (suc (suc (suc n))) (omega arith)
     go m h = rw (ne_eqb m 0 (λ z. omega arith), ne_eqb m 1 (λ z. omega arith), ne_eqb m 2 (λ z. omega arith), lt-leb m 2 (omega arith))
 
 to_eight : (n : ℕ) → any (same_count (n, false)) pcode_op_pairs ≡ leb n 8
-unfolding any if◌then◌else◌ same_count
+unfolding any when◌then◌else◌ same_count
 to_eight zero = refl
 to_eight (suc zero) = refl
 to_eight (suc (suc zero)) = refl
@@ -213,8 +213,8 @@ to_eight (suc (suc (suc (suc (suc (suc (suc (suc (suc n))))))))) = go (suc (suc 
     go : (m : ℕ) → 9 ≤ m → any (same_count (m, false)) pcode_op_pairs ≡ leb m 8
     go m h = rw (ne_eqb m 0 (λ z. omega arith), ne_eqb m 1 (λ z. omega arith), ne_eqb m 2 (λ z. omega arith), ne_eqb m 3 (λ z. omega arith), ne_eqb m 4 (λ z. omega arith), ne_eqb m 5 (λ z. omega arith), ne_eqb m 6 (λ z. omega arith), ne_eqb m 7 (λ z. omega arith), ne_eqb m 8 (λ z. omega arith), lt-leb m 8 (omega arith))
 
-pub pcode_op-counts : (n : ℕ) (b : Bool) → any (same_count (n, b)) pcode_op_pairs ≡ (if b then leb n 2 else leb n 8)
-unfolding if◌then◌else◌
+pub pcode_op-counts : (n : ℕ) (b : Bool) → any (same_count (n, b)) pcode_op_pairs ≡ (when b then leb n 2 else leb n 8)
+unfolding when◌then◌else◌
 pcode_op-counts n true = no_outputs n (0 ∷ 1 ∷ 2 ∷ 3 ∷ 4 ∷ 5 ∷ 6 ∷ 7 ∷ 8 ∷ []) (map with_output (0 ∷ 1 ∷ 2 ∷ [])) ∙ few_outputs n
 pcode_op-counts n false = to_eight n
 

@@ -9,7 +9,7 @@ use lib.ListN.{length, get_or, take, drop, set, replicate, take-append-drop, len
 use lib.Seq.{length-take-le, drop-drop, get_or-set_same, get_or-set_other}
 use lib.Dec.{eqb, ltb}
 use borrow.Author.Tests.{le-leb, lt-leb, ltb-true, eqb-true, eqb-false}
-use Rattle.prelude.specs.Base.{if◌then◌else◌, or_else, and_then, any, all, same_numbers}
+use Rattle.prelude.specs.Base.{when◌then◌else◌, or_else, and_then, any, all, same_numbers}
 use Rattle.definition.specs.Operations.{operation_number}
 use Rattle.definition.specs.Value.{Value, ActionKind, SemanticAction, operation_of}
 use Rattle.definition.specs.ActionList.{action_kind_number, operation_word, filled, action_words, list_words, places_label}
@@ -45,7 +45,7 @@ pub record Marked (ws : List ℕ) (a : SemanticAction) : Type 0 where
   pub built : (i : ℕ) → builds i a ≡ builds_it i ws
 
 marked_kind : (ws : List ℕ) (kind : ActionKind) (inputs : List Value) (output : Option Value) → KindIs (get_or ws 0 0) (get_or ws 1 0) kind → Marked ws (record { kind = kind; number = get_or ws 2 0; inputs = inputs; output = output })
-unfolding places_label w.places_label builds builds_it is_build or_else and_then operation_of action_kind_number operation_word operation_right if◌then◌else◌ operation_number
+unfolding places_label w.places_label builds builds_it is_build or_else and_then operation_of action_kind_number operation_word operation_right when◌then◌else◌ operation_number
 marked_kind ws (ActionKind.Op o) inputs output q =
     let e : operation_number o ≡ get_or ws 1 0 = sym (eqb-true _ _ (q.right ∙ rw (← q.number))) in
     record { number = refl; label = rw (← q.number, e) (eqb_comm 62 (get_or ws 1 0)); built = λ i. rw (← q.number) }
@@ -110,13 +110,13 @@ unread t s p (suc n) ws h e =
 -- The same words.
 
 same_append : (u v x y : List ℕ) → length u ≡ length x → same_numbers (u ++ v) (x ++ y) ≡ (same_numbers u x && same_numbers v y)
-unfolding same_numbers if◌then◌else◌
+unfolding same_numbers when◌then◌else◌
 same_append [] v [] y h = refl
 same_append [] v (b ∷ x) y h = absurd (omega arith)
 same_append (a ∷ u) v [] y h = absurd (omega arith)
 same_append (a ∷ u) v (b ∷ x) y h = rw (same_append u v x y (omega arith)) (go (eqb a b))
   where
-    go : (t : Bool) → (if t then same_numbers u x && same_numbers v y else false) ≡ ((if t then same_numbers u x else false) && same_numbers v y)
+    go : (t : Bool) → (when t then same_numbers u x && same_numbers v y else false) ≡ ((when t then same_numbers u x else false) && same_numbers v y)
     go true = refl
     go false = refl
 
@@ -176,11 +176,11 @@ rows_agree t s p (suc n) ws (a ∷ rest) (more e r) h =
 
 unfoldable fresh : List SemanticAction → List ℕ → Bool
 fresh [] seen = true
-fresh (a ∷ rest) seen = (if places_label a then eqb (get_or seen a.number 0) 0 else true) && fresh rest seen
+fresh (a ∷ rest) seen = (when places_label a then eqb (get_or seen a.number 0) 0 else true) && fresh rest seen
 
 unfoldable small : List SemanticAction → Bool
 small [] = true
-small (a ∷ rest) = (if places_label a then ltb a.number 256 else true) && small rest
+small (a ∷ rest) = (when places_label a then ltb a.number 256 else true) && small rest
 
 swap : (a b c : Bool) → (a && (b && c)) ≡ (b && (a && c))
 swap true b c = refl
@@ -188,13 +188,13 @@ swap false true c = refl
 swap false false c = refl
 
 fresh_set : (rest : List SemanticAction) (seen : List ℕ) (m : ℕ) → m < length seen → fresh rest (set seen m 1) ≡ (not (any (places m) rest) && fresh rest seen)
-unfolding fresh any places if◌then◌else◌
+unfolding fresh any places when◌then◌else◌
 fresh_set [] seen m h = refl
 fresh_set (a ∷ rest) seen m h = rw (fresh_set rest seen m h) (go (places_label a) (eqb m a.number) refl)
   where
     go : (l b : Bool) → eqb m a.number ≡ b →
-        ((if l then eqb (get_or (set seen m 1) a.number 0) 0 else true) && (not (any (places m) rest) && fresh rest seen))
-        ≡ (not (if l && b then true else any (places m) rest) && ((if l then eqb (get_or seen a.number 0) 0 else true) && fresh rest seen))
+        ((when l then eqb (get_or (set seen m 1) a.number 0) 0 else true) && (not (any (places m) rest) && fresh rest seen))
+        ≡ (not (when l && b then true else any (places m) rest) && ((when l then eqb (get_or seen a.number 0) 0 else true) && fresh rest seen))
     go false b e = refl
     go true true e = rw (← eqb-true m a.number e, get_or-set_same seen m 1 0 h)
     go true false e =
@@ -208,23 +208,23 @@ zeros_at (suc n) zero = refl
 zeros_at (suc n) (suc m) = zeros_at n m
 
 fresh_zeros : (n : ℕ) (found : List SemanticAction) → fresh found (replicate n 0) ≡ true
-unfolding fresh if◌then◌else◌
+unfolding fresh when◌then◌else◌
 fresh_zeros n [] = refl
 fresh_zeros n (a ∷ rest) = rw (zeros_at n a.number, fresh_zeros n rest) (go (places_label a))
   where
-    go : (b : Bool) → ((if b then true else true) && true) ≡ true
+    go : (b : Bool) → ((when b then true else true) && true) ≡ true
     go true = refl
     go false = refl
 
 labels-agree : (n : ℕ) (ws : List ℕ) (found : List SemanticAction) → Reads n ws found → small found ≡ true → (seen : List ℕ) → length seen ≡ 256 → labels_new n ws seen ≡ (labels_once found && fresh found seen)
-unfolding labels_new labels_once fresh small note_label when_new if◌then◌else◌
+unfolding labels_new labels_once fresh small note_label when_new when◌then◌else◌
 labels-agree zero ws (a ∷ rest) x6 q seen h = elim x6 [ ]
 labels-agree (suc n) ws [] x5 q seen h = elim x5 [ ]
 labels-agree zero ws [] end q seen h = refl
 labels-agree (suc n) ws (a ∷ rest) (more e r) q seen h =
     let m = marked (take 24 ws) a e in
     rw (← m.number, ← m.label)
-    (go (λ s i. labels-agree n (drop 24 ws) rest r (and_right (if places_label a then ltb a.number 256 else true) (small rest) q) s i) (places_label a) (eqb (get_or seen a.number 0) 0) (and_left (if places_label a then ltb a.number 256 else true) (small rest) q))
+    (go (λ s i. labels-agree n (drop 24 ws) rest r (and_right (when places_label a then ltb a.number 256 else true) (small rest) q) s i) (places_label a) (eqb (get_or seen a.number 0) 0) (and_left (when places_label a then ltb a.number 256 else true) (small rest) q))
   where
     turn : (l n f : Bool) → (l && (n && f)) ≡ (n && l && f)
     turn true true f = refl
@@ -232,9 +232,9 @@ labels-agree (suc n) ws (a ∷ rest) (more e r) q seen h =
     turn false true f = refl
     turn false false f = refl
 
-    go : ((s : List ℕ) → length s ≡ 256 → labels_new n (drop 24 ws) s ≡ (labels_once rest && fresh rest s)) → (l b : Bool) → (if l then ltb a.number 256 else true) ≡ true →
-        when_new (if l then noted b (set seen a.number 1) else noted true seen) (λ next. labels_new n (drop 24 ws) next)
-        ≡ (not (l && any (places a.number) rest) && labels_once rest && ((if l then b else true) && fresh rest seen))
+    go : ((s : List ℕ) → length s ≡ 256 → labels_new n (drop 24 ws) s ≡ (labels_once rest && fresh rest s)) → (l b : Bool) → (when l then ltb a.number 256 else true) ≡ true →
+        when_new (when l then noted b (set seen a.number 1) else noted true seen) (λ next. labels_new n (drop 24 ws) next)
+        ≡ (not (l && any (places a.number) rest) && labels_once rest && ((when l then b else true) && fresh rest seen))
     go ih false b k = ih seen h
     go ih true false k = sym (and_false (not (any (places a.number) rest) && labels_once rest))
     go ih true true k =
@@ -245,7 +245,7 @@ labels-agree (suc n) ws (a ∷ rest) (more e r) q seen h =
 -- a label that fits is below 256
 
 label_head : (s p : ℕ) (b : Bool) (ws : List ℕ) → eqb (get_or ws 0 0) 0 ≡ true → get_or ws 1 0 ≡ 62 → head_fit s p b ws ≡ true → ltb (get_or ws 2 0) 256 ≡ true
-unfolding head_fit operation_fit row_fit row_of if◌then◌else◌
+unfolding head_fit operation_fit row_fit row_of when◌then◌else◌
 label_head s p b ws k o h = and_right (eqb (get_or ws 3 0) 0 && not b) _ (rw (k, o) at h)
 
 label-below : (t s p : ℕ) (ws : List ℕ) → action_fit t s p ws ≡ true → w.places_label ws ≡ true → ltb (get_or ws 2 0) 256 ≡ true
@@ -254,7 +254,7 @@ label-below t s p ws h l =
     label_head s p (output_there ws) ws (and_left (eqb (get_or ws 0 0) 0) _ l) (eqb-true _ _ (and_right (eqb (get_or ws 0 0) 0) _ l)) (and_right ((not (output_there ws) || value_fit t s (eqb (get_or ws 0 0) 0) (get_or ws 4 0) (get_or ws 5 0)) && inputs_fit t s (eqb (get_or ws 0 0) 0) ws) _ h)
 
 labels-small : (t s p n : ℕ) (ws : List ℕ) (found : List SemanticAction) → Reads n ws found → rows_fit t s p n ws ≡ true → small found ≡ true
-unfolding rows_fit small if◌then◌else◌ places_label
+unfolding rows_fit small when◌then◌else◌ places_label
 labels-small t s p zero ws (a ∷ rest) x4 h = elim x4 [ ]
 labels-small t s p (suc n) ws [] x4 h = elim x4 [ ]
 labels-small t s p zero ws [] end h = refl
@@ -264,7 +264,7 @@ labels-small t s p (suc n) ws (a ∷ rest) (more e r) h =
     rw (labels-small t s p n (drop 24 ws) rest r (and_right (action_fit t s p (take 24 ws)) _ h), m.number)
     (go (λ l. label-below t s p (take 24 ws) f (sym m.label ∙ l)) (places_label a) refl)
   where
-    go : (places_label a ≡ true → ltb (get_or (take 24 ws) 2 0) 256 ≡ true) → (b : Bool) → places_label a ≡ b → ((if b then ltb (get_or (take 24 ws) 2 0) 256 else true) && true) ≡ true
+    go : (places_label a ≡ true → ltb (get_or (take 24 ws) 2 0) 256 ≡ true) → (b : Bool) → places_label a ≡ b → ((when b then ltb (get_or (take 24 ws) 2 0) 256 else true) && true) ≡ true
     go f true e = rw (f e)
     go f false e = refl
 
@@ -307,7 +307,7 @@ listed t s p n ws found r h =
 
 -- THE THEOREM: where the actions fit into the list, the definition's checker is the checker of the words.
 pub check_agrees : (ws : List ℕ) (n t s p : ℕ) → 24 * n ≤ length ws → check ws n t s p ≡ (zeros (drop (24 * n) ws) && list_fit t s p n ws)
-unfolding check if◌then◌else◌ or_else and_then list_fit
+unfolding check when◌then◌else◌ or_else and_then list_fit
 check_agrees ws n t s p h = rw (le-leb (24 * n) (length ws) h) (go (actions_from n ws) refl)
   where
     go : (x : Option (List SemanticAction)) → actions_from n ws ≡ x → or_else false (and_then {B = Bool} x λ found. some (list_holds ws t s p found)) ≡ (zeros (drop (24 * n) ws) && list_fit t s p n ws)
@@ -316,5 +316,5 @@ check_agrees ws n t s p h = rw (le-leb (24 * n) (length ws) h) (go (actions_from
 
 -- and where they do not, it is false
 pub check-short : (ws : List ℕ) (n t s p : ℕ) → length ws < 24 * n → check ws n t s p ≡ false
-unfolding check if◌then◌else◌
+unfolding check when◌then◌else◌
 check-short ws n t s p h = rw (lt-leb (24 * n) (length ws) h)

@@ -8,7 +8,7 @@ use native.Mathlib.Omega.{arith}
 use lib.ListN.{get_or, drop}
 use lib.Dec.{eqb, leb, ltb}
 use borrow.Author.Tests.{eq-eqb, ne_eqb, le-ltb, eqb-true, eqb-false, not-true}
-use Rattle.prelude.specs.Base.{if◌then◌else◌, ◌or◌, or_else, and_then, is_some, any, all, first, contains}
+use Rattle.prelude.specs.Base.{when◌then◌else◌, ◌or◌, or_else, and_then, is_some, any, all, first, contains}
 use Rattle.definition.specs.Value.{Value, ActionKind, SemanticAction}
 use Rattle.definition.specs.Sizes.{at, fixed_size}
 use Rattle.definition.specs.Checker.{size_from, same_count, option_fits, is_sized, size_at, has_size, all_have_size, step_holds}
@@ -22,15 +22,15 @@ inputs_sized zero r = true
 inputs_sized (suc n) r = not (eqb (get_or r 1 0 / 16777216) 65535) && inputs_sized n (drop 2 r)
 
 unfoldable pub output_sized : Bool → ℕ → Bool
-output_sized output word = if output then not (eqb (word / 16777216) 65535) else true
+output_sized output word = when output then not (eqb (word / 16777216) 65535) else true
 
 unfoldable pub output_of : Bool → ℕ → ℕ → Option Value
-output_of output number word = if output then some (value_of number word) else none
+output_of output number word = when output then some (value_of number word) else none
 
 -- Tests.
 
-pub if_and : (a b : Bool) → (if a then b else false) ≡ (a && b)
-unfolding if◌then◌else◌
+pub if_and : (a b : Bool) → (when a then b else false) ≡ (a && b)
+unfolding when◌then◌else◌
 if_and true b = refl
 if_and false b = refl
 
@@ -65,8 +65,8 @@ below_one (suc n) = go (suc n) (omega arith)
     go m h = rw (le-ltb m 1 h, ne_eqb m 0 (λ z. omega arith))
 
 -- counts of a user operation that has at most 8 inputs
-user-counts : (b few l : Bool) → ((if b then few else true) && l && true) ≡ (l && (not b || few))
-unfolding if◌then◌else◌
+user-counts : (b few l : Bool) → ((when b then few else true) && l && true) ≡ (l && (not b || few))
+unfolding when◌then◌else◌
 user-counts true true true = refl
 user-counts true true false = refl
 user-counts true false true = refl
@@ -77,14 +77,14 @@ user-counts false few false = refl
 -- sized operands
 
 size_some : (z : ℕ) → not (eqb z 65535) ≡ true → size_from z ≡ some z
-unfolding size_from if◌then◌else◌
+unfolding size_from when◌then◌else◌
 size_some z h = rw (not-true (eqb z 65535) h)
 
 sized_value : (n x : ℕ) → is_sized (value_of n x) ≡ not (eqb (x / 16777216) 65535)
-unfolding is_sized is_some value_of size_from if◌then◌else◌
+unfolding is_sized is_some value_of size_from when◌then◌else◌
 sized_value n x = go (eqb (x / 16777216) 65535)
   where
-    go : (b : Bool) → is_some (if b then none else some (x / 16777216)) ≡ not b
+    go : (b : Bool) → is_some (when b then none else some (x / 16777216)) ≡ not b
     go true = refl
     go false = refl
 
@@ -94,7 +94,7 @@ inputs-sized zero r = refl
 inputs-sized (suc n) r = rw (sized_value (get_or r 0 0) (get_or r 1 0), inputs-sized n (drop 2 r)) (if_and _ _)
 
 pub output-sized : (b : Bool) (n x : ℕ) → option_fits is_sized (output_of b n x) ≡ output_sized b x
-unfolding option_fits output_of output_sized if◌then◌else◌
+unfolding option_fits output_of output_sized when◌then◌else◌
 output-sized true n x = sized_value n x
 output-sized false n x = refl
 
@@ -159,7 +159,7 @@ module _ (pointer : ℕ) (kind : ActionKind) (number x0 y0 x1 y1 : ℕ) (r : Lis
   in_1 n h = size_some (y1 / 16777216) (and_left _ _ (and_right (not (eqb (y0 / 16777216) 65535)) _ h))
 
   out_0 : output_sized true o1 ≡ true → (value_of o0 o1).size ≡ some (o1 / 16777216)
-  unfolding output_sized value_of if◌then◌else◌
+  unfolding output_sized value_of when◌then◌else◌
   out_0 h = size_some (o1 / 16777216) h
 
   abbrev steps : Row → ℕ → Bool → Bool
@@ -168,12 +168,12 @@ module _ (pointer : ℕ) (kind : ActionKind) (number x0 y0 x1 y1 : ℕ) (r : Lis
   -- one pair of counts, and steps that are known where it is right
   counted : (row : Row) (n m below : ℕ) (b o q : Bool) → inputs_sized n words ≡ true → output_sized b o1 ≡ true →
       (inputs_sized m words ≡ true → output_sized o o1 ≡ true → steps row m o ≡ q) →
-      (any (same_count (n, b)) ((m, o) ∷ []) && ltb number below && steps row n b) ≡ (eqb n m && (if o then b else not b) && ltb number below && q)
-  unfolding same_count if◌then◌else◌
+      (any (same_count (n, b)) ((m, o) ∷ []) && ltb number below && steps row n b) ≡ (eqb n m && (when o then b else not b) && ltb number below && q)
+  unfolding same_count when◌then◌else◌
   counted row n m below b o q h g f = rw (one-count n m b o) (go (eqb n m) refl b o h g f)
     where
       go : (t : Bool) → eqb n m ≡ t → (b o : Bool) → inputs_sized n words ≡ true → output_sized b o1 ≡ true → (inputs_sized m words ≡ true → output_sized o o1 ≡ true → steps row m o ≡ q) →
-          (t && (if b then o else not o) && ltb number below && steps row n b) ≡ (t && (if o then b else not b) && ltb number below && q)
+          (t && (when b then o else not o) && ltb number below && steps row n b) ≡ (t && (when o then b else not b) && ltb number below && q)
       go false e b o h g f = refl
       go true e true true h g f = let z : n ≡ m = eqb-true n m e in rw (z, f (rw z at h) g)
       go true e false false h g f = let z : n ≡ m = eqb-true n m e in rw (z, f (rw z at h) g)
@@ -183,7 +183,7 @@ module _ (pointer : ℕ) (kind : ActionKind) (number x0 y0 x1 y1 : ℕ) (r : Lis
   -- each row, of the operands that its operations have
   pub row_fit_lem : (row : Row) (n : ℕ) (b : Bool) → leb n 8 ≡ true → inputs_sized n words ≡ true → output_sized b o1 ≡ true →
       (shaped n b number (shape_of_row row) && steps row n b) ≡ row_fit pointer row number n b (y0 / 16777216) (y1 / 16777216) (o1 / 16777216)
-  unfolding shape_of_row or_else and_then if◌then◌else◌ row_fit inputs_of output_of all steps_of
+  unfolding shape_of_row or_else and_then when◌then◌else◌ row_fit inputs_of output_of all steps_of
   row_fit_lem w.triple n b l h g =
       counted w.triple n 2 1 b true (eqb (y0 / 16777216) (y1 / 16777216) && eqb (y0 / 16777216) (o1 / 16777216)) h g (λ i j. triple pointer kind number (value_of x0 y0) (value_of x1 y1) (value_of o0 o1) _ _ _ (in_0 1 i) (out_0 j) (in_1 0 i))
       ∙ rw (below_one number) (sym (assoc (eqb n 2 && b && eqb number 0) _ _))

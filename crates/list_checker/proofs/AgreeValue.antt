@@ -8,7 +8,7 @@ use native.Mathlib.Omega.{arith}
 use lib.ListN.{length, get_or, drop, get_elem?}
 use lib.Dec.{eqb, ltb}
 use borrow.Author.Tests.{lt-ltb, le-ltb, le-leb, eq-eqb, ne_eqb, ltb-true, ltb-false, eqb-true, eqb-false}
-use Rattle.prelude.specs.Base.{if◌then◌else◌, or_else, and_then, all, same_numbers}
+use Rattle.prelude.specs.Base.{when◌then◌else◌, or_else, and_then, all, same_numbers}
 use Rattle.definition.specs.Value.{Kind, kind_number, Value}
 use Rattle.definition.specs.ActionList.{or_none, value_words, input_words, filled}
 use Rattle.definition.specs.Checker.{kinds, size_from, value_from, inputs_from, number_fits, value_fits}
@@ -25,8 +25,8 @@ value_of number word = record { kind = kind_of (word % 256); number = number; of
 unfoldable pub known : ℕ → Bool
 known word = ltb (word % 256) 8
 
-kind_from : (m : ℕ) → get_elem? kinds m ≡ (if ltb m 8 then some (kind_of m) else none)
-unfolding kinds kind_of if◌then◌else◌ or_else
+kind_from : (m : ℕ) → get_elem? kinds m ≡ (when ltb m 8 then some (kind_of m) else none)
+unfolding kinds kind_of when◌then◌else◌ or_else
 kind_from zero = refl
 kind_from (suc zero) = refl
 kind_from (suc (suc zero)) = refl
@@ -50,7 +50,7 @@ kind_back (suc (suc (suc (suc (suc (suc (suc zero))))))) h = refl
 kind_back (suc (suc (suc (suc (suc (suc (suc (suc m)))))))) h = absurd (omega arith)
 
 number_fit_lem : (t s m n : ℕ) → (ltb m 8 && number_fits t s (kind_of m) n) ≡ number_fit t s m n
-unfolding kinds kind_of number_fits number_fit if◌then◌else◌ or_else
+unfolding kinds kind_of number_fits number_fit when◌then◌else◌ or_else
 number_fit_lem t s zero n = refl
 number_fit_lem t s (suc zero) n = refl
 number_fit_lem t s (suc (suc zero)) n = refl
@@ -64,19 +64,19 @@ number_fit_lem t s (suc (suc (suc (suc (suc (suc (suc (suc m)))))))) n = go (suc
     go : (k : ℕ) → 8 ≤ k → (ltb k 8 && number_fits t s (kind_of k) n) ≡ number_fit t s k n
     go k h = rw (le-ltb k 2 (omega arith), le-ltb k 4 (omega arith), le-ltb k 6 (omega arith), ne_eqb k 6 (λ z. omega arith), ne_eqb k 7 (λ z. omega arith), le-ltb k 8 h)
 
-pub value_from_lem : (n x : ℕ) → value_from n x ≡ (if known x then some (value_of n x) else none)
-unfolding value_from value_of known and_then if◌then◌else◌
+pub value_from_lem : (n x : ℕ) → value_from n x ≡ (when known x then some (value_of n x) else none)
+unfolding value_from value_of known and_then when◌then◌else◌
 value_from_lem n x = rw (kind_from (x % 256)) (go (ltb (x % 256) 8))
   where
-    go : (b : Bool) → and_then {B = Value} (if b then some (kind_of (x % 256)) else none) (λ k. some (record { kind = k; number = n; offset = x / 256 % 65536; size = size_from (x / 2 ^ 24) })) ≡ (if b then some (record { kind = kind_of (x % 256); number = n; offset = x / 256 % 65536; size = size_from (x / 16777216) }) else none)
+    go : (b : Bool) → and_then {B = Value} (when b then some (kind_of (x % 256)) else none) (λ k. some (record { kind = k; number = n; offset = x / 256 % 65536; size = size_from (x / 2 ^ 24) })) ≡ (when b then some (record { kind = kind_of (x % 256); number = n; offset = x / 256 % 65536; size = size_from (x / 16777216) }) else none)
     go true = refl
     go false = refl
 
 pub size_back : (z : ℕ) → or_none (size_from z) ≡ z
-unfolding or_none size_from or_else if◌then◌else◌
+unfolding or_none size_from or_else when◌then◌else◌
 size_back z = go (eqb z 65535) refl
   where
-    go : (b : Bool) → eqb z 65535 ≡ b → or_else 65535 (if b then none else some z) ≡ z
+    go : (b : Bool) → eqb z 65535 ≡ b → or_else 65535 (when b then none else some z) ≡ z
     go true e = sym (eqb-true _ _ e)
     go false e = refl
 
@@ -88,10 +88,10 @@ unfolding value_words value_of known
 value_back n x h = rw (kind_back (x % 256) (ltb-true _ _ h), size_back (x / 16777216), word_back x)
 
 size_fit : (x : ℕ) → ltb (or_else 0 (size_from (x / 16777216))) 65535 ≡ ltb x 1099511627776
-unfolding or_else size_from if◌then◌else◌
+unfolding or_else size_from when◌then◌else◌
 size_fit x = go (eqb (x / 16777216) 65535) (ltb (x / 16777216) 65535) refl refl
   where
-    go : (b c : Bool) → eqb (x / 16777216) 65535 ≡ b → ltb (x / 16777216) 65535 ≡ c → ltb (or_else 0 (if b then none else some (x / 16777216))) 65535 ≡ ltb x 1099511627776
+    go : (b c : Bool) → eqb (x / 16777216) 65535 ≡ b → ltb (x / 16777216) 65535 ≡ c → ltb (or_else 0 (when b then none else some (x / 16777216))) 65535 ≡ ltb x 1099511627776
     go true c e f = let g : x / 16777216 ≡ 65535 = eqb-true _ _ e in rw (lt-ltb x 1099511627776 (omega arith))
     go false true e f = let g : x / 16777216 < 65535 = ltb-true _ _ f in rw (f, lt-ltb x 1099511627776 (omega arith))
     go false false e f =
@@ -134,12 +134,12 @@ unfoldable pub inputs_known : ℕ → List ℕ → Bool
 inputs_known zero r = true
 inputs_known (suc n) r = known (get_or r 1 0) && inputs_known n (drop 2 r)
 
-pub inputs_from_lem : (n : ℕ) (r : List ℕ) → inputs_from n r ≡ (if inputs_known n r then some (inputs_of n r) else none)
-unfolding inputs_from inputs_known inputs_of and_then if◌then◌else◌
+pub inputs_from_lem : (n : ℕ) (r : List ℕ) → inputs_from n r ≡ (when inputs_known n r then some (inputs_of n r) else none)
+unfolding inputs_from inputs_known inputs_of and_then when◌then◌else◌
 inputs_from_lem zero r = refl
 inputs_from_lem (suc n) r = rw (value_from_lem (get_or r 0 0) (get_or r 1 0), inputs_from_lem n (drop 2 r)) (go (known (get_or r 1 0)) (inputs_known n (drop 2 r)))
   where
-    go : (a b : Bool) → and_then (if a then some (value_of (get_or r 0 0) (get_or r 1 0)) else none) (λ v. and_then (if b then some (inputs_of n (drop 2 r)) else none) (λ vs. some (v ∷ vs))) ≡ (if a && b then some (value_of (get_or r 0 0) (get_or r 1 0) ∷ inputs_of n (drop 2 r)) else none)
+    go : (a b : Bool) → and_then (when a then some (value_of (get_or r 0 0) (get_or r 1 0)) else none) (λ v. and_then (when b then some (inputs_of n (drop 2 r)) else none) (λ vs. some (v ∷ vs))) ≡ (when a && b then some (value_of (get_or r 0 0) (get_or r 1 0) ∷ inputs_of n (drop 2 r)) else none)
     go false b = refl
     go true false = refl
     go true true = refl
@@ -150,11 +150,11 @@ inputs_length zero r = refl
 inputs_length (suc n) r = ap suc (inputs_length n (drop 2 r))
 
 pub same-zeros : (r : List ℕ) → same_numbers r (filled (length r) []) ≡ zeros r
-unfolding same_numbers filled zeros if◌then◌else◌
+unfolding same_numbers filled zeros when◌then◌else◌
 same-zeros [] = refl
 same-zeros (x ∷ r) = rw (same-zeros r) (go (eqb x 0))
   where
-    go : (b : Bool) → (if b then zeros r else false) ≡ (b && zeros r)
+    go : (b : Bool) → (when b then zeros r else false) ≡ (b && zeros r)
     go true = refl
     go false = refl
 
@@ -165,13 +165,13 @@ and_true false = refl
 -- the inputs are read, written as the same words, and fit
 pub inputs_fit_lem : (t s n : ℕ) (r : List ℕ) → 2 * n ≤ length r →
     (inputs_known n r && (same_numbers r (filled (length r) (input_words (inputs_of n r))) && all (value_fits t s) (inputs_of n r))) ≡ values_fit t s false n r
-unfolding inputs_known inputs_of values_fit input_words all same_numbers filled if◌then◌else◌
+unfolding inputs_known inputs_of values_fit input_words all same_numbers filled when◌then◌else◌
 inputs_fit_lem t s zero r h = rw (same-zeros r) (and_true (zeros r))
 inputs_fit_lem t s (suc n) [] h = absurd (omega arith)
 inputs_fit_lem t s (suc n) (x ∷ []) h = absurd (omega arith)
 inputs_fit_lem t s (suc n) (x ∷ y ∷ r) h = rw (← value_fit_lem t s x y, ← inputs_fit_lem t s n r (omega arith)) (go (known y) refl)
   where
-    turn : (k b f g : Bool) → (k && (b && (if f then g else false))) ≡ (f && (k && (b && g)))
+    turn : (k b f g : Bool) → (k && (b && (when f then g else false))) ≡ (f && (k && (b && g)))
     turn false b true g = refl
     turn false b false g = refl
     turn true false true g = refl
@@ -180,7 +180,7 @@ inputs_fit_lem t s (suc n) (x ∷ y ∷ r) h = rw (← value_fit_lem t s x y, �
     turn true true false g = refl
 
     go : (k : Bool) → known y ≡ k →
-        (k && inputs_known n r && (same_numbers (x ∷ y ∷ r) (filled (suc (suc (length r))) (value_words (value_of x y) ++ input_words (inputs_of n r))) && (if value_fits t s (value_of x y) then all (value_fits t s) (inputs_of n r) else false)))
+        (k && inputs_known n r && (same_numbers (x ∷ y ∷ r) (filled (suc (suc (length r))) (value_words (value_of x y) ++ input_words (inputs_of n r))) && (when value_fits t s (value_of x y) then all (value_fits t s) (inputs_of n r) else false)))
         ≡ (k && value_fits t s (value_of x y) && (inputs_known n r && (same_numbers r (filled (length r) (input_words (inputs_of n r))) && all (value_fits t s) (inputs_of n r))))
     go false e = refl
     go true e = rw (value_back x y e, eq-eqb x x refl, eq-eqb y y refl) (turn (inputs_known n r) (same_numbers r (filled (length r) (input_words (inputs_of n r)))) (value_fits t s (value_of x y)) (all (value_fits t s) (inputs_of n r)))

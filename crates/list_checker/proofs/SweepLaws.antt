@@ -9,7 +9,7 @@ use lib.ListN.{length, get_or, take, drop, set, replicate, length-set, length-dr
 use lib.Seq.{get_or-set_same, get_or-set_other, drop-drop, take_all}
 use lib.Dec.{eqb, leb, ltb}
 use borrow.Author.Tests.{leb-true, leb-false, ltb-true, ltb-false, eqb-true, eqb-false, not-true, not-false}
-use Rattle.prelude.specs.Base.{if◌then◌else◌}
+use Rattle.prelude.specs.Base.{when◌then◌else◌}
 use Rattle.definition.specs.Checker.{check}
 use Rattle.list_checker.specs.Action.{zeros, action_fit}
 use Rattle.list_checker.specs.Sweep.{Noted, noted, note_label, note_build, all_marked, when_new, sweep, rows_fit, labels_new, built_after, builds_it, any_builds, all_built_by, list_fit}
@@ -37,7 +37,7 @@ sweep_parts t s p base (suc n) ws seen built =
 
 -- what a table of subtables holds after the actions
 note_at : (base : ℕ) (w built : List ℕ) (j : ℕ) → j < length built → eqb (get_or (note_build base w built) j 0) 0 ≡ (eqb (get_or built j 0) 0 && not (builds_it (base + j) w))
-unfolding note_build builds_it if◌then◌else◌
+unfolding note_build builds_it when◌then◌else◌
 note_at base w built j h = go (eqb (get_or w 0 0) 5) (leb base (get_or w 2 0)) refl (eqb (base + j) (get_or w 2 0)) refl
   where
     none_false : (x : Bool) → false ≡ (x && false)
@@ -45,7 +45,7 @@ note_at base w built j h = go (eqb (get_or w 0 0) 5) (leb base (get_or w 2 0)) r
     none_false false = refl
 
     go : (k l : Bool) → leb base (get_or w 2 0) ≡ l → (b : Bool) → eqb (base + j) (get_or w 2 0) ≡ b →
-        eqb (get_or (if k && l then set built (get_or w 2 0 - base) 1 else built) j 0) 0 ≡ (eqb (get_or built j 0) 0 && not (k && b))
+        eqb (get_or (when k && l then set built (get_or w 2 0 - base) 1 else built) j 0) 0 ≡ (eqb (get_or built j 0) 0 && not (k && b))
     go false l e b f = sym (and_true _)
     go true false e true f =
         let i : get_or w 2 0 < base = leb-false _ _ e in
@@ -63,10 +63,10 @@ note_at base w built j h = go (eqb (get_or w 0 0) 5) (leb base (get_or w 2 0)) r
         rw (get_or-set_other built (get_or w 2 0 - base) j 1 0 (λ z. y (omega arith))) (sym (and_true (eqb (get_or built j 0) 0)))
 
 note_length : (base : ℕ) (w built : List ℕ) → length (note_build base w built) ≡ length built
-unfolding note_build if◌then◌else◌
+unfolding note_build when◌then◌else◌
 note_length base w built = go (eqb (get_or w 0 0) 5 && leb base (get_or w 2 0))
   where
-    go : (k : Bool) → length (if k then set built (get_or w 2 0 - base) 1 else built) ≡ length built
+    go : (k : Bool) → length (when k then set built (get_or w 2 0 - base) 1 else built) ≡ length built
     go false = refl
     go true = length-set built (get_or w 2 0 - base) 1
 
@@ -76,14 +76,14 @@ after_length base zero ws built = refl
 after_length base (suc n) ws built = after_length base n (drop 24 ws) (note_build base (take 24 ws) built) ∙ note_length base (take 24 ws) built
 
 marks_at : (base n : ℕ) (ws built : List ℕ) (j : ℕ) → j < length built → eqb (get_or (built_after base n ws built) j 0) 0 ≡ (eqb (get_or built j 0) 0 && not (any_builds (base + j) n ws))
-unfolding built_after any_builds if◌then◌else◌
+unfolding built_after any_builds when◌then◌else◌
 marks_at base zero ws built j h = sym (and_true _)
 marks_at base (suc n) ws built j h =
     let l : length (note_build base (take 24 ws) built) ≡ length built = note_length base (take 24 ws) built in
     marks_at base n (drop 24 ws) (note_build base (take 24 ws) built) j (omega arith)
     ∙ rw (note_at base (take 24 ws) built j h) (go (eqb (get_or built j 0) 0) (builds_it (base + j) (take 24 ws)) (any_builds (base + j) n (drop 24 ws)))
   where
-    go : (x b c : Bool) → (x && not b && not c) ≡ (x && not (if b then true else c))
+    go : (x b c : Bool) → (x && not b && not c) ≡ (x && not (when b then true else c))
     go true true c = refl
     go true false c = refl
     go false b c = refl

@@ -1,6 +1,6 @@
 -- One action, asked of its words.
 use Rattle.std.specs.Prelude.{ℕ, zero, suc, ◌/◌, ◌%◌, Bool, true, false, ◌&&◌, ◌||◌, not, List, [], ◌∷◌, get_or, drop, eqb, leb, ltb}
-use Rattle.prelude.specs.Base.{if◌then◌else◌}
+use Rattle.prelude.specs.Base.{when◌then◌else◌}
 
 unfoldable pub zeros : List ℕ → Bool
 zeros [] = true
@@ -11,10 +11,10 @@ zeros (w ∷ words) = eqb w 0 && zeros words
 module _ (temporaries subtables : ℕ) where
   unfoldable pub number_fit : ℕ → ℕ → Bool
   number_fit kind number =
-      if ltb kind 2 then eqb number 0
-      else if ltb kind 4 then true
-      else if ltb kind 6 then ltb number subtables
-      else if eqb kind 6 then ltb number temporaries
+      when ltb kind 2 then eqb number 0
+      else when ltb kind 4 then true
+      else when ltb kind 6 then ltb number subtables
+      else when eqb kind 6 then ltb number temporaries
       else eqb kind 7
 
   -- a value's two words
@@ -32,8 +32,8 @@ module _ (temporaries subtables : ℕ) where
 
 unfoldable pub has_output : ℕ → ℕ → ℕ → Bool
 has_output kind number word =
-    if eqb kind 0 then not (eqb number 0) || not (eqb word 255)
-    else if ltb kind 3 then true
+    when eqb kind 0 then not (eqb number 0) || not (eqb word 255)
+    else when ltb kind 3 then true
     else not (eqb number 0) || not (eqb word 0)
 
 -- Operations, by what is asked of them; unknown is none.
@@ -59,30 +59,30 @@ pub data Row : Type 0 where
 
 unfoldable pub row_of : ℕ → Row
 row_of op =
-    if ltb op 7 then triple
-    else if ltb op 10 then shift
-    else if ltb op 16 then comparison
-    else if ltb op 20 then triple
-    else if ltb op 24 then comparison
-    else if ltb op 27 then triple
-    else if ltb op 30 then boolean
-    else if ltb op 33 then comparison
-    else if ltb op 39 then unknown
-    else if eqb op 39 then negation
-    else if ltb op 42 then same
-    else if eqb op 42 then tested
-    else if ltb op 45 then free
-    else if ltb op 51 then same
-    else if ltb op 57 then free
-    else if eqb op 57 then same
-    else if eqb op 58 then load
-    else if eqb op 59 then store
-    else if eqb op 60 then branch
-    else if eqb op 61 then condition
-    else if eqb op 62 then label
-    else if eqb op 63 then user
-    else if eqb op 64 then argument
-    else if eqb op 65 then invalid
+    when ltb op 7 then triple
+    else when ltb op 10 then shift
+    else when ltb op 16 then comparison
+    else when ltb op 20 then triple
+    else when ltb op 24 then comparison
+    else when ltb op 27 then triple
+    else when ltb op 30 then boolean
+    else when ltb op 33 then comparison
+    else when ltb op 39 then unknown
+    else when eqb op 39 then negation
+    else when ltb op 42 then same
+    else when eqb op 42 then tested
+    else when ltb op 45 then free
+    else when ltb op 51 then same
+    else when ltb op 57 then free
+    else when eqb op 57 then same
+    else when eqb op 58 then load
+    else when eqb op 59 then store
+    else when eqb op 60 then branch
+    else when eqb op 61 then condition
+    else when eqb op 62 then label
+    else when eqb op 63 then user
+    else when eqb op 64 then argument
+    else when eqb op 65 then invalid
     else unknown
 
 -- The number, the input count, whether there is an output, and the sizes of the two inputs and the output.
@@ -114,16 +114,16 @@ module _ (pointer : ℕ) where
 -- Other actions have no operation; an AddressOf's base is unsized at offset 0.
 unfoldable pub kind_fit : ℕ → ℕ → ℕ → ℕ → ℕ → Bool → ℕ → Bool
 kind_fit subtables kind op number n output base =
-    if eqb kind 1 then eqb op 0 && eqb number 0 && eqb n 1 && output && eqb (base / 256) 4294901760
-    else if eqb kind 2 then eqb op 0 && ltb number 1025 && eqb n 1 && output
-    else if eqb kind 3 then eqb op 0 && ltb number 1025 && eqb n 2 && not output
-    else if eqb kind 4 then eqb op 0 && eqb number 0 && eqb n 0 && not output
-    else if eqb kind 5 then eqb op 0 && ltb number subtables && eqb n 0 && not output
+    when eqb kind 1 then eqb op 0 && eqb number 0 && eqb n 1 && output && eqb (base / 256) 4294901760
+    else when eqb kind 2 then eqb op 0 && ltb number 1025 && eqb n 1 && output
+    else when eqb kind 3 then eqb op 0 && ltb number 1025 && eqb n 2 && not output
+    else when eqb kind 4 then eqb op 0 && eqb number 0 && eqb n 0 && not output
+    else when eqb kind 5 then eqb op 0 && ltb number subtables && eqb n 0 && not output
     else false
 
 unfoldable pub head_fit : ℕ → ℕ → Bool → List ℕ → Bool
 head_fit subtables pointer output w =
-    if eqb (get_or w 0 0) 0 then operation_fit pointer output w
+    when eqb (get_or w 0 0) 0 then operation_fit pointer output w
     else kind_fit subtables (get_or w 0 0) (get_or w 1 0) (get_or w 2 0) (get_or w 3 0) output (get_or w 7 0)
 
 unfoldable pub output_there : List ℕ → Bool

@@ -1,6 +1,6 @@
 -- The sweeps over a list of actions, with labels placed and subtables built marked in tables.
 use Rattle.std.specs.Prelude.{ℕ, zero, suc, ◌-◌, Bool, true, false, ◌&&◌, not, List, [], ◌∷◌, get_or, set, take, drop, replicate, eqb, leb}
-use Rattle.prelude.specs.Base.{if◌then◌else◌}
+use Rattle.prelude.specs.Base.{when◌then◌else◌}
 use Rattle.list_checker.specs.Action.{action_fit}
 
 unfoldable pub places_label : List ℕ → Bool
@@ -11,10 +11,10 @@ pub data Noted : Type 0 where
   noted : Bool → List ℕ → Noted
 
 unfoldable pub note_label : List ℕ → List ℕ → Noted
-note_label w seen = if places_label w then noted (eqb (get_or seen (get_or w 2 0) 0) 0) (set seen (get_or w 2 0) 1) else noted true seen
+note_label w seen = when places_label w then noted (eqb (get_or seen (get_or w 2 0) 0) 0) (set seen (get_or w 2 0) 1) else noted true seen
 
 unfoldable pub note_build : ℕ → List ℕ → List ℕ → List ℕ
-note_build base w built = if eqb (get_or w 0 0) 5 && leb base (get_or w 2 0) then set built (get_or w 2 0 - base) 1 else built
+note_build base w built = when eqb (get_or w 0 0) 5 && leb base (get_or w 2 0) then set built (get_or w 2 0 - base) 1 else built
 
 -- the first entries of a table, as many as are asked for or there are
 unfoldable pub all_marked : ℕ → List ℕ → Bool
@@ -55,7 +55,7 @@ builds_it i w = eqb (get_or w 0 0) 5 && eqb i (get_or w 2 0)
 
 unfoldable pub any_builds : ℕ → ℕ → List ℕ → Bool
 any_builds i zero ws = false
-any_builds i (suc n) ws = if builds_it i (take 24 ws) then true else any_builds i n (drop 24 ws)
+any_builds i (suc n) ws = when builds_it i (take 24 ws) then true else any_builds i n (drop 24 ws)
 
 unfoldable pub all_built_by : ℕ → List ℕ → ℕ → Bool
 all_built_by n ws zero = true

@@ -7,7 +7,7 @@ use Rattle.list_values.specs.declared.sizes.Sizing.{Sizing}
 use Rattle.list_end.specs.declared.end.Fixed.{Fixed}
 use Rattle.list_end.specs.declared.end.Finished.{Finished}
 use Rattle.list_values.specs.Base.{Listed, listed, then_l}
-use Rattle.prelude.specs.Base.{if◌then◌else◌}
+use Rattle.prelude.specs.Base.{when◌then◌else◌}
 use Rattle.access.specs.Loops.{run}
 use Rattle.list_values.specs.Values.{with_size, slice_bytes, value_at, put_value, place, zero_word}
 use Rattle.list_values.specs.Sizes.{size_of, error, falls_back}
@@ -21,8 +21,8 @@ finished refusal z = record { refusal = refusal; z = z }
 -- the known size, else the fallback, else an error
 unfoldable pub fix_size : List ℕ → List ℕ → List ℕ → Value → ℕ → Sizing → Fixed
 fix_size s t m v ptr z =
-    if size_of s t m v == 65535
-    then (if falls_back v then fixed (with_size ptr v) z else fixed v (error z))
+    when size_of s t m v == 65535
+    then (when falls_back v then fixed (with_size ptr v) z else fixed v (error z))
     else fixed (with_size (size_of s t m v) v) z
 
 unfoldable pub put_fixed : List ℕ → ℕ → ℕ → Fixed → Listed Sizing
@@ -39,7 +39,7 @@ unfoldable pub fix_inputs : List ℕ → List ℕ → List ℕ → List ℕ → 
 fix_inputs s t a m at n ptr z = run n 0 (fix_input s t m at ptr) (listed z a)
 
 unfoldable pub fix_output : List ℕ → List ℕ → List ℕ → List ℕ → ℕ → ℕ → Sizing → Listed Sizing
-fix_output s t a m at ptr z = if slice_index a (at + 5) == 255 then listed z a else fix_operand s t a m at 4 ptr z
+fix_output s t a m at ptr z = when slice_index a (at + 5) == 255 then listed z a else fix_operand s t a m at 4 ptr z
 
 unfoldable pub fix_operands : List ℕ → List ℕ → List ℕ → List ℕ → ℕ → ℕ → Sizing → Listed Sizing
 fix_operands s t a m at ptr z =
@@ -56,24 +56,24 @@ copy_of a at (Slice.No n) = listed n a
 -- a subpiece becomes a Copy of part of its input: 50 or 42, or 0
 unfoldable pub subpiece_copy : List ℕ → ℕ → Listed ℕ
 subpiece_copy a at =
-    if (value_at a at 4).size == 65535 then listed 50 a
+    when (value_at a at 4).size == 65535 then listed 50 a
     else copy_of a at (slice_bytes (value_at a at 6) (slice_index a (at + 2) % 65536) (value_at a at 4).size)
 
 unfoldable pub finish_fixed : List ℕ → ℕ → Sizing → Listed Finished
 finish_fixed a at z =
-    if slice_index a (at + 1) == 66
+    when slice_index a (at + 1) == 66
     then then_l (subpiece_copy a at) (λ r b. listed (finished r z) b)
     else listed (finished 0 z) a
 
 unfoldable pub finish_op : List ℕ → List ℕ → List ℕ → List ℕ → ℕ → ℕ → Sizing → Listed Finished
 finish_op s t a m at ptr z =
-    if slice_index a (at + 0) == 0
+    when slice_index a (at + 0) == 0
     then then_l (fix_operands s t a m at ptr z) (λ y b. finish_fixed b at y)
     else listed (finished 0 z) a
 
 -- on unless there is a refusal
 unfoldable pub then_f : Listed Finished → (Sizing → List ℕ → Listed Finished) → Listed Finished
-then_f (listed f a) g = if f.refusal == 0 then g f.z a else listed f a
+then_f (listed f a) g = when f.refusal == 0 then g f.z a else listed f a
 
 -- k actions, the first with the number i
 unfoldable pub finish_from : ℕ → ℕ → List ℕ → List ℕ → List ℕ → List ℕ → ℕ → ℕ → Sizing → Listed Finished
@@ -86,7 +86,7 @@ finish_actions s t a m base n ptr z = finish_from n 0 s t a m base ptr z
 
 -- Marks the subtable that an action builds.
 unfoldable pub mark_build : ℕ → ℕ → List ℕ → List ℕ
-mark_build kind number built = if kind == 5 then slice_set built number 1 else built
+mark_build kind number built = when kind == 5 then slice_set built number 1 else built
 
 unfoldable pub mark_action : List ℕ → ℕ → ℕ → List ℕ → List ℕ
 mark_action a base i built = mark_build (slice_index a (place base i + 0)) (slice_index a (place base i + 2)) built
@@ -103,7 +103,7 @@ write_build a at number = slice_set (slice_set (zero_action a at) (at + 0) 5) (a
 -- a Build of subtable i behind k others, unless it is built
 unfoldable pub implicit_build : List ℕ → ℕ → Listed ℕ → Listed ℕ
 implicit_build built i x =
-    then_l x λ k a. if slice_index built i == 0 then listed ((k + 1) % 2 ^ 64) (write_build a (place 0 k) i) else listed k a
+    then_l x λ k a. when slice_index built i == 0 then listed ((k + 1) % 2 ^ 64) (write_build a (place 0 k) i) else listed k a
 
 -- of the first n subtables, a Build of each that is not built; how many
 unfoldable pub implicit_builds : List ℕ → List ℕ → ℕ → Listed ℕ
@@ -122,7 +122,7 @@ move_to base to i l = move_action l (place base i) (place to i)
 -- n actions from a position to behind k others
 unfoldable pub move_down : List ℕ → ℕ → ℕ → ℕ → List ℕ
 move_down a base k n =
-    if base == place 0 k then a else run n 0 (move_to base (place 0 k)) a
+    when base == place 0 k then a else run n 0 (move_to base (place 0 k)) a
 
 unfoldable pub zero_from : List ℕ → ℕ → List ℕ
 zero_from l from = take from l ++ replicate (length l - from) 0

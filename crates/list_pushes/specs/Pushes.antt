@@ -8,7 +8,7 @@ use Rattle.list_pushes.specs.declared.push.Env.{Env}
 use Rattle.list_pushes.specs.declared.push.Read.{Read}
 use Rattle.list_pushes.specs.declared.push.Pushed.{Pushed}
 use Rattle.list_values.specs.Base.{Listed, listed}
-use Rattle.prelude.specs.Base.{if◌then◌else◌}
+use Rattle.prelude.specs.Base.{when◌then◌else◌}
 use Rattle.access.specs.Loops.{run}
 use Rattle.list_values.specs.Values.{local, value_at, put_value, zero_word}
 use Rattle.list_values.specs.Sizes.{then_s}
@@ -61,15 +61,15 @@ tmp_word name size = name % 65536 + size % 65536 * 65536
 -- a temporary: the lent words or 512 at most
 unfoldable pub add_tmp : List ℕ → ℕ → ℕ → State → Listed Read
 add_tmp m name size st =
-    if ltb st.temporaries (length m)
-    then (if ltb st.temporaries 512
+    when ltb st.temporaries (length m)
+    then (when ltb st.temporaries 512
     then listed (Read.Value (local 6 st.temporaries) (with_temporaries (st.temporaries + 1) st)) (set m st.temporaries (tmp_word name size))
     else listed (Read.No 13) m)
     else listed (Read.No 13) m
 
 -- the output given, else a fresh temporary of that size
 unfoldable pub output_or : List ℕ → Bool → Value → ℕ → State → Listed Read
-output_or m given to size st = if given then listed (Read.Value to st) m else add_tmp m 65535 size st
+output_or m given to size st = when given then listed (Read.Value to st) m else add_tmp m 65535 size st
 
 unfoldable pub write_operands : List ℕ → ℕ → Value → Value → Value → List ℕ
 write_operands a at out x y = put_value (put_value (put_value a at 4 out) at 6 x) at 8 y
@@ -88,7 +88,7 @@ write a at kind op number count out x y = write_zeros (write_operands (write_hea
 -- an action of any kind with at most two inputs, pushed as it is
 unfoldable pub push : List ℕ → ℕ → ℕ → ℕ → ℕ → Value → Value → Value → State → Listed Pushed
 push a kind op number count out x y st =
-    if leb (st.end + 24) (length a)
+    when leb (st.end + 24) (length a)
     then listed (Pushed.Done (with_end (st.end + 24) st)) (write a st.end kind op number count out x y)
     else listed (Pushed.No 12) a
 

@@ -162,7 +162,7 @@ module _ (s t : List ℕ) (sec : Section) (holds : SizesHold s t sec) where
   unfolding and_then or_else fallback_size
   fallback_fits x p = go (at p x)
     where
-      test : (b : Bool) → or_else 0 (definition.if◌then◌else◌ b (some (pointer_size sec)) none) < 65535
+      test : (b : Bool) → or_else 0 (definition.when◌then◌else◌ b (some (pointer_size sec)) none) < 65535
       test true = unfold base_opens in holds.pointer_small
       test false = unfold base_opens in omega arith
 
@@ -171,7 +171,7 @@ module _ (s t : List ℕ) (sec : Section) (holds : SizesHold s t sec) where
       go (some v) = test _
 
   late_fits : (late : Bool) (x : SemanticAction) (ps : List Operand)
-      → or_else 0 (definition.if◌then◌else◌ late (first (λ p. and_then (at p x) (fallback_size sec)) ps) none) < 65535
+      → or_else 0 (definition.when◌then◌else◌ late (first (λ p. and_then (at p x) (fallback_size sec)) ps) none) < 65535
   unfolding base_opens
   late_fits true x ps = first_small (λ p. and_then (at p x) (fallback_size sec)) (fallback_fits x) ps
   late_fits false x ps = omega arith
@@ -189,7 +189,7 @@ module _ (s t : List ℕ) (sec : Section) (holds : SizesHold s t sec) where
   but_fewer passes (p ∷ ps) = go (passes p) (but_fewer passes ps)
     where
       go : (b : Bool) → length (but_first passes ps) ≤ length ps
-          → length (definition.if◌then◌else◌ b ps (p ∷ but_first passes ps)) ≤ suc (length ps)
+          → length (definition.when◌then◌else◌ b ps (p ∷ but_first passes ps)) ≤ suc (length ps)
       go true h = omega arith
       go false h = omega arith
 
@@ -203,7 +203,7 @@ module _ (s t : List ℕ) (sec : Section) (holds : SizesHold s t sec) where
       qs : List Operand
       qs = but_first (λ p. is_some (known_at sec x z p)) ps
 
-      go : (c : Bool) → Gives sec (length ps) x z (definition.if◌then◌else◌ c (x, z) (set_operands sec n qs x z))
+      go : (c : Bool) → Gives sec (length ps) x z (definition.when◌then◌else◌ c (x, z) (set_operands sec n qs x z))
       go true = unfold base_opens in after_refl (length ps) x z f
       go false = unfold base_opens in sets_after n h qs x z (length ps) (but_fewer (λ p. is_some (known_at sec x z p)) ps) f
 

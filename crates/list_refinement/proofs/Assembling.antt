@@ -11,7 +11,7 @@ use lib.Seq.{get_or-set_same, get_or-set_other, get_or_at, set_at, take_at, drop
 use lib.Dec.{eqb}
 use borrow.Author.Tests.{eqb-true, eqb-false}
 use Rattle.prelude.specs.Base as definition
-use Rattle.prelude.specs.Base.{any, if◌then◌else◌}
+use Rattle.prelude.specs.Base.{any, when◌then◌else◌}
 use Rattle.definition.specs.Value.{ActionKind, SemanticAction, operation_of}
 use Rattle.definition.specs.End as d
 use Rattle.definition.specs.End.{is_build, builds}
@@ -39,21 +39,21 @@ mark_length : (k n : ℕ) (b : List ℕ) → length (mark_build k n b) ≡ lengt
 unfolding mark_build
 mark_length k n b = go (eqb k 5)
   where
-    go : (c : Bool) → length (if c then set b n 1 else b) ≡ length b
-    go true = unfold if◌then◌else◌ in length-set b n 1
-    go false = unfold if◌then◌else◌ in refl
+    go : (c : Bool) → length (when c then set b n 1 else b) ≡ length b
+    go true = unfold when◌then◌else◌ in length-set b n 1
+    go false = unfold when◌then◌else◌ in refl
 
-set_get : (b : List ℕ) (n i : ℕ) → i < length b → get_or (set b n 1) i 0 ≡ (if eqb i n then 1 else get_or b i 0)
-unfolding if◌then◌else◌
+set_get : (b : List ℕ) (n i : ℕ) → i < length b → get_or (set b n 1) i 0 ≡ (when eqb i n then 1 else get_or b i 0)
+unfolding when◌then◌else◌
 set_get b n i h = go (eqb i n) refl
   where
-    go : (c : Bool) → eqb i n ≡ c → get_or (set b n 1) i 0 ≡ (if c then 1 else get_or b i 0)
+    go : (c : Bool) → eqb i n ≡ c → get_or (set b n 1) i 0 ≡ (when c then 1 else get_or b i 0)
     go true e = let q : i ≡ n = eqb-true i n e in rw (← q) (get_or-set_same b i 1 0 h)
     go false e = get_or-set_other b n i 1 0 (eqb-false i n e)
 
 kind_get : (k : ActionKind) (n : ℕ) (b : List ℕ) (i : ℕ) → i < length b → get_or (mark_build (action_kind_number k) n b) i 0
-    ≡ (if (if is_build k then eqb i n else false) then 1 else get_or b i 0)
-unfolding mark_build action_kind_number is_build if◌then◌else◌
+    ≡ (when (when is_build k then eqb i n else false) then 1 else get_or b i 0)
+unfolding mark_build action_kind_number is_build when◌then◌else◌
 kind_get (ActionKind.Op op) n b i h = refl
 kind_get ActionKind.AddressOf n b i h = refl
 kind_get ActionKind.LoadRegister n b i h = refl
@@ -61,25 +61,25 @@ kind_get ActionKind.StoreRegister n b i h = refl
 kind_get ActionKind.DelaySlot n b i h = refl
 kind_get ActionKind.Build n b i h = set_get b n i h
 
-same_if : (a b : Bool) → (if a then b else false) ≡ definition.if◌then◌else◌ a b false
-unfolding if◌then◌else◌ base_opens
+same_if : (a b : Bool) → (when a then b else false) ≡ definition.when◌then◌else◌ a b false
+unfolding when◌then◌else◌ base_opens
 same_if true b = refl
 same_if false b = refl
 
 all_get : (xs : List SemanticAction) (b : List ℕ) (i : ℕ) → i < length b → get_or (mark_all xs b) i 0
-    ≡ (if any (builds i) xs then 1 else get_or b i 0)
+    ≡ (when any (builds i) xs then 1 else get_or b i 0)
 unfolding mark_all any
-all_get [] b i h = unfold if◌then◌else◌ in refl
+all_get [] b i h = unfold when◌then◌else◌ in refl
 all_get (x ∷ xs) b i h =
     all_get xs (mark_build (action_kind_number x.kind) x.number b) i (rw (mark_length (action_kind_number x.kind) x.number b) h)
     ∙ rw (kind_get x.kind x.number b i h) (unfold builds in rw (← same_if (is_build x.kind) (eqb i x.number))
-    (go (if is_build x.kind then eqb i x.number else false) (any (builds i) xs)))
+    (go (when is_build x.kind then eqb i x.number else false) (any (builds i) xs)))
   where
-    go : (p q : Bool) → (if q then 1 else (if p then 1 else get_or b i 0)) ≡ (if definition.if◌then◌else◌ p true q then 1 else get_or b i 0)
-    go true true = unfold if◌then◌else◌ base_opens in refl
-    go true false = unfold if◌then◌else◌ base_opens in refl
-    go false true = unfold if◌then◌else◌ base_opens in refl
-    go false false = unfold if◌then◌else◌ base_opens in refl
+    go : (p q : Bool) → (when q then 1 else (when p then 1 else get_or b i 0)) ≡ (when definition.when◌then◌else◌ p true q then 1 else get_or b i 0)
+    go true true = unfold when◌then◌else◌ base_opens in refl
+    go true false = unfold when◌then◌else◌ base_opens in refl
+    go false true = unfold when◌then◌else◌ base_opens in refl
+    go false false = unfold when◌then◌else◌ base_opens in refl
 
 module _ (front tail : List ℕ) (base : ℕ) (begins : length front ≡ base) (low : base < 4096) where
   mark-one : (ps : List SemanticAction) (x : SemanticAction) (xs : List SemanticAction) (b : List ℕ) → length ps < 700000000000000000
@@ -141,12 +141,12 @@ more_in l bs x =
     rw (list_append bs (x ∷ []), n, q, ← drop-drop 24 (24 * length bs) l) (simp append_assoc)
 
 module _ (ys : List SemanticAction) (l marks : List ℕ) (subtables : ℕ) (few : subtables ≤ 32) (room : 24 * subtables ≤ length l)
-    (marked : (i : ℕ) → i < subtables → get_or marks i 0 ≡ (if any (builds i) ys then 1 else 0)) where
+    (marked : (i : ℕ) → i < subtables → get_or marks i 0 ≡ (when any (builds i) ys then 1 else 0)) where
   build-one : (bs : List SemanticAction) (i : ℕ) → length bs ≤ i → i < subtables → (b : Bool) → any (builds i) ys ≡ b
       → implicit_build marks i (listed (length bs) (actions_in [] l bs))
-      ≡ (if b then listed (length bs) (actions_in [] l bs) else listed (length (bs ++ (built i ∷ [])))
+      ≡ (when b then listed (length bs) (actions_in [] l bs) else listed (length (bs ++ (built i ∷ [])))
       (actions_in [] l (bs ++ (built i ∷ []))))
-  unfolding implicit_build then_l if◌then◌else◌
+  unfolding implicit_build then_l when◌then◌else◌
   build-one bs i h j true e = let q : get_or marks i 0 ≡ 1 = marked i j ∙ rw e in rw q
   build-one bs i h j false e =
       let q : get_or marks i 0 ≡ 0 = marked i j ∙ rw e in
@@ -174,10 +174,10 @@ module _ (ys : List SemanticAction) (l marks : List ℕ) (subtables : ℕ) (few 
 
       go : (b : Bool) → run n (suc i) (implicit_build marks) (Held bs) ≡ Held (bs ++ rest)
           → run n (suc i) (implicit_build marks) (Held (bs ++ (built i ∷ []))) ≡ Held ((bs ++ (built i ∷ [])) ++ rest)
-          → run n (suc i) (implicit_build marks) (if b then Held bs else Held (bs ++ (built i ∷ [])))
-          ≡ Held (bs ++ definition.if◌then◌else◌ b rest (built i ∷ rest))
-      go true p q = unfold if◌then◌else◌ base_opens in p
-      go false p q = unfold if◌then◌else◌ base_opens in (rw (append_assoc bs (built i ∷ []) rest) at q)
+          → run n (suc i) (implicit_build marks) (when b then Held bs else Held (bs ++ (built i ∷ [])))
+          ≡ Held (bs ++ definition.when◌then◌else◌ b rest (built i ∷ rest))
+      go true p q = unfold when◌then◌else◌ base_opens in p
+      go false p q = unfold when◌then◌else◌ base_opens in (rw (append_assoc bs (built i ∷ []) rest) at q)
 
 -- moving down
 
@@ -272,7 +272,7 @@ implicit_few ys zero i = omega arith
 implicit_few ys (suc n) i = go (any (builds i) ys) (implicit_few ys n (suc i))
   where
     go : (b : Bool) → length (d.implicit_builds ys (suc i) n) ≤ n
-        → length (definition.if◌then◌else◌ b (d.implicit_builds ys (suc i) n) (built i ∷ d.implicit_builds ys (suc i) n)) ≤ suc n
+        → length (definition.when◌then◌else◌ b (d.implicit_builds ys (suc i) n) (built i ∷ d.implicit_builds ys (suc i) n)) ≤ suc n
     go true h = unfold base_opens in omega arith
     go false h = unfold base_opens in omega arith
 
@@ -303,7 +303,7 @@ module _ (front tail : List ℕ) (subtables : ℕ) (few : subtables ≤ 32) (beg
       (omega arith)
 
   marks_are : (i : ℕ) → i < subtables → get_or (mark_built whole (24 * subtables) (length ys) (replicate 32 0)) i 0
-      ≡ (if any (builds i) ys then 1 else 0)
+      ≡ (when any (builds i) ys then 1 else 0)
   marks_are i h =
       rw (mark_is front tail (24 * subtables) begins (omega arith) ys (replicate 32 0) (omega arith))
       (all_get ys (replicate 32 0) i (rw (length-replicate {A = ℕ} 32 0) (omega arith))
@@ -324,9 +324,9 @@ module _ (front tail : List ℕ) (subtables : ℕ) (few : subtables ≤ 32) (beg
 
   moved_is : (b : Bool) → eqb (24 * subtables) (24 * length before) ≡ b
       → (g : List ℕ) × (length g ≡ length gap)
-      × ((if b then actions_in [] whole before else run (length ys) 0 (move_to (24 * subtables) (24 * length before))
+      × ((when b then actions_in [] whole before else run (length ys) 0 (move_to (24 * subtables) (24 * length before))
       (actions_in [] whole before)) ≡ (list_words before ++ list_words ys) ++ (g ++ drop (24 * length ys) tail))
-  unfolding if◌then◌else◌
+  unfolding when◌then◌else◌
   moved_is true e =
       let k : 24 * subtables ≡ 24 * length before = eqb-true (24 * subtables) (24 * length before) e in
       let q : gap ≡ [] = drop_of_length-le front {i = 24 * length before} (omega arith) in

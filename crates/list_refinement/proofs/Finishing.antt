@@ -9,7 +9,7 @@ use lib.ListN.{length, get_or, set, drop, length-append, length-set}
 use lib.Dec.{eqb, leb}
 use borrow.Author.Tests.{ne_eqb, eq-eqb, eqb-true, eqb-false, leb-true}
 use Rattle.prelude.specs.Base as definition
-use Rattle.prelude.specs.Base.{or_else, and_then, any, if◌then◌else◌}
+use Rattle.prelude.specs.Base.{or_else, and_then, any, when◌then◌else◌}
 use Rattle.definition.specs.Refusals.{refusal_number, subpiece_size, offset_too_far}
 use Rattle.definition.specs.Operations.{Operation, operation_number, is_op}
 use Rattle.definition.specs.Value.{kind_number, Value, slice_bytes, ActionKind, SemanticAction, operation_of, Temporary}
@@ -44,7 +44,7 @@ pub data Ended : Type 0 where
   ended : WordSizing → List ℕ → Ended
 
 unfoldable pub seen_end : Listed Finished → Ended
-seen_end (listed f a) = if eqb f.refusal 0 then ended f.z a else refused_end f.refusal
+seen_end (listed f a) = when eqb f.refusal 0 then ended f.z a else refused_end f.refusal
 
 unfoldable pub ending : {A : Type 0} → (A → List ℕ) → Outcome A → Ended
 ending words (done y s) = ended (enc_z s.sizing) (words y)
@@ -57,23 +57,23 @@ pub bind_end : {A B : Type 0} (e : Env) (words : A → List ℕ) (more : B → L
 unfolding then_f
 bind_end {A} {B} e words more (listed f a) o g k h i = go (eqb f.refusal 0) refl o (unfold seen_end in h) i
   where
-    go : (b : Bool) → eqb f.refusal 0 ≡ b → (o : Outcome A) → (if b then ended f.z a else refused_end f.refusal) ≡ ending words o
+    go : (b : Bool) → eqb f.refusal 0 ≡ b → (o : Outcome A) → (when b then ended f.z a else refused_end f.refusal) ≡ ending words o
         → ((y : A) (s : State) → o ≡ done y s → seen_end (g (enc_z s.sizing) (words y)) ≡ ending more (k y e s))
-        → seen_end (if b then g f.z a else listed f a) ≡ ending more (on e o k)
-    go true p (done y s) h i = unfold if◌then◌else◌ on in
+        → seen_end (when b then g f.z a else listed f a) ≡ ending more (on e o k)
+    go true p (done y s) h i = unfold when◌then◌else◌ on in
         (let q : ended f.z a ≡ ended (enc_z s.sizing) (words y) = unfold ending in h in
         let u : f.z ≡ enc_z s.sizing = cc in
         let v : a ≡ words y = cc in
         rw (u, v) (i y s refl))
     go true p (stopped r ordinal errors) h i =
-        let q : ended f.z a ≡ refused_end (refusal_number r) = unfold if◌then◌else◌ ending in h in
+        let q : ended f.z a ≡ refused_end (refusal_number r) = unfold when◌then◌else◌ ending in h in
         let z : ◌≡◌ {A = ℕ} 0 1 = cc in
         absurd (omega arith)
     go false p (done y s) h i =
-        let q : refused_end f.refusal ≡ ended (enc_z s.sizing) (words y) = unfold if◌then◌else◌ ending in h in
+        let q : refused_end f.refusal ≡ ended (enc_z s.sizing) (words y) = unfold when◌then◌else◌ ending in h in
         let z : ◌≡◌ {A = ℕ} 0 1 = cc in
         absurd (omega arith)
-    go false p (stopped r ordinal errors) h i = unfold if◌then◌else◌ on seen_end ending in rw p (unfold if◌then◌else◌ ending in h)
+    go false p (stopped r ordinal errors) h i = unfold when◌then◌else◌ on seen_end ending in rw p (unfold when◌then◌else◌ ending in h)
 
 -- a subpiece
 
@@ -138,22 +138,22 @@ module _ (pre post : List ℕ) (at0 : ℕ) (begins : length pre ≡ at0) where
     ends x = seen_end (then_l x (λ r b. listed (finished r (enc_z u.sizing)) b))
 
     sliced_is : (n : ℕ) → n < 65535 → (b : Bool) → leb (v.offset + number) 65535 ≡ b
-        → ends (copy_of (words_of pre post piece) at0 (if b then Slice.Is (part number n v) else Slice.No 42))
+        → ends (copy_of (words_of pre post piece) at0 (when b then Slice.Is (part number n v) else Slice.No 42))
         ≡ ending (words_of pre post) (on e (on e (on e (require b offset_too_far e u) λ _. λ e s. done (slice_bytes number n v) s) λ part. λ e
         s. done (part ∷ []) s) λ inputs. λ e s. done
         (record { kind = ActionKind.Op Operation.Copy; number = 0; inputs = inputs; output = some o }) s)
-    unfolding if◌then◌else◌ copy_of on require seen_end then_l ending refusal_number
+    unfolding when◌then◌else◌ copy_of on require seen_end then_l ending refusal_number
     sliced_is n h true p = rw (copy_is op number n v o (leb-true (v.offset + number) 65535 p) h)
     sliced_is n h false p = refl
 
     copied_is : (z : Option ℕ) → or_else 0 z < 65535
-        → ends (if eqb (or_none z) 65535 then listed 50 (words_of pre post piece) else copy_of (words_of pre post piece) at0 (words.slice_bytes (enc_v v) number (or_none z)))
+        → ends (when eqb (or_none z) 65535 then listed 50 (words_of pre post piece) else copy_of (words_of pre post piece) at0 (words.slice_bytes (enc_v v) number (or_none z)))
         ≡ ending (words_of pre post) (on e (expect subpiece_size z e u) λ size. λ e s. on e (sliced_inputs number size (v ∷ []) e s) λ inputs.
         λ e s. done (record { kind = ActionKind.Op Operation.Copy; number = 0; inputs = inputs; output = some o }) s)
     unfolding words.slice_bytes or_none or_else expect on sliced_inputs sliced
-    copied_is none h = unfold if◌then◌else◌ seen_end then_l ending refusal_number in refl
+    copied_is none h = unfold when◌then◌else◌ seen_end then_l ending refusal_number in refl
     copied_is (some n) h = rw (ne_eqb n 65535 (λ q. omega arith))
-        (unfold if◌then◌else◌ in sliced_is n h (leb (v.offset + number) 65535) refl)
+        (unfold when◌then◌else◌ in sliced_is n h (leb (v.offset + number) 65535) refl)
 
     piece_is : ends (subpiece_copy (words_of pre post piece) at0) ≡ ending (words_of pre post) (d.subpiece_copy piece e u)
     unfolding subpiece_copy d.subpiece_copy and_then
@@ -173,10 +173,10 @@ module _ (pre post : List ℕ) (at0 : ℕ) (begins : length pre ≡ at0) where
     X vs y = record { kind = ActionKind.Op op; number = number; inputs = vs; output = y }
 
     tested_is : (b : Bool) (vs : List Value) (y : Option Value) → SoundAction sec n (X vs y) → (b ≡ true → Piece number vs y)
-        → seen_end (if b then then_l (subpiece_copy (words_of pre post (X vs y)) at0) (λ r c. listed (finished r (enc_z u.sizing)) c) else
+        → seen_end (when b then then_l (subpiece_copy (words_of pre post (X vs y)) at0) (λ r c. listed (finished r (enc_z u.sizing)) c) else
         listed (finished 0 (enc_z u.sizing)) (words_of pre post (X vs y)))
-        ≡ ending (words_of pre post) (definition.if◌then◌else◌ b (d.subpiece_copy (X vs y)) (λ e s. done (X vs y) s) e u)
-    unfolding if◌then◌else◌ base_opens seen_end ending
+        ≡ ending (words_of pre post) (definition.when◌then◌else◌ b (d.subpiece_copy (X vs y)) (λ e s. done (X vs y) s) e u)
+    unfolding when◌then◌else◌ base_opens seen_end ending
     tested_is true vs y g p =
         let q = p refl in
         let h : Sound sec n q.input = (subst (Each (Sound sec n)) q.one_input g.inputs).0 in
@@ -187,7 +187,7 @@ module _ (pre post : List ℕ) (at0 : ℕ) (begins : length pre ≡ at0) where
 
     fixed_is : (vs : List Value) (y : Option Value) → SoundAction sec n (X vs y) → (eqb (operation_number op) 66 ≡ true → Piece number vs y)
         → seen_end (finish_fixed (words_of pre post (X vs y)) at0 (enc_z u.sizing))
-        ≡ ending (words_of pre post) (definition.if◌then◌else◌ (is_op Operation.Subpiece op) (d.subpiece_copy (X vs y))
+        ≡ ending (words_of pre post) (definition.when◌then◌else◌ (is_op Operation.Subpiece op) (d.subpiece_copy (X vs y))
         (λ e s. done (X vs y) s) e u)
     unfolding finish_fixed
     fixed_is vs y f p =
@@ -317,11 +317,11 @@ module _ (e : Env) (s t : List ℕ) (holds : SizesHold s t e.section) (rest : Li
             (sizes.fix_inputs e.section x.inputs u.sizing).1 (f.piece op k b)))
 
         by_kind : (k : ActionKind) → x.kind ≡ k
-            → seen_end (if eqb (action_kind_number k) 0 then then_l
+            → seen_end (when eqb (action_kind_number k) 0 then then_l
             (fix_operands s t (words_of pre post x) (temporaries_in rest ts) at0 (pointer_size e.section) (enc_z u.sizing))
             (λ y b. finish_fixed b at0 y) else listed (finished 0 (enc_z u.sizing)) (words_of pre post x))
             ≡ ending (words_of pre post) (d.finish_op (operation_of k) x e u)
-        unfolding if◌then◌else◌ action_kind_number operation_of
+        unfolding when◌then◌else◌ action_kind_number operation_of
         by_kind (ActionKind.Op op) k = rw (operands-fixed s t e.section holds rest ts fit pre post at0 begins x op u.sizing k
             f.few same f.sound room) (op-finished op k)
         by_kind ActionKind.AddressOf k = unfold seen_end ending d.finish_op in refl
@@ -341,7 +341,7 @@ module _ (e : Env) (s t : List ℕ) (holds : SizesHold s t e.section) (rest : Li
 
       -- what a finished action leaves
       op-done : (op : Operation) (b : Bool) (y : SemanticAction) (q : State) → x.kind ≡ ActionKind.Op op
-          → definition.if◌then◌else◌ b (d.subpiece_copy (Fixed x u.sizing).0) (λ e s. done (Fixed x u.sizing).0 s) e
+          → definition.when◌then◌else◌ b (d.subpiece_copy (Fixed x u.sizing).0) (λ e s. done (Fixed x u.sizing).0 s) e
           (with_sizing (Fixed x u.sizing).1 u) ≡ done y q
           → AfterFix 9 u.sizing q.sizing × ((i : ℕ) → builds i y ≡ builds i x)
       unfolding base_opens builds is_build
@@ -387,7 +387,7 @@ module _ (e : Env) (s t : List ℕ) (holds : SizesHold s t e.section) (rest : Li
           → seen_end (finish_from (length xs) (length ps) s t (actions_in front tail (ps ++ xs)) (temporaries_in rest ts) base
           (pointer_size e.section) (enc_z u.sizing)) ≡ ending (λ ys. actions_in front tail (ps ++ ys)) (d.finish_actions xs e u)
       unfolding finish_from d.finish_actions
-      finish_from_lem [] ps u h same f r = unfold seen_end ending if◌then◌else◌ in refl
+      finish_from_lem [] ps u h same f r = unfold seen_end ending when◌then◌else◌ in refl
       finish_from_lem (x ∷ xs) ps u h same f r =
           bind_end e (λ y. actions_in front tail (ps ++ (y ∷ xs))) (λ ys. actions_in front tail (ps ++ ys))
           (finish_op s t (actions_in front tail (ps ++ (x ∷ xs))) (temporaries_in rest ts) (place base (length ps))

@@ -10,7 +10,7 @@ use lib.Seq.{set_at, get_or_at}
 use lib.Dec.{eqb}
 use borrow.Author.Tests.{ne_eqb}
 use Rattle.prelude.specs.Base as definition
-use Rattle.prelude.specs.Base.{◌or◌, or_else, if◌then◌else◌}
+use Rattle.prelude.specs.Base.{◌or◌, or_else, when◌then◌else◌}
 use Rattle.definition.specs.Operations.{Operation}
 use Rattle.definition.specs.Value.{kind_number, Value, ActionKind, SemanticAction, operation_of, Temporary}
 use Rattle.definition.specs.Ast.{Section}
@@ -49,16 +49,16 @@ module _ (s t : List ℕ) (sec : Section) (holds : SizesHold s t sec) (rest : Li
       fixed_as r = record { v = enc_v r.0; z = enc_z r.1 }
 
       by_size : (a : Option ℕ) (b : Bool) → or_else 0 a < 65535 → length z.errors + 1 < 2 ^ 64
-          → (if eqb (or_none a) 65535 then (if b then fixed (with_size (pointer_size sec) (enc_v v)) (enc_z z) else fixed (enc_v v)
+          → (when eqb (or_none a) 65535 then (when b then fixed (with_size (pointer_size sec) (enc_v v)) (enc_z z) else fixed (enc_v v)
           (error (enc_z z))) else fixed (with_size (or_none a) (enc_v v)) (enc_z z))
-          ≡ fixed_as (d.fix_to sec v (a or definition.if◌then◌else◌ b (some (pointer_size sec)) none) z)
-      unfolding if◌then◌else◌ or_none or_else d.fix_to base_opens
+          ≡ fixed_as (d.fix_to sec v (a or definition.when◌then◌else◌ b (some (pointer_size sec)) none) z)
+      unfolding when◌then◌else◌ or_none or_else d.fix_to base_opens
       by_size none true h r = refl
       by_size none false h r = rw (error_is z r)
       by_size (some n) b h r = rw (ne_eqb n 65535 (λ e. omega arith))
 
       final_is : (d.size_of sec z.temporaries v or fallback_size sec v)
-          ≡ (d.size_of sec ts v or definition.if◌then◌else◌ (falls_back (enc_v v)) (some (pointer_size sec)) none)
+          ≡ (d.size_of sec ts v or definition.when◌then◌else◌ (falls_back (enc_v v)) (some (pointer_size sec)) none)
       final_is = rw (same, falls_is sec v)
 
       pub fix_is : length z.errors + 1 < 2 ^ 64 → fix_size s t M (enc_v v) (pointer_size sec) (enc_z z) ≡ fixed_as (d.fix_size sec v z)
@@ -81,7 +81,7 @@ module _ (s t : List ℕ) (sec : Section) (holds : SizesHold s t sec) (rest : Li
       fixed-sound (some n) h = record { number = sound.number; offset = sound.offset; size = h }
 
       final_small : (a : Option ℕ) (b : Bool) → or_else 0 a < 65535
-          → or_else 0 (a or definition.if◌then◌else◌ b (some (pointer_size sec)) none) < 65535
+          → or_else 0 (a or definition.when◌then◌else◌ b (some (pointer_size sec)) none) < 65535
       unfolding or_else base_opens
       final_small none true h = holds.pointer_small
       final_small none false h = omega arith
@@ -279,12 +279,12 @@ module _ (s t : List ℕ) (sec : Section) (holds : SizesHold s t sec) (rest : Li
       output-fixed x op none z k same f r =
           let e : get_or (words_of pre post (with_output none x)) (place + 5) 0 ≡ 255 = word_at (with_output none x) 5 (omega arith)
           ∙ rw (words_of_lem (with_output none x)) (rw k (unfold operation_of out_word in refl)) in
-          rw e (unfold if◌then◌else◌ in refl)
+          rw e (unfold when◌then◌else◌ in refl)
       output-fixed x op (some v) z k same f r =
           let e : get_or (words_of pre post (with_output (some v) x)) (place + 5) 0 ≡ packed v = word_at (with_output (some v) x) 5 (omega arith)
           ∙ rw (words_of_lem (with_output (some v) x)) (unfold out_word in refl) in
           rw (e, not_absent v)
-          (unfold if◌then◌else◌ in rw (output_focus x v, output_focus x (d.fix_size sec v z).0)
+          (unfold when◌then◌else◌ in rw (output_focus x v, output_focus x (d.fix_size sec v z).0)
           (operand-fixed (action_kind_number x.kind ∷ operation_word (operation_of x.kind) ∷ x.number ∷ length x.inputs ∷ [])
           (filled 18 (input_words x.inputs)) 4 v z refl same f r))
 

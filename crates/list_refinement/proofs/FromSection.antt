@@ -24,7 +24,7 @@ absent-word : (s : List ℕ) (p : ℕ) → or_none (absent_at s p) ≡ le16 s p
 unfolding or_none base_opens
 absent-word s p = go (eqb (le16 s p) 65535) refl
   where
-    go : (b : Bool) → eqb (le16 s p) 65535 ≡ b → or_else 65535 (definition.if◌then◌else◌ b none (some (le16 s p))) ≡ le16 s p
+    go : (b : Bool) → eqb (le16 s p) 65535 ≡ b → or_else 65535 (definition.when◌then◌else◌ b none (some (le16 s p))) ≡ le16 s p
     go true e = sym (eqb-true (le16 s p) 65535 e)
     go false e = refl
 

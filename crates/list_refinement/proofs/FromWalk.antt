@@ -7,7 +7,7 @@ use mathlib.Core.Option.{Option, none, some}
 use native.Mathlib.Omega.{arith}
 use lib.ListN.{length, get_elem?}
 use lib.Dec.{eqb, leb}
-use Rattle.prelude.specs.Base.{if◌then◌else◌, or_else, and_then, is_some, all}
+use Rattle.prelude.specs.Base.{when◌then◌else◌, or_else, and_then, is_some, all}
 use Rattle.definition.specs.Operations.{Operation, operation_number}
 use Rattle.definition.specs.Value.{Kind, Value, ActionKind, SemanticAction}
 use Rattle.definition.specs.Ast.{Section}
@@ -109,7 +109,7 @@ kind_suits t sub ActionKind.StoreRegister shape e = subst (AllCounted RuleKind.u
 kind_suits t sub ActionKind.DelaySlot shape e = subst (AllCounted RuleKind.unruled) (some_same e) refl
 kind_suits t sub ActionKind.Build shape e = subst (AllCounted RuleKind.unruled) (some_same e) refl
 
-same_flag : (a b : Bool) → (if a then b else not b) ≡ true → a ≡ b
+same_flag : (a b : Bool) → (when a then b else not b) ≡ true → a ≡ b
 unfolding base_opens
 same_flag true true e = refl
 same_flag true false e = sym e

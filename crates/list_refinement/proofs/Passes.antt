@@ -12,7 +12,7 @@ use Rattle.definition.specs.Ast.{Section}
 use Rattle.definition.specs.Sizes as d
 use Rattle.definition.specs.Sizes.{Sizing, pointer_size}
 use Rattle.definition.specs.ActionList.{list_words}
-use Rattle.prelude.specs.Base.{if◌then◌else◌}
+use Rattle.prelude.specs.Base.{when◌then◌else◌}
 use Rattle.access.specs.Loops.{run, run_down}
 use Rattle.list_values.specs.Values.{place}
 use Rattle.list_values.specs.Sizes.{Sized, sized, then_s}
@@ -24,11 +24,11 @@ use Rattle.list_refinement.proofs.Lists.{list_between, focus_at}
 
 -- where an action stands
 pub place_is : (base i : ℕ) → base < 4096 → i < 700000000000000000 → place base i ≡ base + 24 * i
-unfolding place if◌then◌else◌
+unfolding place when◌then◌else◌
 place_is base i h j = rw (lt-ltb base 4096 h, lt-ltb i 700000000000000000 j) (omega arith)
 
 action-place_is : (base i : ℕ) → base < 4096 → i < 700000000000000000 → action_place base i ≡ base + 24 * i
-unfolding action_place if◌then◌else◌
+unfolding action_place when◌then◌else◌
 action-place_is base zero h j = omega arith
 action-place_is base (suc i) h j = rw (ne_eqb (suc i) 0 (λ e. omega arith)) (place_is base (suc i) h j)
 

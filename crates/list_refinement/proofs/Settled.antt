@@ -9,7 +9,7 @@ use lib.ListN.{length, get_or, set, drop, get_elem?, length-set, length-append}
 use lib.Dec.{eqb, eqb-suc-zero}
 use borrow.Author.Tests.{ne_eqb}
 use Rattle.prelude.specs.Base as definition
-use Rattle.prelude.specs.Base.{◌or◌, or_else, and_then, is_some, if◌then◌else◌}
+use Rattle.prelude.specs.Base.{◌or◌, or_else, and_then, is_some, when◌then◌else◌}
 use Rattle.definition.specs.Value.{Kind, kind_number, Value, is_kind, SemanticAction, Temporary}
 use Rattle.definition.specs.Ast.{Section}
 use Rattle.definition.specs.Sizes as d
@@ -72,14 +72,14 @@ each_at P (y ∷ xs) (suc i) x h e = each_at P xs i x h.1 e
 -- errors
 
 pub error_is : (z : Sizing) → length z.errors + 1 < 2 ^ 64 → error (enc_z z) ≡ enc_z (d.error z)
-unfolding error recorded if◌then◌else◌ first_error
+unfolding error recorded when◌then◌else◌ first_error
 error_is z h = go z.errors h
   where
     go : (es : List (Option ℕ)) → length es + 1 < 2 ^ 64
         → ◌≡◌ {A = WordSizing} (record {
           begun = or_none z.begun;
           errors = sum_of_errors (length es) 1;
-          first = if eqb (length es) 0 then or_none z.begun else first_error es;
+          first = when eqb (length es) 0 then or_none z.begun else first_error es;
         })
         (record { begun = or_none z.begun; errors = length (es ++ (z.begun ∷ [])); first = first_error (es ++ (z.begun ∷ [])) })
     go [] j = λ i. record { begun = or_none z.begun; errors = sym (sum_below 0 1 (omega arith)) i; first = or_none z.begun }
@@ -95,7 +95,7 @@ module _ (s t : List ℕ) (sec : Section) (holds : SizesHold s t sec) (tail : Li
   module _ (ts : List Temporary) (fit : Each SoundTmp ts) where
     local_is : (k : Kind) (n : ℕ) → Within sec (length ts) k n → size_of_local s t (temporaries_in tail ts) (kind_number k) n
         ≡ or_none (d.size_of_local sec ts k n)
-    unfolding listed_size size_of_local if◌then◌else◌ kind_number d.size_of_local or_none or_else
+    unfolding listed_size size_of_local when◌then◌else◌ kind_number d.size_of_local or_none or_else
     local_is Kind.InstStart n h = refl
     local_is Kind.InstNext n h = refl
     local_is Kind.Register n h = holds.registers n h
@@ -124,11 +124,11 @@ module _ (s t : List ℕ) (sec : Section) (holds : SizesHold s t sec) (tail : Li
 
     -- the known size
     pub size_is : (v : Value) → Sound sec (length ts) v → size_of s t (temporaries_in tail ts) (enc_v v) ≡ or_none (d.size_of sec ts v)
-    unfolding size_of if◌then◌else◌ d.size_of ◌or◌ or_none or_else
+    unfolding size_of when◌then◌else◌ d.size_of ◌or◌ or_none or_else
     size_is v f = go v.size f.size
       where
         go : (z : Option ℕ) → or_else 0 z < 65535
-            → (if eqb (or_none z) 65535 then size_of_local s t (temporaries_in tail ts) (kind_number v.kind) v.number else or_none z)
+            → (when eqb (or_none z) 65535 then size_of_local s t (temporaries_in tail ts) (kind_number v.kind) v.number else or_none z)
             ≡ or_none (z or d.size_of_local sec ts v.kind v.number)
         go none h = local_is v.kind v.number f.number
         go (some n) h = rw (ne_eqb n 65535 (λ e. omega arith))
@@ -159,7 +159,7 @@ module _ (s t : List ℕ) (sec : Section) (holds : SizesHold s t sec) (tail : Li
         → listed (enc_z z) (size_temporary (temporaries_in tail z.temporaries)
         (enc_v (record { kind = k; number = number; offset = offset; size = own })) n)
         ≡ done (d.size_temporary sec n (record { kind = k; number = number; offset = offset; size = own }) z)
-    unfolding size_temporary if◌then◌else◌ kind_number d.size_temporary is_kind base_opens
+    unfolding size_temporary when◌then◌else◌ kind_number d.size_temporary is_kind base_opens
     unknown_is Kind.InstStart number offset own n h j = refl
     unknown_is Kind.InstNext number offset own n h j = refl
     unknown_is Kind.Register number offset own n h j = refl
@@ -171,10 +171,10 @@ module _ (s t : List ℕ) (sec : Section) (holds : SizesHold s t sec) (tail : Li
 
     module _ (room : length z.errors + 1 < 2 ^ 64) where
       differ_is : (k : Kind) (number offset : ℕ) (own : Option ℕ) →
-          (if eqb (kind_number k) 4 then done z else listed (error (enc_z z)) (temporaries_in tail z.temporaries))
-          ≡ done (definition.if◌then◌else◌ (is_kind Kind.Subtable (record { kind = k; number = number; offset = offset; size = own })) z
+          (when eqb (kind_number k) 4 then done z else listed (error (enc_z z)) (temporaries_in tail z.temporaries))
+          ≡ done (definition.when◌then◌else◌ (is_kind Kind.Subtable (record { kind = k; number = number; offset = offset; size = own })) z
           (d.error z))
-      unfolding if◌then◌else◌ kind_number is_kind base_opens
+      unfolding when◌then◌else◌ kind_number is_kind base_opens
       differ_is Kind.InstStart number offset own = rw (error_is z room)
       differ_is Kind.InstNext number offset own = rw (error_is z room)
       differ_is Kind.Register number offset own = rw (error_is z room)
@@ -186,13 +186,13 @@ module _ (s t : List ℕ) (sec : Section) (holds : SizesHold s t sec) (tail : Li
 
       pub settled_is : (known : Option ℕ) (v : Value) (n : ℕ) → or_else 0 known < 65535 → Sound sec (length z.temporaries) v → n < 65535
           → settled (temporaries_in tail z.temporaries) (enc_v v) (or_none known) n (enc_z z) ≡ done (d.settled sec known n v z)
-      unfolding settled if◌then◌else◌ d.settled or_none or_else
+      unfolding settled when◌then◌else◌ d.settled or_none or_else
       settled_is none v n h f j = unknown_is v.kind v.number v.offset v.size n f.number j
       settled_is (some m) v n h f j = rw (ne_eqb m 65535 (λ e. omega arith)) (go (eqb m n))
         where
-          go : (b : Bool) → (if b then done z else if eqb (kind_number v.kind) 4 then done z else listed (error (enc_z z))
+          go : (b : Bool) → (when b then done z else when eqb (kind_number v.kind) 4 then done z else listed (error (enc_z z))
               (temporaries_in tail z.temporaries))
-              ≡ done (definition.if◌then◌else◌ (b || is_kind Kind.Subtable v) z (d.error z))
+              ≡ done (definition.when◌then◌else◌ (b || is_kind Kind.Subtable v) z (d.error z))
           go true = unfold base_opens in refl
           go false = differ_is v.kind v.number v.offset v.size
 
@@ -232,12 +232,12 @@ module _ (sec : Section) (n : ℕ) (small : n < 65535) (v : Value) (z : Sizing) 
   unfolding d.settled d.size_temporary base_opens
   settled_sets none = go (is_kind Kind.PcodeTmp v)
     where
-      go : (b : Bool) → Sets (definition.if◌then◌else◌ b (set_tmp_size sec v.number (get_elem? z.temporaries v.number) n z) z) z
+      go : (b : Bool) → Sets (definition.when◌then◌else◌ b (set_tmp_size sec v.number (get_elem? z.temporaries v.number) n z) z) z
       go true = tmp_sets v.number (get_elem? z.temporaries v.number) refl
       go false = same_sets
   settled_sets (some m) = go (eqb m n || is_kind Kind.Subtable v)
     where
-      go : (b : Bool) → Sets (definition.if◌then◌else◌ b z (d.error z)) z
+      go : (b : Bool) → Sets (definition.when◌then◌else◌ b z (d.error z)) z
       go true = same_sets
       go false = record { count = refl; fit = fit; errors = rw (length-append z.errors (z.begun ∷ [])) (omega arith); begun = refl }
 

@@ -9,7 +9,7 @@ use lib.ListN.{length}
 use lib.Dec.{eqb}
 use borrow.Author.Tests.{ne_eqb, eq-eqb, eqb-true}
 use Rattle.prelude.specs.Base as definition
-use Rattle.prelude.specs.Base.{◌or◌, or_else, and_then, first, if◌then◌else◌, contains}
+use Rattle.prelude.specs.Base.{◌or◌, or_else, and_then, first, when◌then◌else◌, contains}
 use Rattle.definition.specs.Value.{Kind, Value, SemanticAction}
 use Rattle.definition.specs.Ast.{Section}
 use Rattle.definition.specs.Sizes as d
@@ -27,9 +27,9 @@ use Rattle.list_refinement.specs.RuleKinds.{has}
 -- the fallback
 falls_kind : (sec : Section) (k : Kind) (number offset : ℕ) (own : Option ℕ)
     → fallback_size sec (record { kind = k; number = number; offset = offset; size = own })
-    ≡ definition.if◌then◌else◌ (falls_back (enc_v (record { kind = k; number = number; offset = offset; size = own })))
+    ≡ definition.when◌then◌else◌ (falls_back (enc_v (record { kind = k; number = number; offset = offset; size = own })))
     (some (pointer_size sec)) none
-unfolding fallback_size falls_back if◌then◌else◌ base_opens value_opens
+unfolding fallback_size falls_back when◌then◌else◌ base_opens value_opens
 falls_kind sec Kind.InstStart number offset own = refl
 falls_kind sec Kind.InstNext number offset own = refl
 falls_kind sec Kind.Register number offset own = refl
@@ -40,7 +40,7 @@ falls_kind sec Kind.PcodeTmp number offset own = refl
 falls_kind sec Kind.Constant number offset own = refl
 
 pub falls_is : (sec : Section) (v : Value) → fallback_size sec v
-    ≡ definition.if◌then◌else◌ (falls_back (enc_v v)) (some (pointer_size sec)) none
+    ≡ definition.when◌then◌else◌ (falls_back (enc_v v)) (some (pointer_size sec)) none
 falls_is sec v = falls_kind sec v.kind v.number v.offset v.size
 
 small_test : (n : ℕ) → n < 65535 → eqb n 65535 ≡ false
@@ -53,13 +53,13 @@ same_test : (n : ℕ) → eqb n n ≡ true
 same_test n = eq-eqb n n refl
 
 equal_test : (n : ℕ) (b c : Option ℕ) → n < 65535 → or_else 0 b < 65535 → or_else 0 c < 65535
-    → (if eqb n (or_none b) then eqb (or_none b) (or_none c) else false) ≡ (if contains n b then contains n c else false)
-unfolding if◌then◌else◌ or_none or_else contains
+    → (when eqb n (or_none b) then eqb (or_none b) (or_none c) else false) ≡ (when contains n b then contains n c else false)
+unfolding when◌then◌else◌ or_none or_else contains
 equal_test n none c l lb lc = rw (small_test n l)
 equal_test n (some m) none l lb lc = rw (small_test m lb)
 equal_test n (some m) (some k) l lb lc = go (eqb n m) refl
   where
-    go : (u : Bool) → eqb n m ≡ u → (if u then eqb m k else false) ≡ (if u then eqb n k else false)
+    go : (u : Bool) → eqb n m ≡ u → (when u then eqb m k else false) ≡ (when u then eqb n k else false)
     go true e = let q : n ≡ m = eqb-true n m e in rw q
     go false e = refl
 
@@ -99,12 +99,12 @@ module _ (s t : List ℕ) (sec : Section) (holds : SizesHold s t sec) (tail : Li
 
   module _ (x : SemanticAction) (z : Sizing) (room : ℕ) (r : Ready sec (suc (suc (suc room))) x z) where
     falls_at : (p : Operand) → has p x ≡ true → and_then (at p x) (fallback_size sec)
-        ≡ definition.if◌then◌else◌ (falls_back (value_at (words_of pre post x) place (operand_at p))) (some (pointer_size sec)) none
+        ≡ definition.when◌then◌else◌ (falls_back (value_at (words_of pre post x) place (operand_at p))) (some (pointer_size sec)) none
     unfolding and_then
     falls_at p h = let e = present (at p x) h in go e.0 e.1
       where
         go : (v : Value) → at p x ≡ some v → and_then (at p x) (fallback_size sec)
-            ≡ definition.if◌then◌else◌ (falls_back (value_at (words_of pre post x) place (operand_at p))) (some (pointer_size sec)) none
+            ≡ definition.when◌then◌else◌ (falls_back (value_at (words_of pre post x) place (operand_at p))) (some (pointer_size sec)) none
         go v e = rw (e, value_of s t sec holds tail pre post place begins p x z (suc (suc (suc room))) r v e) (falls_is sec v)
 
     module _ (p q : Operand) (h : has p x ≡ true) (j : has q x ≡ true) where
@@ -112,12 +112,12 @@ module _ (s t : List ℕ) (sec : Section) (holds : SizesHold s t sec) (tail : Li
       set_both n = set_two s t (words_of pre post x) (temporaries_of tail z) place (operand_at p) (operand_at q) n (enc_z z)
 
       neither_is : (late b c : Bool)
-          → (if late then (if b then set_both (pointer_size sec) else if c then set_both (pointer_size sec) else held pre post tail
+          → (when late then (when b then set_both (pointer_size sec) else when c then set_both (pointer_size sec) else held pre post tail
           (x, z)) else held pre post tail (x, z))
           ≡ held pre post tail (d.share_size sec none
-          (definition.if◌then◌else◌ late (definition.if◌then◌else◌ b (some (pointer_size sec)) none or
-          (definition.if◌then◌else◌ c (some (pointer_size sec)) none or none)) none) (p ∷ q ∷ []) x z)
-      unfolding if◌then◌else◌ base_opens d.share_size set_both
+          (definition.when◌then◌else◌ late (definition.when◌then◌else◌ b (some (pointer_size sec)) none or
+          (definition.when◌then◌else◌ c (some (pointer_size sec)) none or none)) none) (p ∷ q ∷ []) x z)
+      unfolding when◌then◌else◌ base_opens d.share_size set_both
       neither_is false b c = refl
       neither_is true true c = two_is (pointer_size sec) holds.pointer_small p q x z (suc room) r h j
       neither_is true false true = two_is (pointer_size sec) holds.pointer_small p q x z (suc room) r h j
@@ -126,7 +126,7 @@ module _ (s t : List ℕ) (sec : Section) (holds : SizesHold s t sec) (tail : Li
       pair_none : (late : Bool) → pair_fallback s t late (words_of pre post x) (temporaries_of tail z) place (operand_at p) (operand_at q)
           (pointer_size sec) (enc_z z)
           ≡ held pre post tail (d.share_size sec none
-          (definition.if◌then◌else◌ late (first (λ y. and_then (at y x) (fallback_size sec)) (p ∷ q ∷ [])) none) (p ∷ q ∷ []) x z)
+          (definition.when◌then◌else◌ late (first (λ y. and_then (at y x) (fallback_size sec)) (p ∷ q ∷ [])) none) (p ∷ q ∷ []) x z)
       unfolding pair_fallback first set_both
       pair_none late = rw (falls_at p h, falls_at q j) (neither_is late (falls_back (value_at (words_of pre post x) place (operand_at p)))
           (falls_back (value_at (words_of pre post x) place (operand_at q))))
@@ -135,29 +135,29 @@ module _ (s t : List ℕ) (sec : Section) (holds : SizesHold s t sec) (tail : Li
           → share_pair s t late (words_of pre post x) (temporaries_of tail z) place (operand_at p) (operand_at q) (or_none a) (or_none b)
           (pointer_size sec) (enc_z z)
           ≡ held pre post tail (d.share_size sec (a or (b or none))
-          (definition.if◌then◌else◌ late (first (λ y. and_then (at y x) (fallback_size sec)) (p ∷ q ∷ [])) none) (p ∷ q ∷ []) x z)
-      unfolding share_pair if◌then◌else◌ or_none or_else ◌or◌
+          (definition.when◌then◌else◌ late (first (λ y. and_then (at y x) (fallback_size sec)) (p ∷ q ∷ [])) none) (p ∷ q ∷ []) x z)
+      unfolding share_pair when◌then◌else◌ or_none or_else ◌or◌
       pair_shares late none none e f k l = pair_none late
       pair_shares late none (some n) e f k l = rw (small_test n l) (part e f)
         where
           part : known_at sec x z p ≡ none → known_at sec x z q ≡ some n
               → set_operand s t (words_of pre post x) (temporaries_of tail z) place (operand_at p) n (enc_z z)
               ≡ held pre post tail (d.share_size sec (some n)
-              (definition.if◌then◌else◌ late (first (λ y. and_then (at y x) (fallback_size sec)) (p ∷ q ∷ [])) none) (p ∷ q ∷ []) x z)
+              (definition.when◌then◌else◌ late (first (λ y. and_then (at y x) (fallback_size sec)) (p ∷ q ∷ [])) none) (p ∷ q ∷ []) x z)
           part e f = unfold base_opens d.share_size contains but_first in rw (e, f) (one_is n l p q x z (suc (suc room)) r h)
       pair_shares late (some m) none e f k l = rw (small_test m k) (part e f)
         where
           part : known_at sec x z p ≡ some m → known_at sec x z q ≡ none
               → set_operand s t (words_of pre post x) (temporaries_of tail z) place (operand_at q) m (enc_z z)
               ≡ held pre post tail (d.share_size sec (some m)
-              (definition.if◌then◌else◌ late (first (λ y. and_then (at y x) (fallback_size sec)) (p ∷ q ∷ [])) none) (p ∷ q ∷ []) x z)
+              (definition.when◌then◌else◌ late (first (λ y. and_then (at y x) (fallback_size sec)) (p ∷ q ∷ [])) none) (p ∷ q ∷ []) x z)
           part e f = unfold base_opens d.share_size contains but_first in rw (e, f, same_test m) (one_is m k q p x z (suc (suc room)) r j)
       pair_shares late (some m) (some n) e f k l = rw (small_test m k) (part (eqb m n) refl)
         where
-          part : (c : Bool) → eqb m n ≡ c → (if c then held pre post tail (x, z) else set_operand s t (words_of pre post x)
+          part : (c : Bool) → eqb m n ≡ c → (when c then held pre post tail (x, z) else set_operand s t (words_of pre post x)
               (temporaries_of tail z) place (operand_at q) m (enc_z z))
               ≡ held pre post tail (d.share_size sec (some m)
-              (definition.if◌then◌else◌ late (first (λ y. and_then (at y x) (fallback_size sec)) (p ∷ q ∷ [])) none) (p ∷ q ∷ []) x z)
+              (definition.when◌then◌else◌ late (first (λ y. and_then (at y x) (fallback_size sec)) (p ∷ q ∷ [])) none) (p ∷ q ∷ []) x z)
           part true g = unfold base_opens d.share_size contains but_first in rw (e, f, same_test m, g)
           part false g = unfold base_opens d.share_size contains but_first in rw (e, f, same_test m, g)
               (one_is m k q p x z (suc (suc room)) r j)
@@ -178,19 +178,19 @@ module _ (s t : List ℕ) (sec : Section) (holds : SizesHold s t sec) (tail : Li
     -- both inputs and the output
     module _ (h : has in0 x ≡ true) (j : has in1 x ≡ true) (k : has out x ≡ true) where
       abbrev fallbacks : Bool → Option ℕ
-      fallbacks late = definition.if◌then◌else◌ late (first (λ y. and_then (at y x) (fallback_size sec)) (in0 ∷ in1 ∷ out ∷ [])) none
+      fallbacks late = definition.when◌then◌else◌ late (first (λ y. and_then (at y x) (fallback_size sec)) (in0 ∷ in1 ∷ out ∷ [])) none
 
       abbrev Shared : Option ℕ → Bool → Sized
       Shared known late = held pre post tail (d.share_size sec known (fallbacks late) (in0 ∷ in1 ∷ out ∷ []) x z)
 
       none_three : (late b c e : Bool)
-          → (if late then (if (if b then true else if c then true else e) then set_three s t (words_of pre post x)
+          → (when late then (when (when b then true else when c then true else e) then set_three s t (words_of pre post x)
           (temporaries_of tail z) place (pointer_size sec) (enc_z z) else held pre post tail (x, z)) else held pre post tail (x, z))
           ≡ held pre post tail (d.share_size sec none
-          (definition.if◌then◌else◌ late (definition.if◌then◌else◌ b (some (pointer_size sec)) none or
-          (definition.if◌then◌else◌ c (some (pointer_size sec)) none or
-          (definition.if◌then◌else◌ e (some (pointer_size sec)) none or none))) none) (in0 ∷ in1 ∷ out ∷ []) x z)
-      unfolding if◌then◌else◌ base_opens d.share_size
+          (definition.when◌then◌else◌ late (definition.when◌then◌else◌ b (some (pointer_size sec)) none or
+          (definition.when◌then◌else◌ c (some (pointer_size sec)) none or
+          (definition.when◌then◌else◌ e (some (pointer_size sec)) none or none))) none) (in0 ∷ in1 ∷ out ∷ []) x z)
+      unfolding when◌then◌else◌ base_opens d.share_size
       none_three false b c e = refl
       none_three true true c e = three_is (pointer_size sec) holds.pointer_small x z room r h j k
       none_three true false true e = three_is (pointer_size sec) holds.pointer_small x z room r h j k
@@ -220,9 +220,9 @@ module _ (s t : List ℕ) (sec : Section) (holds : SizesHold s t sec) (tail : Li
         by_second n c l e = rw (e.0, e.1) (two_is n l in0 out x z (suc room) r h k)
 
         by_first : (n : ℕ) (b c : Option ℕ) (u v : Bool) → n < 65535 → Known (some n) b c → contains n b ≡ u → contains n c ≡ v
-            → (if (if u then v else false) then held pre post tail (x, z) else set_two s t (words_of pre post x)
+            → (when (when u then v else false) then held pre post tail (x, z) else set_two s t (words_of pre post x)
             (temporaries_of tail z) place 8 4 n (enc_z z)) ≡ Shared (some n) late
-        unfolding if◌then◌else◌ base_opens d.share_size but_first
+        unfolding when◌then◌else◌ base_opens d.share_size but_first
         by_first n b c true true l e f g = let i : contains n (some n) ≡ true = unfold contains in same_test n in rw (e.0, i, e.1, f, e.2, g)
         by_first n b c true false l e f g = let i : contains n (some n)
             ≡ true = unfold contains in same_test n in rw (e.0, i, e.1, f, e.2, g) (two_is n l in1 out x z (suc room) r j k)
@@ -232,7 +232,7 @@ module _ (s t : List ℕ) (sec : Section) (holds : SizesHold s t sec) (tail : Li
         triple_shares : (a b c : Option ℕ) → or_else 0 a < 65535 → or_else 0 b < 65535 → or_else 0 c < 65535 → Known a b c
             → share_triple s t late (words_of pre post x) (temporaries_of tail z) place (or_none a) (or_none b) (or_none c)
             (pointer_size sec) (enc_z z) ≡ Shared (a or (b or (c or none))) late
-        unfolding share_triple share_size all_equal if◌then◌else◌ or_none or_else ◌or◌
+        unfolding share_triple share_size all_equal when◌then◌else◌ or_none or_else ◌or◌
         triple_shares none none none la lb lc e = triple_none late
         triple_shares none none (some n) la lb lc e = rw (test_small n lc) (by_out n lc e)
         triple_shares none (some n) c la lb lc e = rw (test_small n lb, small_test n lb) (by_second n c lb e)
@@ -263,9 +263,9 @@ module _ (s t : List ℕ) (sec : Section) (holds : SizesHold s t sec) (tail : Li
   unsized_is n small p x z room r h = rw (known_is s t sec holds tail pre post place begins p x z (suc room) r h)
       (go (known_at sec x z p) (known-fits s t sec holds tail pre post place begins p x z (suc room) r))
     where
-      go : (a : Option ℕ) → or_else 0 a < 65535 → (if eqb (or_none a) 65535 then set_operand s t (words_of pre post x)
+      go : (a : Option ℕ) → or_else 0 a < 65535 → (when eqb (or_none a) 65535 then set_operand s t (words_of pre post x)
           (temporaries_of tail z) place (operand_at p) n (enc_z z) else held pre post tail (x, z))
           ≡ held pre post tail (d.set_unsized sec a n p x z)
-      go none l = unfold if◌then◌else◌ or_none or_else d.set_unsized in set_is s t sec holds tail pre post place begins n small p x z
+      go none l = unfold when◌then◌else◌ or_none or_else d.set_unsized in set_is s t sec holds tail pre post place begins n small p x z
           room r h
-      go (some m) l = unfold if◌then◌else◌ or_none or_else d.set_unsized in rw (small_test m l)
+      go (some m) l = unfold when◌then◌else◌ or_none or_else d.set_unsized in rw (small_test m l)

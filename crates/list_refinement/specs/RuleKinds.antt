@@ -1,7 +1,7 @@
 -- The size rule of each operation: the code's number of it, the definition's steps, and the operands that they need.
 use Rattle.std.specs.Prelude.{ℕ, ◌≡◌, Bool, true, false, List, [], ◌∷◌, get_or}
 use Rattle.definition.specs.Sizes as d
-use Rattle.prelude.specs.Base.{is_some, if◌then◌else◌}
+use Rattle.prelude.specs.Base.{is_some, when◌then◌else◌}
 use Rattle.definition.specs.Value.{SemanticAction}
 use Rattle.definition.specs.Sizes.{Operand, in0, in1, out, at, one, pointer, Step, equal, exactly, by_default}
 use Rattle.definition.specs.Operations.{Operation, operation_number}
@@ -43,7 +43,7 @@ rule_kinds =
     ∷ RuleKind.negation ∷ RuleKind.nan ∷ RuleKind.address ∷ RuleKind.branch ∷ RuleKind.condition ∷ []
 
 unfoldable pub kind_of : Operation → RuleKind
-unfolding rule_kinds rule_of rule_of_operator rule_of_one_input rule_of_other if◌then◌else◌ operation_number
+unfolding rule_kinds rule_of rule_of_operator rule_of_one_input rule_of_other when◌then◌else◌ operation_number
 kind_of op = get_or rule_kinds (rule_of (operation_number op)) RuleKind.unruled
 
 -- whether an action has an operand

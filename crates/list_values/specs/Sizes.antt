@@ -5,7 +5,7 @@ use Rattle.access.specs.Le.{le16}
 use Rattle.list_values.specs.declared.value.Value.{Value}
 use Rattle.list_values.specs.declared.sizes.Sizing.{Sizing}
 use Rattle.list_values.specs.Base.{Listed, listed, then_l}
-use Rattle.prelude.specs.Base.{if◌then◌else◌}
+use Rattle.prelude.specs.Base.{when◌then◌else◌}
 use Rattle.list_values.specs.Values.{value_at, put_size}
 
 -- a sizing, the actions and the temporaries
@@ -32,36 +32,36 @@ tmp_size m i = get_or m i 0 / 65536 % 65536
 -- of a register, a field or a table export
 unfoldable pub listed_size : List ℕ → List ℕ → ℕ → ℕ → ℕ
 listed_size s t kind number =
-    if eqb kind 2 then list_size s t 1 number
-    else if eqb kind 3 then list_size s t 7 number
-    else if eqb kind 4 then export_size_of s t number
-    else if eqb kind 5 then export_size_of s t number
+    when eqb kind 2 then list_size s t 1 number
+    else when eqb kind 3 then list_size s t 7 number
+    else when eqb kind 4 then export_size_of s t number
+    else when eqb kind 5 then export_size_of s t number
     else 65535
 
 -- the same, or of a temporary
 unfoldable pub size_of_local : List ℕ → List ℕ → List ℕ → ℕ → ℕ → ℕ
-size_of_local s t m kind number = if eqb kind 6 then tmp_size m number else listed_size s t kind number
+size_of_local s t m kind number = when eqb kind 6 then tmp_size m number else listed_size s t kind number
 
 -- the known size: its own, else that of its register, table export, field or temporary; 65,535 for none
 unfoldable pub size_of : List ℕ → List ℕ → List ℕ → Value → ℕ
-size_of s t m v = if eqb v.size 65535 then size_of_local s t m v.kind v.number else v.size
+size_of s t m v = when eqb v.size 65535 then size_of_local s t m v.kind v.number else v.size
 
 unfoldable pub size_at : List ℕ → List ℕ → List ℕ → List ℕ → ℕ → ℕ → ℕ
 size_at s t a m at i = size_of s t m (value_at a at i)
 
 -- the sum, up to the greatest number of a word
 unfoldable pub sum_of_errors : ℕ → ℕ → ℕ
-sum_of_errors x y = if leb (x + y) 18446744073709551615 then x + y else 18446744073709551615
+sum_of_errors x y = when leb (x + y) 18446744073709551615 then x + y else 18446744073709551615
 
 -- so many errors more, the first of all with its ordinal
 unfoldable pub recorded : ℕ → Sizing → Sizing
 recorded n z =
-    if eqb n 0
+    when eqb n 0
     then z
     else record {
       begun = z.begun;
       errors = sum_of_errors z.errors n;
-      first = if eqb z.errors 0 then z.begun else z.first;
+      first = when eqb z.errors 0 then z.begun else z.first;
     }
 
 unfoldable pub error : Sizing → Sizing
@@ -70,16 +70,16 @@ error z = recorded 1 z
 -- an unknown size on a temporary sizes it everywhere
 unfoldable pub size_temporary : List ℕ → Value → ℕ → List ℕ
 size_temporary m v size =
-    if eqb v.kind 6
+    when eqb v.kind 6
     then set m v.number (get_or m v.number 0 % 65536 + size % 65536 * 65536 + get_or m v.number 0 / 4294967296 * 4294967296)
     else m
 
 -- a different known size is an error, but for a subtable
 unfoldable pub settled : List ℕ → Value → ℕ → ℕ → Sizing → Listed Sizing
 settled m v known size z =
-    if eqb known 65535 then listed z (size_temporary m v size)
-    else if eqb known size then listed z m
-    else if eqb v.kind 4 then listed z m
+    when eqb known 65535 then listed z (size_temporary m v size)
+    else when eqb known size then listed z m
+    else when eqb v.kind 4 then listed z m
     else listed (error z) m
 
 -- in every case the operand has the size afterwards
@@ -96,26 +96,26 @@ set_three s t a m at size z = then_s (set_two s t a m at 6 8 size z) λ y b w. s
 -- whether a value falls back to pointer size: InstStart, InstNext, a field or a constant
 unfoldable pub falls_back : Value → Bool
 falls_back v =
-    if eqb v.kind 0 then true
-    else if eqb v.kind 1 then true
-    else if eqb v.kind 3 then true
-    else if eqb v.kind 7 then true
+    when eqb v.kind 0 then true
+    else when eqb v.kind 1 then true
+    else when eqb v.kind 3 then true
+    else when eqb v.kind 7 then true
     else false
 
 unfoldable pub pair_fallback : List ℕ → List ℕ → Bool → List ℕ → List ℕ → ℕ → ℕ → ℕ → ℕ → Sizing → Sized
 pair_fallback s t fallback a m at i j ptr z =
-    if fallback
-    then (if falls_back (value_at a at i) then set_two s t a m at i j ptr z
-    else if falls_back (value_at a at j) then set_two s t a m at i j ptr z
+    when fallback
+    then (when falls_back (value_at a at i) then set_two s t a m at i j ptr z
+    else when falls_back (value_at a at j) then set_two s t a m at i j ptr z
     else sized z a m)
     else sized z a m
 
 -- x and y are the known sizes
 unfoldable pub share_pair : List ℕ → List ℕ → Bool → List ℕ → List ℕ → ℕ → ℕ → ℕ → ℕ → ℕ → ℕ → Sizing → Sized
 share_pair s t fallback a m at i j x y ptr z =
-    if eqb x 65535
-    then (if eqb y 65535 then pair_fallback s t fallback a m at i j ptr z else set_operand s t a m at i y z)
-    else if eqb x y then sized z a m
+    when eqb x 65535
+    then (when eqb y 65535 then pair_fallback s t fallback a m at i j ptr z else set_operand s t a m at i y z)
+    else when eqb x y then sized z a m
     else set_operand s t a m at j x z
 
 -- two operands have one size
@@ -124,29 +124,29 @@ set_size_of_pair s t fallback a m at i j ptr z = share_pair s t fallback a m at 
 
 unfoldable pub triple_falls_back : List ℕ → ℕ → Bool
 triple_falls_back a at =
-    if falls_back (value_at a at 6) then true
-    else if falls_back (value_at a at 8) then true
+    when falls_back (value_at a at 6) then true
+    else when falls_back (value_at a at 8) then true
     else falls_back (value_at a at 4)
 
 unfoldable pub triple_fallback : List ℕ → List ℕ → Bool → List ℕ → List ℕ → ℕ → ℕ → Sizing → Sized
 triple_fallback s t fallback a m at ptr z =
-    if fallback then (if triple_falls_back a at then set_three s t a m at ptr z else sized z a m) else sized z a m
+    when fallback then (when triple_falls_back a at then set_three s t a m at ptr z else sized z a m) else sized z a m
 
 -- the other two take the size of the first known one
 unfoldable pub share_size : List ℕ → List ℕ → List ℕ → List ℕ → ℕ → ℕ → ℕ → ℕ → Sizing → Sized
 share_size s t a m at x y w z =
-    if eqb x 65535
-    then (if eqb y 65535 then set_two s t a m at 6 8 w z else set_two s t a m at 6 4 y z)
+    when eqb x 65535
+    then (when eqb y 65535 then set_two s t a m at 6 8 w z else set_two s t a m at 6 4 y z)
     else set_two s t a m at 8 4 x z
 
 unfoldable pub all_equal : ℕ → ℕ → ℕ → Bool
-all_equal x y w = if eqb x y then eqb y w else false
+all_equal x y w = when eqb x y then eqb y w else false
 
 -- x, y and w are the known sizes of both inputs and the output
 unfoldable pub share_triple : List ℕ → List ℕ → Bool → List ℕ → List ℕ → ℕ → ℕ → ℕ → ℕ → ℕ → Sizing → Sized
 share_triple s t fallback a m at x y w ptr z =
-    if all_equal x y w
-    then (if eqb x 65535 then triple_fallback s t fallback a m at ptr z else sized z a m)
+    when all_equal x y w
+    then (when eqb x 65535 then triple_fallback s t fallback a m at ptr z else sized z a m)
     else share_size s t a m at x y w z
 
 -- both inputs and the output have one size
@@ -156,7 +156,7 @@ set_size_of_triple s t fallback a m at ptr z =
 
 -- an operand with no known size takes pointer size
 unfoldable pub set_unsized : List ℕ → List ℕ → List ℕ → List ℕ → ℕ → ℕ → ℕ → Sizing → Sized
-set_unsized s t a m at i ptr z = if eqb (size_at s t a m at i) 65535 then set_operand s t a m at i ptr z else sized z a m
+set_unsized s t a m at i ptr z = when eqb (size_at s t a m at i) 65535 then set_operand s t a m at i ptr z else sized z a m
 
 -- Whatever the sizing is, n errors are recorded and the list is as f leaves it.
 pub record Settles (n : ℕ) (m : List ℕ) (f : Sizing → Listed Sizing) : Type 0 where

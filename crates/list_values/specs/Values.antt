@@ -2,7 +2,7 @@
 use Rattle.std.specs.Prelude.{ℕ, ◌+◌, ◌*◌, ◌/◌, ◌%◌, List, get_or, set, ltb, leb}
 use Rattle.list_values.specs.declared.value.Value.{Value}
 use Rattle.list_values.specs.declared.value.Slice.{Slice}
-use Rattle.prelude.specs.Base.{if◌then◌else◌}
+use Rattle.prelude.specs.Base.{when◌then◌else◌}
 
 -- a value at offset 0 with no size of its own
 abbrev pub local : ℕ → ℕ → Value
@@ -22,7 +22,7 @@ no_output = record { kind = 255; number = 0; offset = 0; size = 0 }
 -- so many bytes of a value, from a byte on, unless their offset passes 65,535
 unfoldable pub slice_bytes : Value → ℕ → ℕ → Slice
 slice_bytes v more size =
-    if leb (v.offset + more) 65535
+    when leb (v.offset + more) 65535
     then Slice.Is (record { kind = v.kind; number = v.number; offset = v.offset + more; size = size })
     else Slice.No 42
 
@@ -45,7 +45,7 @@ put_size l at i size = set l (at + (i + 1)) (get_or l (at + (i + 1)) 0 % 1677721
 
 -- where action i stands in a list whose first is at a position
 unfoldable pub place : ℕ → ℕ → ℕ
-place base i = if ltb base 4096 then (if ltb i 700000000000000000 then base + i * 24 else 0) else 0
+place base i = when ltb base 4096 then (when ltb i 700000000000000000 then base + i * 24 else 0) else 0
 
 -- the word i after a position made 0
 abbrev pub zero_word : ℕ → ℕ → List ℕ → List ℕ

@@ -1,6 +1,6 @@
 -- The text that an operation's number has is the name of the operation.
 use mathlib.Core.Path.{◌≡◌, refl}
-use Rattle.prelude.specs.Base.{if◌then◌else◌}
+use Rattle.prelude.specs.Base.{when◌then◌else◌}
 use Rattle.definition.specs.Operations.{Operation, operation_number}
 use Rattle.definition.specs.Spellings.{bytes_of}
 use Rattle.definition.proofs.EveryOperation.{alike}
@@ -10,5 +10,5 @@ use Rattle.listing_names.specs.Operations.{operation_name, operation_names, oper
 
 -- a number's text is the name of its operation
 pub text_is_name : (op : Operation) → operation_text (operation_number op) ≡ bytes_of (operation_name op)
-unfolding operation_text operation_names operation_name operations_opens bytes_of word rest first if◌then◌else◌
+unfolding operation_text operation_names operation_name operations_opens bytes_of word rest first when◌then◌else◌
 text_is_name = alike (λ op. operation_text (operation_number op)) (λ op. bytes_of (operation_name op)) refl

@@ -1,16 +1,16 @@
 -- Words with a space between them.
 use Rattle.std.specs.Prelude.{ℕ, zero, suc, ◌-◌, max, List, [], ◌∷◌, length, eqb}
-use Rattle.prelude.specs.Base.{if◌then◌else◌}
+use Rattle.prelude.specs.Base.{when◌then◌else◌}
 
 -- the bytes ahead of the first space
 unfoldable pub first : List ℕ → List ℕ
 first [] = []
-first (x ∷ xs) = if eqb x 32 then [] else (x ∷ first xs)
+first (x ∷ xs) = when eqb x 32 then [] else (x ∷ first xs)
 
 -- what follows the first space
 unfoldable pub rest : List ℕ → List ℕ
 rest [] = []
-rest (x ∷ xs) = if eqb x 32 then xs else rest xs
+rest (x ∷ xs) = when eqb x 32 then xs else rest xs
 
 -- word n; empty past the last
 unfoldable pub word : ℕ → List ℕ → List ℕ
@@ -24,4 +24,4 @@ widest (x ∷ xs) = max (length (first (x ∷ xs))) (widest xs)
 
 -- how many words are still to be passed after a byte
 unfoldable pub left_after : ℕ → ℕ → ℕ
-left_after x left = if eqb x 32 then left - 1 else left
+left_after x left = when eqb x 32 then left - 1 else left

@@ -2,10 +2,10 @@
 use Rattle.std.specs.Prelude.{ℕ, suc, ◌+◌, Bool, true, false, List, [], ◌∷◌, eqb}
 use Rattle.std.proofs.Math.Option.{Option, none, some}
 
-infix 1 if◌then◌else◌
-unfoldable pub if◌then◌else◌ : {A : Type 0} → Bool → A → A → A
-if◌then◌else◌ true a b = a
-if◌then◌else◌ false a b = b
+infix 1 when◌then◌else◌
+unfoldable pub when◌then◌else◌ : {A : Type 0} → Bool → A → A → A
+when◌then◌else◌ true a b = a
+when◌then◌else◌ false a b = b
 
 infixr 20 ◌or◌
 unfoldable pub ◌or◌ : {A : Type 0} → Option A → Option A → Option A
@@ -32,15 +32,15 @@ contains n none = false
 
 unfoldable pub any : {A : Type 0} → (A → Bool) → List A → Bool
 any p [] = false
-any p (x ∷ xs) = if p x then true else any p xs
+any p (x ∷ xs) = when p x then true else any p xs
 
 unfoldable pub all : {A : Type 0} → (A → Bool) → List A → Bool
 all p [] = true
-all p (x ∷ xs) = if p x then all p xs else false
+all p (x ∷ xs) = when p x then all p xs else false
 
 unfoldable pub filter : {A : Type 0} → (A → Bool) → List A → List A
 filter p [] = []
-filter p (x ∷ xs) = if p x then x ∷ filter p xs else filter p xs
+filter p (x ∷ xs) = when p x then x ∷ filter p xs else filter p xs
 
 unfoldable pub is_empty : {A : Type 0} → List A → Bool
 is_empty [] = true
@@ -54,7 +54,7 @@ first f (x ∷ xs) = f x or first f xs
 -- the index of the first that passes, counted from i
 unfoldable pub position : {A : Type 0} → (A → Bool) → ℕ → List A → Option ℕ
 position p i [] = none
-position p i (x ∷ xs) = if p x then some i else position p (suc i) xs
+position p i (x ∷ xs) = when p x then some i else position p (suc i) xs
 
 unfoldable pub sum : List ℕ → ℕ
 sum [] = 0
@@ -64,4 +64,4 @@ unfoldable pub same_numbers : List ℕ → List ℕ → Bool
 same_numbers [] [] = true
 same_numbers [] (y ∷ ys) = false
 same_numbers (x ∷ xs) [] = false
-same_numbers (x ∷ xs) (y ∷ ys) = if eqb x y then same_numbers xs ys else false
+same_numbers (x ∷ xs) (y ∷ ys) = when eqb x y then same_numbers xs ys else false

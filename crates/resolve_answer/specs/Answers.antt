@@ -1,7 +1,7 @@
 -- The answer with the two lists that were lent, after a refusal and after acceptance.
 use Rattle.std.specs.Prelude.{ℕ, ◌+◌, ◌*◌, ◌/◌, List, eqb, ltb}
 use Rattle.list_values.specs.Base.{then_l}
-use Rattle.prelude.specs.Base.{if◌then◌else◌}
+use Rattle.prelude.specs.Base.{when◌then◌else◌}
 use Rattle.list_values.specs.Values.{word}
 use Rattle.list_end.specs.End.{zero_from, assemble}
 use Rattle.stmt_walk.specs.declared.walk.Walk.{Walk}
@@ -36,8 +36,8 @@ refused a m refusal ordinal errors = resolved_to (refused_answer refusal ordinal
 -- 0 for numbers that no lists have
 unfoldable pub points_of : ℕ → ℕ → ℕ
 points_of actions temporaries =
-    if ltb actions 4611686018427387904
-    then (if ltb temporaries 4611686018427387904 then (2 * actions + temporaries + 5) / 10 else 0)
+    when ltb actions 4611686018427387904
+    then (when ltb temporaries 4611686018427387904 then (2 * actions + temporaries + 5) / 10 else 0)
     else 0
 
 abbrev pub words : ℕ → ℕ → Words
@@ -45,7 +45,7 @@ words number second = record { number = number; second = second }
 
 -- the export's two value words, 0 and 0 where there is none
 unfoldable pub export_words : Export → Words
-export_words x = if eqb x.kind 0 then words 0 0 else words x.v.number (word x.v)
+export_words x = when eqb x.kind 0 then words 0 0 else words x.v.number (word x.v)
 
 -- k actions
 abbrev pub accepted_answer : ℕ → Walk → Export → Words → Answer

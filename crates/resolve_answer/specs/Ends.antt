@@ -5,7 +5,7 @@ use Rattle.list_values.specs.declared.sizes.Sizing.{Sizing}
 use Rattle.list_end.specs.declared.end.Fixed.{Fixed}
 use Rattle.list_end.specs.declared.end.Finished.{Finished}
 use Rattle.list_values.specs.Base.{then_l}
-use Rattle.prelude.specs.Base.{if◌then◌else◌}
+use Rattle.prelude.specs.Base.{when◌then◌else◌}
 use Rattle.list_values.specs.Values.{place}
 use Rattle.list_values.specs.Sizes.{Sized, then_s}
 use Rattle.list_end.specs.Passes.{backward_pass, forward_pass}
@@ -16,7 +16,7 @@ use Rattle.resolve_answer.specs.Answers.{Resolved, refused, accepted}
 
 -- size errors refuse the section
 unfoldable pub judged : List ℕ → List ℕ → ℕ → ℕ → Walk → Export → Sizing → Resolved
-judged a m subtables n w x z = if eqb z.errors 0 then accepted a m subtables n w x else refused a m 51 z.first z.errors
+judged a m subtables n w x z = when eqb z.errors 0 then accepted a m subtables n w x else refused a m 51 z.first z.errors
 
 -- with the size fixed
 abbrev pub export_fixed : Export → Fixed → Export
@@ -27,13 +27,13 @@ judged_fixed a m subtables n w f = judged a m subtables n w (export_fixed w.expo
 
 unfoldable pub finish_export : List ℕ → List ℕ → List ℕ → List ℕ → ℕ → ℕ → ℕ → Walk → Sizing → Resolved
 finish_export s t a m subtables n ptr w z =
-    if eqb w.export.kind 0 then judged a m subtables n w w.export z
+    when eqb w.export.kind 0 then judged a m subtables n w w.export z
     else judged_fixed a m subtables n w (fix_size s t m w.export.v ptr z)
 
 -- on unless an action is refused, at the statement begun last
 unfoldable pub finish_done : List ℕ → List ℕ → List ℕ → List ℕ → ℕ → ℕ → ℕ → Walk → Finished → Resolved
 finish_done s t a m subtables n ptr w f =
-    if eqb f.refusal 0 then finish_export s t a m subtables n ptr w f.z
+    when eqb f.refusal 0 then finish_export s t a m subtables n ptr w f.z
     else refused a m f.refusal f.z.begun 0
 
 unfoldable pub finish_sized : List ℕ → List ℕ → List ℕ → List ℕ → ℕ → ℕ → ℕ → Walk → Sizing → Resolved
@@ -41,7 +41,7 @@ finish_sized s t a m subtables n ptr w z =
     then_l (finish_actions s t a m (place 0 subtables) n ptr z) λ f b. finish_done s t b m subtables n ptr w f
 
 unfoldable pub actions_between : ℕ → ℕ → ℕ
-actions_between base end = if ltb end base then 0 else (end - base) / 24
+actions_between base end = when ltb end base then 0 else (end - base) / 24
 
 unfoldable pub both_passes : List ℕ → List ℕ → List ℕ → List ℕ → ℕ → ℕ → ℕ → Sizing → Sized
 both_passes s t a m base n ptr z = then_s (backward_pass s t a m base n ptr z) λ y b u. forward_pass s t b u base n ptr y

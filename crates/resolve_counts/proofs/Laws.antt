@@ -7,7 +7,7 @@ use borrow.Author.Tests.{eq-eqb, ne_eqb}
 use Rattle.access.specs.Le.{le16}
 use Rattle.definition.specs.SectionFile.{stream_of, read}
 use Rattle.definition.specs.Passing.{subtable_count, pointer_size_in}
-use Rattle.prelude.specs.Base.{if◌then◌else◌}
+use Rattle.prelude.specs.Base.{when◌then◌else◌}
 use Rattle.file_blocks.specs.Blocks.{refusal_of, joined}
 use Rattle.file_section.specs.Stream.{answer, read_stream}
 use Rattle.file_refinement.proofs.FileTheorem.{one_block, checked_room, front, front_room}
@@ -22,11 +22,11 @@ table_law s t subtables pointer p q = rw (p.0, q)
 
 module _ (s t : List ℕ) (bad : ℕ) (f : answer bad t ≡ read_stream s (replicate 3344 0)) where
   pub stream_refused : (bad ≡ 0 → ⊥) → counts 0 0 ≡ stream_counts s
-  unfolding stream_counts read_counts if◌then◌else◌
+  unfolding stream_counts read_counts when◌then◌else◌
   stream_refused h = rw (← f, ne_eqb bad 0 h)
 
   pub stream_read : (r : Counts) → bad ≡ 0 → r ≡ table_counts s t → r ≡ stream_counts s
-  unfolding stream_counts read_counts if◌then◌else◌
+  unfolding stream_counts read_counts when◌then◌else◌
   stream_read r h e = rw (← f, eq-eqb bad 0 h) e
 
 pub blocks_law : (file rest buf : List ℕ) (r : Counts) → buf ≡ joined (length file / 512) file ++ rest → r ≡ stream_counts (take (length file / 512 * 510) buf) → r ≡ stream_counts (joined (length file / 512) file)

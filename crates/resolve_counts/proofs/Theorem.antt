@@ -12,7 +12,7 @@ use Rattle.definition.specs.Ast.{Section}
 use Rattle.definition.specs.SectionFile.{Parsed, parsed, refused, on, stream_of, read_section, read}
 use Rattle.definition.specs.ActionList.{when_read}
 use Rattle.definition.specs.Passing.{subtable_count, pointer_size_in}
-use Rattle.prelude.specs.Base.{if◌then◌else◌}
+use Rattle.prelude.specs.Base.{when◌then◌else◌}
 use Rattle.file_blocks.specs.Blocks.{refusal_of, joined}
 use Rattle.file_section.specs.Stream.{read_stream}
 use Rattle.file_refinement.proofs.Agree.{refusal_bad}
@@ -21,7 +21,7 @@ use Rattle.resolve_refinement.proofs.Start.{pointer_is}
 use Rattle.resolve_counts.specs.Counts.{counts, table_counts, read_counts, stream_counts}
 
 stream_counts_lem : (x : List ℕ) → length x ≤ 65280 → (y : Parsed Section) → read_section x ≡ y → stream_counts x ≡ counts (subtable_count y) (pointer_size_in y)
-unfolding stream_counts read_counts table_counts refusal_of no_table subtable_count pointer_size_in when_read if◌then◌else◌
+unfolding stream_counts read_counts table_counts refusal_of no_table subtable_count pointer_size_in when_read when◌then◌else◌
 stream_counts_lem x few (refused r) q =
     let n : (read_stream x (replicate 3344 0)).refusal ≡ refusal_number r = stream_refusal x (omega arith) ∙ rw q in
     rw (n, refusal_bad r)

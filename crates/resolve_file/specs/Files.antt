@@ -5,7 +5,7 @@ use Rattle.access.specs.Le.{le16}
 use Rattle.file_blocks.specs.Blocks.{refusal_of, joined}
 use Rattle.file_section.specs.Stream.{Answer, read_stream}
 use Rattle.list_pushes.specs.declared.push.Env.{Env}
-use Rattle.prelude.specs.Base.{if◌then◌else◌}
+use Rattle.prelude.specs.Base.{when◌then◌else◌}
 use Rattle.list_values.specs.Values.{absent, place}
 use Rattle.list_values.specs.Sizes.{entry}
 use Rattle.stmt_walk.specs.declared.walk.Walk.{Walk}
@@ -17,7 +17,7 @@ use Rattle.resolve_answer.specs.Ends.{finish}
 
 -- of the default space, 8 where there is none
 unfoldable pub pointer_size : List ℕ → List ℕ → ℕ
-pointer_size s t = if eqb (le16 s 24) 65535 then 8 else le16 s (entry t 0 (le16 s 24 * 5 + 3))
+pointer_size s t = when eqb (le16 s 24) 65535 then 8 else le16 s (entry t 0 (le16 s 24 * 5 + 3))
 
 -- behind room for the Builds of all subtables
 abbrev pub at_start : ℕ → Walk
@@ -44,16 +44,16 @@ resolve_walked s t ptr (stepped (Step.Stop refusal ordinal) a m) = refused a m r
 
 unfoldable pub resolve_section : List ℕ → List ℕ → List ℕ → List ℕ → Resolved
 resolve_section s t a m =
-    if ltb (length a / 24) (le16 s 20) then refused a m 12 65535 0
+    when ltb (length a / 24) (le16 s 20) then refused a m 12 65535 0
     else resolve_walked s t (pointer_size s t) (walk_section s t a m (le16 s 20) (pointer_size s t))
 
 unfoldable pub resolve_read : List ℕ → List ℕ → List ℕ → Answer → Resolved
-resolve_read s a m r = if eqb r.refusal 0 then resolve_section s r.table a m else refused a m r.refusal 65535 0
+resolve_read s a m r = when eqb r.refusal 0 then resolve_section s r.table a m else refused a m r.refusal 65535 0
 
 unfoldable pub resolve_stream : List ℕ → List ℕ → List ℕ → Resolved
 resolve_stream s a m = resolve_read s a m (read_stream s (replicate 3344 0))
 
 unfoldable pub resolve_file : List ℕ → List ℕ → List ℕ → Resolved
 resolve_file file a m =
-    if eqb (refusal_of (stream_of file)) 0 then resolve_stream (joined (length file / 512) file) a m
+    when eqb (refusal_of (stream_of file)) 0 then resolve_stream (joined (length file / 512) file) a m
     else refused a m (refusal_of (stream_of file)) 65535 0

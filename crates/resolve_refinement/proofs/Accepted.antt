@@ -7,7 +7,7 @@ use native.Mathlib.Omega.{arith}
 use lib.ListN.{length, length-append}
 use lib.Dec.{eqb}
 use borrow.Author.Tests.{lt-ltb, eq-eqb}
-use Rattle.prelude.specs.Base.{any, if◌then◌else◌}
+use Rattle.prelude.specs.Base.{any, when◌then◌else◌}
 use Rattle.definition.specs.Value.{SemanticAction, ExportKind, Export}
 use Rattle.definition.specs.Ast.{Section}
 use Rattle.definition.specs.Walk.{State}
@@ -32,12 +32,12 @@ use Rattle.stmt_refinement.specs.Standing.{ExportIs, SoundExport}
 abbrev pub ExportHeld : Section → ℕ → Option Export → WordExport → Type 0
 ExportHeld sec n x y = ExportIs x y × EachOption (SoundExport sec n) x
 
-none_words : (k : ℕ) (w : Words) → k ≡ 0 → (if eqb k 0 then words 0 0 else w) ≡ words 0 0
-unfolding if◌then◌else◌
+none_words : (k : ℕ) (w : Words) → k ≡ 0 → (when eqb k 0 then words 0 0 else w) ≡ words 0 0
+unfolding when◌then◌else◌
 none_words k w h = rw (eq-eqb k 0 h)
 
-kind_words : (k : ExportKind) (w : Words) → (if eqb (export_kind_number k) 0 then words 0 0 else w) ≡ w
-unfolding if◌then◌else◌ export_kind_number
+kind_words : (k : ExportKind) (w : Words) → (when eqb (export_kind_number k) 0 then words 0 0 else w) ≡ w
+unfolding when◌then◌else◌ export_kind_number
 kind_words ExportKind.PlainValue w = refl
 kind_words ExportKind.RamRef w = refl
 kind_words ExportKind.RegisterRef w = refl
@@ -57,7 +57,7 @@ export_is sec n (some x) y h = (
 )
 
 points_are : (k n : ℕ) → k < 2 ^ 62 → n < 2 ^ 62 → points_of k n ≡ points k n
-unfolding points_of points if◌then◌else◌
+unfolding points_of points when◌then◌else◌
 points_are k n p q = rw (lt-ltb k 4611686018427387904 p, lt-ltb n 4611686018427387904 q)
 
 -- the twelve numbers of an accepted section, and two lists

@@ -5,7 +5,7 @@ use mathlib.Core.Bool.{Bool, true, false}
 use mathlib.Core.List.{List, [], ◌∷◌, ◌++◌}
 use native.Mathlib.Omega.{arith}
 use lib.ListN.{length}
-use Rattle.prelude.specs.Base.{if◌then◌else◌, or_else, and_then, sum}
+use Rattle.prelude.specs.Base.{when◌then◌else◌, or_else, and_then, sum}
 use Rattle.definition.specs.Value.{SemanticAction, operation_of, Temporary}
 use Rattle.definition.specs.Ast.{Section}
 use Rattle.definition.specs.Sizes.{Sizing, backward_pass, forward_pass, apply_size_inference}
@@ -19,9 +19,9 @@ unfolding labels_placed places_label label_numbers placing place sum
 placed-numbers [] = refl
 placed-numbers (x ∷ xs) = go (placing x.kind) (placed-numbers xs)
   where
-    go : (b : Bool) → labels_placed xs ≡ length (label_numbers xs) → (if b then 1 else 0) + labels_placed xs ≡ length (place b x.number (label_numbers xs))
-    go true h = unfold if◌then◌else◌ in omega (arith, h)
-    go false h = unfold if◌then◌else◌ in omega (arith, h)
+    go : (b : Bool) → labels_placed xs ≡ length (label_numbers xs) → (when b then 1 else 0) + labels_placed xs ≡ length (place b x.number (label_numbers xs))
+    go true h = unfold when◌then◌else◌ in omega (arith, h)
+    go false h = unfold when◌then◌else◌ in omega (arith, h)
 
 module _ (sec : Section) (xs : List SemanticAction) (z : Sizing) (w : List Temporary) (ys : List SemanticAction) where
   pub labels_kept : FinishedAll sec w (apply_size_inference sec xs z).0 ys → (n : ℕ) → labels_placed (implicit_builds (apply_size_inference sec xs z).0 0 n ++ ys) ≡ labels_placed xs

@@ -8,7 +8,7 @@ use mathlib.Core.Option.{Option, none, some}
 use lib.ListN.{length, get_or, length-set}
 use lib.Dec.{eqb, leb}
 use Rattle.prelude.specs.Base as definition
-use Rattle.prelude.specs.Base.{and_then, if◌then◌else◌}
+use Rattle.prelude.specs.Base.{and_then, when◌then◌else◌}
 use Rattle.definition.specs.Refusals.{Refusal, subpiece_size, offset_too_far}
 use Rattle.definition.specs.Operations.{Operation, is_op}
 use Rattle.definition.specs.Value.{Value, SemanticAction, operation_of}
@@ -33,17 +33,17 @@ abbrev begun_in : WordSizing → ℕ
 begun_in z = z.begun
 
 error-begun : (z : WordSizing) → (error z).begun ≡ z.begun
-unfolding error recorded if◌then◌else◌
+unfolding error recorded when◌then◌else◌
 error-begun z = refl
 
 fix_begun : (s t m : List ℕ) (v : WordValue) (ptr : ℕ) (z : WordSizing) → (fix_size s t m v ptr z).z.begun ≡ z.begun
-unfolding fix_size if◌then◌else◌
+unfolding fix_size when◌then◌else◌
 fix_begun s t m v ptr z = go (eqb (size_of s t m v) 65535) (falls_back v)
   where
     begun_of : Fixed → ℕ
     begun_of f = f.z.begun
 
-    go : (b c : Bool) → begun_of (if b then (if c then fixed (with_size ptr v) z else fixed v (error z)) else fixed (with_size (size_of s t m v) v) z) ≡ z.begun
+    go : (b c : Bool) → begun_of (when b then (when c then fixed (with_size ptr v) z else fixed v (error z)) else fixed (with_size (size_of s t m v) v) z) ≡ z.begun
     go true true = refl
     go true false = error-begun z
     go false c = refl
@@ -70,10 +70,10 @@ module _ (s t m : List ℕ) (n begun : ℕ) where
   inputs_left (suc k) i at ptr (listed z a) h = inputs_left k (suc i) at ptr (fix_operand s t a m at (6 + i % 8 * 2) ptr z) (operand_left a at (6 + i % 8 * 2) ptr z h)
 
   output_left : (a : List ℕ) (at ptr : ℕ) (z : WordSizing) → Left n begun (listed z a) → Left n begun (fix_output s t a m at ptr z)
-  unfolding fix_output if◌then◌else◌
+  unfolding fix_output when◌then◌else◌
   output_left a at ptr z h = go (eqb (get_or a (at + 5) 0) 255)
     where
-      go : (b : Bool) → Left n begun (if b then listed z a else fix_operand s t a m at 4 ptr z)
+      go : (b : Bool) → Left n begun (when b then listed z a else fix_operand s t a m at 4 ptr z)
       go true = h
       go false = operand_left a at 4 ptr z h
 
@@ -90,32 +90,32 @@ module _ (s t m : List ℕ) (n begun : ℕ) where
   copy_left a at (Slice.No k) z h = h
 
   subpiece_left : (a : List ℕ) (at : ℕ) (z : WordSizing) → Left n begun (listed z a) → LeftAs n begun (then_l (subpiece_copy a at) λ r b. listed (finished r z) b)
-  unfolding subpiece_copy then_l if◌then◌else◌
+  unfolding subpiece_copy then_l when◌then◌else◌
   subpiece_left a at z h = go (eqb (value_at a at 4).size 65535)
     where
       part : Slice
       part = slice_bytes (value_at a at 6) (get_or a (at + 2) 0 % 65536) (value_at a at 4).size
 
-      go : (b : Bool) → LeftAs n begun (then_l (if b then listed 50 a else copy_of a at part) λ r b. listed (finished r z) b)
+      go : (b : Bool) → LeftAs n begun (then_l (when b then listed 50 a else copy_of a at part) λ r b. listed (finished r z) b)
       go true = h
       go false = copy_left a at part z h
 
   fixed_left : (a : List ℕ) (at : ℕ) (z : WordSizing) → Left n begun (listed z a) → LeftAs n begun (finish_fixed a at z)
-  unfolding finish_fixed if◌then◌else◌
+  unfolding finish_fixed when◌then◌else◌
   fixed_left a at z h = go (eqb (get_or a (at + 1) 0) 66)
     where
-      go : (b : Bool) → LeftAs n begun (if b then then_l (subpiece_copy a at) (λ r b. listed (finished r z) b) else listed (finished 0 z) a)
+      go : (b : Bool) → LeftAs n begun (when b then then_l (subpiece_copy a at) (λ r b. listed (finished r z) b) else listed (finished 0 z) a)
       go true = subpiece_left a at z h
       go false = h
 
   op_left : (a : List ℕ) (at ptr : ℕ) (z : WordSizing) → Left n begun (listed z a) → LeftAs n begun (finish_op s t a m at ptr z)
-  unfolding finish_op then_l if◌then◌else◌
+  unfolding finish_op then_l when◌then◌else◌
   op_left a at ptr z h = go (eqb (get_or a (at + 0) 0) 0)
     where
       on_fixed : (x : Listed WordSizing) → Left n begun x → LeftAs n begun (then_l x λ y b. finish_fixed b at y)
       on_fixed (listed y b) h = fixed_left b at y h
 
-      go : (b : Bool) → LeftAs n begun (if b then then_l (fix_operands s t a m at ptr z) (λ y b. finish_fixed b at y) else listed (finished 0 z) a)
+      go : (b : Bool) → LeftAs n begun (when b then then_l (fix_operands s t a m at ptr z) (λ y b. finish_fixed b at y) else listed (finished 0 z) a)
       go true = on_fixed (fix_operands s t a m at ptr z) (operands_left a at ptr z h)
       go false = h
 
@@ -128,9 +128,9 @@ module _ (s t m : List ℕ) (n begun : ℕ) where
           → LeftAs n begun (then_f x λ y b. finish_from k (suc i) s t b m base ptr y)
       go (listed f b) h rec = unfold then_f in test (eqb f.refusal 0)
         where
-          test : (c : Bool) → LeftAs n begun (if c then finish_from k (suc i) s t b m base ptr f.z else listed f b)
-          test true = unfold if◌then◌else◌ in rec b f.z h
-          test false = unfold if◌then◌else◌ in h
+          test : (c : Bool) → LeftAs n begun (when c then finish_from k (suc i) s t b m base ptr f.z else listed f b)
+          test true = unfold when◌then◌else◌ in rec b f.z h
+          test false = unfold when◌then◌else◌ in h
 
   pub actions_left : (k : ℕ) (a : List ℕ) (base ptr : ℕ) (z : WordSizing) → length a ≡ n → z.begun ≡ begun → LeftAs n begun (finish_actions s t a m base k ptr z)
   unfolding finish_actions
@@ -205,7 +205,7 @@ module _ (e : Env) (begun : Option ℕ) where
       u : State
       u = with_sizing (sizes.fix_operands e.section x st.sizing).1 st
 
-      go : (b : Bool) → Begun begun (definition.if◌then◌else◌ b (d.subpiece_copy y) (λ e st. done y st) e u)
+      go : (b : Bool) → Begun begun (definition.when◌then◌else◌ b (d.subpiece_copy y) (λ e st. done y st) e u)
       go true = unfold base_opens in copy_begun y u (operands-begun x st.sizing ∙ h)
       go false = unfold base_opens in (operands-begun x st.sizing ∙ h)
 

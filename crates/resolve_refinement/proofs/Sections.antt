@@ -9,7 +9,7 @@ use lib.ListN.{length, get_or, replicate, length-replicate}
 use lib.Dec.{leb, ltb}
 use borrow.Author.Tests.{ltb-true, ltb-false, le-leb, lt-leb}
 use Rattle.access.specs.Le.{le16}
-use Rattle.prelude.specs.Base.{or_else, if◌then◌else◌}
+use Rattle.prelude.specs.Base.{or_else, when◌then◌else◌}
 use Rattle.definition.specs.Refusals.{refusal_number, list_full}
 use Rattle.definition.specs.Ast.{Section}
 use Rattle.definition.specs.Walk.{State, Env, Outcome, on, require}
@@ -113,11 +113,11 @@ module _ (s t : List ℕ) (sec : Section) (holds : Holds s t sec) (within : With
   body = statements.resolve_body 16 (statements.ordinal_after sec.macros) sec.statements
 
   abbrev chosen : Bool → Resolved
-  chosen b = if b then refused a m 12 65535 0 else resolve_walked s t (w.pointer_size s t) (walk_section s t a m (length sec.subtables) (w.pointer_size s t))
+  chosen b = when b then refused a m 12 65535 0 else resolve_walked s t (w.pointer_size s t) (walk_section s t a m (length sec.subtables) (w.pointer_size s t))
 
   tested : (length sec.subtables ≤ length a / 24 → Walks s t sec a m) → (b : Bool) → ltb (length a / 24) (length sec.subtables) ≡ b → Lengths (length a) (length m) (chosen b)
       → as_answer (chosen b) ≡ answered (length a) (length m) (on e (on e (require (leb (length sec.subtables) (length a / 24)) list_full e (at_start sec)) (λ _. body)) (λ _. d.finish))
-  unfolding if◌then◌else◌ on require answered at_start or_none or_else refusal_number
+  unfolding when◌then◌else◌ on require answered at_start or_none or_else refusal_number
   tested walks true h l = rw (lt-leb (length sec.subtables) (length a / 24) (ltb-true _ _ h)) (refused_is a m (length a) (length m) list_full none 0 refl refl)
   tested walks false h l =
       let room : length sec.subtables ≤ length a / 24 = ltb-false (length a / 24) (length sec.subtables) h in

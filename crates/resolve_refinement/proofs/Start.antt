@@ -10,7 +10,7 @@ use lib.Seq.{length-take-le}
 use lib.Dec.{eqb}
 use Rattle.access.specs.Le.{le16}
 use Rattle.prelude.specs.Base as definition
-use Rattle.prelude.specs.Base.{or_else, and_then, first, if◌then◌else◌}
+use Rattle.prelude.specs.Base.{or_else, and_then, first, when◌then◌else◌}
 use Rattle.definition.specs.Value.{Kind, Value, local}
 use Rattle.definition.specs.Ast.{Space, Field, Subtable, Section}
 use Rattle.definition.specs.Sizes as d
@@ -35,11 +35,11 @@ use Rattle.stmt_refinement.specs.Standing.{Beside, beside, Given, label_number, 
 -- the pointer size that the words read
 module _ (s t : List ℕ) (sec : Section) (holds : Holds s t sec) where
   pub pointer_is : w.pointer_size s t ≡ d.pointer_size sec
-  unfolding w.pointer_size d.pointer_size if◌then◌else◌ base_opens entry space_at
+  unfolding w.pointer_size d.pointer_size when◌then◌else◌ base_opens entry space_at
   pointer_is = rw holds.default_space (go (eqb (le16 s 24) 65535) refl)
     where
       go : (b : Bool) → eqb (le16 s 24) 65535 ≡ b
-          → (if b then 8 else le16 s (entry t 0 (le16 s 24 * 5 + 3))) ≡ or_else 8 (and_then (definition.if◌then◌else◌ b none (some (le16 s 24))) λ i. and_then (get_elem? sec.spaces i) λ (x : Space). some x.address_size)
+          → (when b then 8 else le16 s (entry t 0 (le16 s 24 * 5 + 3))) ≡ or_else 8 (and_then (definition.when◌then◌else◌ b none (some (le16 s 24))) λ i. and_then (get_elem? sec.spaces i) λ (x : Space). some x.address_size)
       go true h = refl
       go false h =
           let q : absent_at s 24 ≡ some (le16 s 24) = rw h in

@@ -8,7 +8,7 @@ use native.Mathlib.Omega.{arith}
 use lib.ListN.{length, replicate}
 use lib.Dec.{eqb}
 use borrow.Author.Tests.{eq-eqb}
-use Rattle.prelude.specs.Base.{or_else, if◌then◌else◌}
+use Rattle.prelude.specs.Base.{or_else, when◌then◌else◌}
 use Rattle.definition.specs.Refusals.{Refusal, refusal_number}
 use Rattle.definition.specs.Ast.{Section}
 use Rattle.definition.specs.SectionFile.{Parsed, parsed, refused, on, stream_of, read_section, read}
@@ -34,8 +34,8 @@ use Rattle.resolve_refinement.proofs.Sections.{Lengths, section_is}
 use Rattle.resolve_refinement.proofs.Walking.{section_walks}
 
 module _ (file a m : List ℕ) (short : length a < 2 ^ 60) (shorter : length m < 2 ^ 60) where
-  refuses : (x : Resolved) (r : Refusal) (n : ℕ) → n ≡ refusal_number r → as_answer (if eqb n 0 then x else answers.refused a m n 65535 0) ≡ d.refusal (length a) (length m) r none 0
-  unfolding or_none or_else if◌then◌else◌
+  refuses : (x : Resolved) (r : Refusal) (n : ℕ) → n ≡ refusal_number r → as_answer (when eqb n 0 then x else answers.refused a m n 65535 0) ≡ d.refusal (length a) (length m) r none 0
+  unfolding or_none or_else when◌then◌else◌
   refuses x r n h = rw (h, refusal_bad r) (refused_is a m (length a) (length m) r none 0 refl refl)
 
   stream_is : (x rest : List ℕ) → stream_of file ≡ parsed x rest → length x ≤ 65280 → (y : Parsed Section) → read_section x ≡ y → Lengths (length a) (length m) (resolve_stream x a m)
@@ -54,14 +54,14 @@ module _ (file a m : List ℕ) (short : length a < 2 ^ 60) (shorter : length m <
       t = (read_stream x (replicate 3344 0)).table
 
       go : (b : Bool) → b ≡ true → (Lengths (length a) (length m) (w.resolve_section x t a m) → as_answer (w.resolve_section x t a m) ≡ d.resolve_read (length a) (length m) (parsed sec left))
-          → Lengths (length a) (length m) (if b then w.resolve_section x t a m else answers.refused a m (read_stream x (replicate 3344 0)).refusal 65535 0)
-          → as_answer (if b then w.resolve_section x t a m else answers.refused a m (read_stream x (replicate 3344 0)).refusal 65535 0) ≡ d.resolve_read (length a) (length m) (parsed sec left)
-      go true h f l = unfold if◌then◌else◌ in f l
+          → Lengths (length a) (length m) (when b then w.resolve_section x t a m else answers.refused a m (read_stream x (replicate 3344 0)).refusal 65535 0)
+          → as_answer (when b then w.resolve_section x t a m else answers.refused a m (read_stream x (replicate 3344 0)).refusal 65535 0) ≡ d.resolve_read (length a) (length m) (parsed sec left)
+      go true h f l = unfold when◌then◌else◌ in f l
       go false h f l = let z : ◌≡◌ {A = ℕ} 0 1 = cc in absurd (omega arith)
 
-  joined_is : (x rest : List ℕ) → stream_of file ≡ parsed x rest → Lengths (length a) (length m) (if eqb (refusal_of (parsed x rest)) 0 then resolve_stream (joined (length file / 512) file) a m else answers.refused a m (refusal_of (parsed x rest)) 65535 0)
-      → as_answer (if eqb (refusal_of (parsed x rest)) 0 then resolve_stream (joined (length file / 512) file) a m else answers.refused a m (refusal_of (parsed x rest)) 65535 0) ≡ d.resolve_read (length a) (length m) (read_section x)
-  unfolding refusal_of if◌then◌else◌
+  joined_is : (x rest : List ℕ) → stream_of file ≡ parsed x rest → Lengths (length a) (length m) (when eqb (refusal_of (parsed x rest)) 0 then resolve_stream (joined (length file / 512) file) a m else answers.refused a m (refusal_of (parsed x rest)) 65535 0)
+      → as_answer (when eqb (refusal_of (parsed x rest)) 0 then resolve_stream (joined (length file / 512) file) a m else answers.refused a m (refusal_of (parsed x rest)) 65535 0) ≡ d.resolve_read (length a) (length m) (read_section x)
+  unfolding refusal_of when◌then◌else◌
   joined_is x rest e l =
       let f = file_stream file x rest e in
       subst (λ (z : List ℕ). Lengths (length a) (length m) (resolve_stream z a m) → as_answer (resolve_stream z a m) ≡ d.resolve_read (length a) (length m) (read_section x)) f.0 (stream_is x rest e f.1 (read_section x) refl) l
@@ -71,8 +71,8 @@ module _ (file a m : List ℕ) (short : length a < 2 ^ 60) (shorter : length m <
   unfolding resolve_file d.resolve read on
   resolved_is l = go (stream_of file) refl l
     where
-      go : (p : Parsed (List ℕ)) → stream_of file ≡ p → Lengths (length a) (length m) (if eqb (refusal_of p) 0 then resolve_stream (joined (length file / 512) file) a m else answers.refused a m (refusal_of p) 65535 0)
-          → as_answer (if eqb (refusal_of p) 0 then resolve_stream (joined (length file / 512) file) a m else answers.refused a m (refusal_of p) 65535 0) ≡ d.resolve_read (length a) (length m) (on p (λ stream _. read_section stream))
+      go : (p : Parsed (List ℕ)) → stream_of file ≡ p → Lengths (length a) (length m) (when eqb (refusal_of p) 0 then resolve_stream (joined (length file / 512) file) a m else answers.refused a m (refusal_of p) 65535 0)
+          → as_answer (when eqb (refusal_of p) 0 then resolve_stream (joined (length file / 512) file) a m else answers.refused a m (refusal_of p) 65535 0) ≡ d.resolve_read (length a) (length m) (on p (λ stream _. read_section stream))
       go (parsed x rest) e l = joined_is x rest e l
       go (refused r) e l = unfold refusal_of d.resolve_read d.when_read in refuses _ r (refusal_number r) refl
 

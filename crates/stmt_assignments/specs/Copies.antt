@@ -8,7 +8,7 @@ use Rattle.list_values.specs.declared.value.Value.{Value}
 use Rattle.list_pushes.specs.declared.push.State.{State}
 use Rattle.list_pushes.specs.declared.push.Env.{Env}
 use Rattle.list_pushes.specs.declared.push.Read.{Read}
-use Rattle.prelude.specs.Base.{if◌then◌else◌}
+use Rattle.prelude.specs.Base.{when◌then◌else◌}
 use Rattle.list_values.specs.Values.{absent}
 use Rattle.list_values.specs.Sizes.{size_of}
 use Rattle.list_pushes.specs.Pushes.{ReadOut, read, on_read, on_tmp, add_tmp, op_to}
@@ -62,7 +62,7 @@ keep_bits s t a m e v to prev from bits st =
 
 unfoldable pub write_bits : List ℕ → List ℕ → List ℕ → List ℕ → Env → Value → Value → ℕ → ℕ → State → ReadOut
 write_bits s t a m e v to from bits st =
-    if leb 64 from then read (Read.No 41) a m
+    when leb 64 from then read (Read.No 41) a m
     else on_tmp (add_tmp m 65535 (size_of s t m to) st)
     (λ prev st1 u. keep_bits s t a u e v to prev from bits st1)
     (λ n u. read (Read.No n) a u)
@@ -83,7 +83,7 @@ copy_bytes s t a m e x to from bits st = read_sliced (sliced to (from / 8) (bits
 
 unfoldable pub copy_range : List ℕ → List ℕ → List ℕ → List ℕ → Env → ExprValue → Value → ℕ → ℕ → State → ReadOut
 copy_range s t a m e x to from bits st =
-    if byte_aligned from bits then copy_bytes s t a m e x to from bits st else copy_bits s t a m e x to from bits st
+    when byte_aligned from bits then copy_bytes s t a m e x to from bits st else copy_bits s t a m e x to from bits st
 
 unfoldable pub copy_ram : List ℕ → List ℕ → List ℕ → List ℕ → Env → ExprValue → Value → ℕ → ℕ → State → Walk → Stepped
 copy_ram s t a m e x pointer size next st w =
@@ -104,15 +104,15 @@ copy_into s t a m e x (ExprValue.AddressOf v z) next st w = stepped (stop 37 w) 
 -- the name of a target, bare or truncated, or 65,535
 unfoldable pub target_name : List ℕ → ℕ → ℕ
 target_name s pos =
-    if eqb (get_or s (pos + 0) 0) 0 then le16 s (pos + 1)
-    else if eqb (get_or s (pos + 0) 0) 3 then (if eqb (get_or s (pos + 1) 0) 0 then le16 s (pos + 2) else 65535)
+    when eqb (get_or s (pos + 0) 0) 0 then le16 s (pos + 1)
+    else when eqb (get_or s (pos + 0) 0) 3 then (when eqb (get_or s (pos + 1) 0) 0 then le16 s (pos + 2) else 65535)
     else 65535
 
 unfoldable pub target_size : List ℕ → ℕ → ℕ
-target_size s pos = if eqb (get_or s (pos + 0) 0) 0 then 65535 else le16 s (pos + 4)
+target_size s pos = when eqb (get_or s (pos + 0) 0) 0 then 65535 else le16 s (pos + 4)
 
 unfoldable pub after_target : List ℕ → ℕ → ℕ
-after_target s pos = if eqb (get_or s (pos + 0) 0) 0 then after pos 3 else after pos 6
+after_target s pos = when eqb (get_or s (pos + 0) 0) 0 then after pos 3 else after pos 6
 
 -- the scope and the temporaries
 unfoldable pub new_target : List ℕ → List ℕ → List ℕ → List ℕ → Env → ℕ → ℕ → State → ExprOut
@@ -126,12 +126,12 @@ is_wrong (Meaning.Wrong n) = true
 is_wrong (Meaning.Means x) = false
 
 unfoldable pub is_new : List ℕ → List ℕ → List ℕ → Env → ℕ → Bool
-is_new s t p e name = if eqb name 65535 then false else is_wrong (resolve_ident s t p e name)
+is_new s t p e name = when eqb name 65535 then false else is_wrong (resolve_ident s t p e name)
 
 -- a bare name as target: its number as a plain local, 1 where it means nothing or a wrong thing, else 0
 unfoldable pub plain_target : List ℕ → List ℕ → List ℕ → Env → ℕ → ℕ → ℕ
 plain_target s t p e pos name =
-    if eqb (get_or s (pos + 0) 0) 0 then (if eqb name 65535 then 0 else plain_local s t p e name) else 0
+    when eqb (get_or s (pos + 0) 0) 0 then (when eqb name 65535 then 0 else plain_local s t p e name) else 0
 
 -- an answer, the scope, the actions and the temporaries
 pub data Targeted : Type 0 where
@@ -152,7 +152,7 @@ in_scope p (resolved r a m) = targeted r p a m
 -- an unknown or disallowed name as target becomes a temporary
 unfoldable pub resolve_dst : List ℕ → List ℕ → List ℕ → List ℕ → List ℕ → Env → ℕ → State → Targeted
 resolve_dst s t p a m e pos st =
-    if is_new s t p e (target_name s pos)
+    when is_new s t p e (target_name s pos)
     then beside_a a (new_target s t p m e pos (target_name s pos) st)
     else in_scope p (resolve_expr 32 s t p e pos a m st)
 

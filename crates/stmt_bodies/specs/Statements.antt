@@ -6,7 +6,7 @@ use Rattle.access.specs.Le.{le16}
 use Rattle.list_pushes.specs.declared.push.State.{State}
 use Rattle.list_pushes.specs.declared.push.Env.{Env}
 use Rattle.list_values.specs.Base.{then_l}
-use Rattle.prelude.specs.Base.{if◌then◌else◌}
+use Rattle.prelude.specs.Base.{when◌then◌else◌}
 use Rattle.expr_terms.specs.Answers.{on_args, after}
 use Rattle.stmt_walk.specs.declared.walk.Walk.{Walk}
 use Rattle.stmt_walk.specs.declared.walk.Step.{Step}
@@ -24,20 +24,20 @@ beside_a a (stepped r p m) = walked r p a m
 
 unfoldable pub simple : ℕ → List ℕ → List ℕ → List ℕ → List ℕ → List ℕ → Env → ℕ → Walk → Walked
 simple code s t p a m e pos w =
-    if code == 0 then beside_p p (unimplemented s t a m e pos w)
-    else if code == 1 then beside_p p (export_statement s t p a m e pos w)
-    else if code == 2 then beside_a a (local_statement s t p m e pos w)
-    else if code == 3 then local_assignment s t p a m e pos w
-    else if code == 4 then then_l (build s t a pos w) (λ r b. walked r p b m)
-    else if code == 5 then copy_statement s t p a m e pos w
+    when code == 0 then beside_p p (unimplemented s t a m e pos w)
+    else when code == 1 then beside_p p (export_statement s t p a m e pos w)
+    else when code == 2 then beside_a a (local_statement s t p m e pos w)
+    else when code == 3 then local_assignment s t p a m e pos w
+    else when code == 4 then then_l (build s t a pos w) (λ r b. walked r p b m)
+    else when code == 5 then copy_statement s t p a m e pos w
     else beside_p p (store_statement s t p a m e pos w)
 
 -- a statement that is no call
 unfoldable pub other_statement : ℕ → List ℕ → List ℕ → List ℕ → List ℕ → List ℕ → Env → ℕ → Walk → Walked
 other_statement code s t p a m e pos w =
-    if code == 8 then branch s t p a m e pos w
-    else if code == 9 then cond_branch s t p a m e pos w
-    else if code == 10 then label_statement s t p a m e pos w
+    when code == 8 then branch s t p a m e pos w
+    else when code == 9 then cond_branch s t p a m e pos w
+    else when code == 10 then label_statement s t p a m e pos w
     else simple code s t p a m e pos w
 
 abbrev pub begun : ℕ → ℕ → Walk → Walk
@@ -56,8 +56,8 @@ begun ordinal statements w = record {
 -- a statement begins: it has its ordinal, may not follow an export, and is counted up to 4,096
 unfoldable pub begin : ℕ → Walk → Step
 begin ordinal w =
-    if w.export.kind == 0
-    then (if leb 4096 w.statements then Step.Stop 10 ordinal else Step.Next 0 (begun ordinal (w.statements + 1) w))
+    when w.export.kind == 0
+    then (when leb 4096 w.statements then Step.Stop 10 ordinal else Step.Next 0 (begun ordinal (w.statements + 1) w))
     else Step.Stop 20 ordinal
 
 -- on behind the call after a macro's body
@@ -101,7 +101,7 @@ call_statement enter s t p a m e pos w =
 
 unfoldable pub statement_by : ℕ → Enter → List ℕ → List ℕ → Env → ℕ → List ℕ → List ℕ → List ℕ → Walk → Walked
 statement_by code enter s t e pos p a m w =
-    if code == 7 then beside_p p (call_statement enter s t p a m e pos w) else other_statement code s t p a m e pos w
+    when code == 7 then beside_p p (call_statement enter s t p a m e pos w) else other_statement code s t p a m e pos w
 
 unfoldable pub statement_begun : Step → Enter → List ℕ → List ℕ → Env → ℕ → List ℕ → List ℕ → List ℕ → Walked
 statement_begun (Step.Next next w) enter s t e pos p a m = statement_by (slice_index s (pos + 0)) enter s t e pos p a m w
@@ -124,7 +124,7 @@ unfoldable pub resolve_all : Statement → ℕ → ℕ → ℕ → ℕ → ℕ �
 resolve_all resolve len zero i ordinal pos p a m w = walked (Step.Next pos w) p a m
 resolve_all resolve len (suc k) i ordinal pos p a m w =
     on_step (resolve pos ((ordinal + i) % 2 ^ 64) p a m w) λ next w1 q b u.
-    if forward pos next len then resolve_all resolve len k (suc i) ordinal next q b u w1 else walked (stop 3 w1) q b u
+    when forward pos next len then resolve_all resolve len k (suc i) ordinal next q b u w1 else walked (stop 3 w1) q b u
 
 -- the body of a macro that stands at a position, with its parameters, in a scope of its own
 unfoldable pub macro_body : Enter → List ℕ → List ℕ → ℕ → List ℕ → List ℕ → List ℕ → Env → ℕ → ℕ → State → Walk → Walked

@@ -6,7 +6,7 @@ use Rattle.access.specs.Le.{le16, le64}
 use Rattle.list_values.specs.declared.value.Value.{Value}
 use Rattle.list_pushes.specs.declared.push.State.{State}
 use Rattle.list_pushes.specs.declared.push.Env.{Env}
-use Rattle.prelude.specs.Base.{if◌then◌else◌}
+use Rattle.prelude.specs.Base.{when◌then◌else◌}
 use Rattle.list_values.specs.Values.{absent, no_output}
 use Rattle.list_pushes.specs.Pushes.{on_read, push_op}
 use Rattle.expr_scope.specs.declared.scope.ExprValue.{ExprValue}
@@ -47,16 +47,16 @@ label_branch s t p a m e pos cond st w =
 -- a name, or an integer with a size
 unfoldable pub jump_value : List ℕ → List ℕ → List ℕ → ℕ → Env → Meaning
 jump_value s t p pos e =
-    if slice_index s (pos + 0) == 0 then resolve_ident s t p e (le16 s (pos + 1))
+    when slice_index s (pos + 0) == 0 then resolve_ident s t p e (le16 s (pos + 1))
     else Meaning.Means (ExprValue.Const (le64 s (after pos 1)) (le16 s (pos + 9)))
 
 unfoldable pub after_jump : List ℕ → ℕ → ℕ
-after_jump s pos = if slice_index s (pos + 0) == 0 then after pos 3 else after pos 11
+after_jump s pos = when slice_index s (pos + 0) == 0 then after pos 3 else after pos 11
 
 -- a direct jump to a subtable takes its SubtableRef at pointer size
 unfoldable pub direct_address : ℕ → Value → Value
 direct_address pointer v =
-    if v.kind == 4 then record { kind = 5; number = v.number; offset = v.offset; size = pointer } else v
+    when v.kind == 4 then record { kind = 5; number = v.number; offset = v.offset; size = pointer } else v
 
 unfoldable pub direct : List ℕ → List ℕ → List ℕ → List ℕ → Env → ExprValue → Value → ℕ → State → Walk → Stepped
 direct s t a m e (ExprValue.Local v) cond hint st w = branch_to s t a m e cond (direct_address e.pointer v) hint st w
@@ -76,7 +76,7 @@ indirect s t a m e x cond hint st w =
 
 unfoldable pub jump_to : ℕ → List ℕ → List ℕ → List ℕ → List ℕ → Env → ExprValue → Value → ℕ → State → Walk → Stepped
 jump_to code s t a m e x cond hint st w =
-    if code == 0 then direct s t a m e x cond hint st w else indirect s t a m e x cond hint st w
+    when code == 0 then direct s t a m e x cond hint st w else indirect s t a m e x cond hint st w
 
 unfoldable pub jump_meant : Meaning → ℕ → List ℕ → List ℕ → List ℕ → List ℕ → Env → Value → ℕ → State → Walk → Stepped
 jump_meant (Meaning.Means x) code s t a m e cond hint st w = jump_to code s t a m e x cond hint st w
@@ -88,7 +88,7 @@ jump s t p a m e pos cond st w =
 
 unfoldable pub resolve_branch : List ℕ → List ℕ → List ℕ → List ℕ → List ℕ → Env → ℕ → Value → State → Walk → Walked
 resolve_branch s t p a m e pos cond st w =
-    if slice_index s (pos + 0) == 2 then label_branch s t p a m e pos cond st w
+    when slice_index s (pos + 0) == 2 then label_branch s t p a m e pos cond st w
     else beside_p p (jump s t p a m e pos cond st w)
 
 unfoldable pub branch : List ℕ → List ℕ → List ℕ → List ℕ → List ℕ → Env → ℕ → Walk → Walked

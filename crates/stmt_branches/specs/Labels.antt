@@ -3,7 +3,7 @@
 use Rattle.std.specs.Prelude.{ℕ, ◌+◌, ◌-◌, ◌%◌, ◌^◌, leb, List, ◌==◌, nat_le, nat_lt}
 use Rattle.list_pushes.specs.declared.push.State.{State}
 use Rattle.list_values.specs.Base.{Listed, listed}
-use Rattle.prelude.specs.Base.{if◌then◌else◌}
+use Rattle.prelude.specs.Base.{when◌then◌else◌}
 use Rattle.expr_scope.specs.Smalls.{small, put_small}
 use Rattle.stmt_walk.specs.declared.walk.Walk.{Walk}
 use Rattle.stmt_branches.specs.declared.labels.Label.{Label}
@@ -15,8 +15,8 @@ label_place name = 1024 + name % 1024
 -- the label whose number is one less, else the next one, up to 256
 unfoldable pub label_or : ℕ → List ℕ → ℕ → ℕ → Listed Label
 label_or k p name n =
-    if k == 0
-    then (if leb 256 n then listed (Label.No 14) p else listed (Label.Is n) (put_small p (label_place name) (n + 1)))
+    when k == 0
+    then (when leb 256 n then listed (Label.No 14) p else listed (Label.Is n) (put_small p (label_place name) (n + 1)))
     else listed (Label.Is (k - 1)) p
 
 unfoldable pub get_or_insert_label : List ℕ → ℕ → ℕ → Listed Label
@@ -29,7 +29,7 @@ on_label (listed (Label.No n) p) f g = g n p
 -- a label is placed once
 unfoldable pub place_label : List ℕ → ℕ → ℕ → Listed Label
 place_label p id name =
-    if nat_le 512 (small p (label_place name)) then listed (Label.No 27) p
+    when nat_le 512 (small p (label_place name)) then listed (Label.No 27) p
     else listed (Label.Is id) (put_small p (label_place name) (small p (label_place name) + 512))
 
 unfoldable pub resolve_label : List ℕ → ℕ → ℕ → Listed Label
@@ -40,7 +40,7 @@ resolve_label p name n =
 
 -- how many labels there are after one
 unfoldable pub labels_after : ℕ → ℕ → ℕ
-labels_after id labels = if nat_lt id labels then labels else (id + 1) % 2 ^ 64
+labels_after id labels = when nat_lt id labels then labels else (id + 1) % 2 ^ 64
 
 abbrev pub labelled : ℕ → ℕ → State → Walk → Walk
 labelled id more st w = record {

@@ -9,7 +9,7 @@ use native.Mathlib.Nat.{add-zero}
 use native.Mathlib.Omega.{arith}
 use lib.ListN.{length, get_or, take, drop, get_elem?}
 use borrow.Author.Tests.{lt-ltb, le-leb}
-use Rattle.prelude.specs.Base.{if◌then◌else◌}
+use Rattle.prelude.specs.Base.{when◌then◌else◌}
 use Rattle.access.specs.Le.{le16}
 use Rattle.definition.specs.Refusals.{refusal_number, macro_too_deep}
 use Rattle.definition.specs.Ast.{Statement, Macro}
@@ -155,13 +155,13 @@ module _ (s t : List ℕ) (e : Env) (front tail rest : List ℕ) (spare : ℕ) w
 
     one_more_lem : (k i first pos : ℕ) (x : Statement) (xs : List Statement) (next : ℕ) → statement (le16 s 2) (drop pos s) ≡ parsed x (drop next s) → pos ≤ length s → next ≤ length s → StatementWithin x → first + i < 2 ^ 64
         → All k (suc i) first next xs → All (suc k) i first pos (x ∷ xs)
-    unfolding resolve_all d.resolve_all resolve_statement if◌then◌else◌
+    unfolding resolve_all d.resolve_all resolve_statement when◌then◌else◌
     one_more_lem k i first pos x xs next reads inside ends within few more p b st h =
         let z : (first + i) % 2 ^ 64 ≡ first + i = omega arith in
         let y : first + suc i ≡ suc (first + i) = omega arith in
         let goes : forward pos next (length s) ≡ true = goes_forward pos x next reads inside ends in
         rw z (then_rest p b st h (first + i) pos x next reads inside ends within
-        (λ next1 w1 q a m. if forward pos next1 (length s) then resolve_all (resolve_statement (enter_macro deep s t) s t we) (length s) k (suc i) first next1 q a m w1 else walked (stop 3 w1) q a m) (d.resolve_all (d.resolve_statement (enter_of deep)) (suc (first + i)) xs)
+        (λ next1 w1 q a m. when forward pos next1 (length s) then resolve_all (resolve_statement (enter_macro deep s t) s t we) (length s) k (suc i) first next1 q a m w1 else walked (stop 3 w1) q a m) (d.resolve_all (d.resolve_statement (enter_of deep)) (suc (first + i)) xs)
         (λ q c u g. rw (goes, ← y) (more q c u g)) _ _
         (begin_is e (length front) (first + i) b st h.standing.statements h.standing.export))
 

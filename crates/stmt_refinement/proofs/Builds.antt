@@ -10,7 +10,7 @@ use lib.Dec.{eqb}
 use borrow.Author.Tests.{lt-ltb, le-ltb}
 use Rattle.access.specs.Le.{le16}
 use Rattle.prelude.specs.Base as definition
-use Rattle.prelude.specs.Base.{or_else, position, if◌then◌else◌}
+use Rattle.prelude.specs.Base.{or_else, position, when◌then◌else◌}
 use Rattle.definition.specs.Refusals.{Refusal, refusal_number, undefined, wrong_kind, absent_table}
 use Rattle.definition.specs.Value.{ActionKind, SemanticAction, operation_of}
 use Rattle.definition.specs.Ast.{Subtable}
@@ -47,13 +47,13 @@ unfolding position base_opens
 position-below q i [] j h = let z : ◌≡◌ {A = ℕ} 0 1 = cc in absurd (omega arith)
 position-below {A} q i (x ∷ xs) j h = go (q x) (position-below q (suc i) xs j) h
   where
-    go : (b : Bool) → (position q (suc i) xs ≡ some j → j < suc i + length xs) → (definition.if◌then◌else◌ b (some i) (position q (suc i) xs)) ≡ some j → j < i + suc (length xs)
+    go : (b : Bool) → (position q (suc i) xs ≡ some j → j < suc i + length xs) → (definition.when◌then◌else◌ b (some i) (position q (suc i) xs)) ≡ some j → j < i + suc (length xs)
     go true f h = let p : i ≡ j = cc in omega arith
     go false f h = let p = f h in omega arith
 
 subtable_found : (s t : List ℕ) (table i : ℕ) (xs : List Subtable) → ((j : ℕ) (x : Subtable) → get_elem? xs j ≡ some x → le16 s (entry t 8 ((i + j) % 65536 * 4) + 2) ≡ x.table)
     → find_subtable (length xs) i s t table ≡ or_else (i + length xs) (position (λ (x : Subtable). eqb table x.table) i xs)
-unfolding find_subtable position base_opens if◌then◌else◌
+unfolding find_subtable position base_opens when◌then◌else◌
 subtable_found s t table i [] h = omega arith
 subtable_found s t table i (x ∷ xs) h =
     let z : i + 0 ≡ i = omega arith in
@@ -61,7 +61,7 @@ subtable_found s t table i (x ∷ xs) h =
     rw (first, eqb_swap x.table table) (go (eqb table x.table) (subtable_found s t table (suc i) xs (λ j y q. let k : suc i + j ≡ i + suc j = omega arith in rw k (h (suc j) y q))))
   where
     go : (b : Bool) → find_subtable (length xs) (suc i) s t table ≡ or_else (suc i + length xs) (position (λ (x : Subtable). eqb table x.table) (suc i) xs)
-        → (if b then i else find_subtable (length xs) (suc i) s t table) ≡ or_else (i + suc (length xs)) (definition.if◌then◌else◌ b (some i) (position (λ (x : Subtable). eqb table x.table) (suc i) xs))
+        → (when b then i else find_subtable (length xs) (suc i) s t table) ≡ or_else (i + suc (length xs)) (definition.when◌then◌else◌ b (some i) (position (λ (x : Subtable). eqb table x.table) (suc i) xs))
     go true q = refl
     go false q = let k : suc i + length xs ≡ i + suc (length xs) = omega arith in rw k at q
 
@@ -88,7 +88,7 @@ module _ (s t : List ℕ) (e : Env) (front tail rest : List ℕ) (we : WordEnv) 
 
   build_found : (o : Option ℕ) → ((j : ℕ) → o ≡ some j → j < length e.section.subtables)
       → Builds (build_subtable (or_else (length e.section.subtables) o) (length e.section.subtables) A pos w) (on e (expect absent_table o e st) λ i. walks.push (building i))
-  unfolding build_subtable if◌then◌else◌ expect on or_else
+  unfolding build_subtable when◌then◌else◌ expect on or_else
   build_found none h = rw (le-ltb (length e.section.subtables) (length e.section.subtables) (omega arith)) (stops 24 absent_table (unfold refusal_number in refl))
   build_found (some i) h =
       rw (lt-ltb i (length e.section.subtables) (h i refl))

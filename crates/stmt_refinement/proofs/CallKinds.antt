@@ -10,7 +10,7 @@ use lib.Dec.{eqb}
 use borrow.Author.Tests.{ne_eqb}
 use Rattle.access.specs.Le.{le16}
 use Rattle.prelude.specs.Base as definition
-use Rattle.prelude.specs.Base.{if◌then◌else◌}
+use Rattle.prelude.specs.Base.{when◌then◌else◌}
 use Rattle.definition.specs.Refusals.{Refusal, refusal_number, undefined, wrong_kind, delay_slot_argument}
 use Rattle.definition.specs.Value.{ActionKind, SemanticAction, operation_of}
 use Rattle.definition.specs.Ast.{Args, Statement, Macro}
@@ -90,20 +90,20 @@ module _ (s t : List ℕ) (e : Env) (p front tail rest : List ℕ) (we : WordEnv
   Delays x o = Ends (then_l x (λ r c. stepped r c M)) o
 
   abbrev delay_or : Bool → ℕ → Listed Step
-  delay_or c end = if c then then_l (push A 4 0 0 0 absent absent absent w.st) (λ r c. listed (pushed_then end w r) c) else listed (stop 25 w) A
+  delay_or c end = when c then then_l (push A 4 0 0 0 absent absent absent w.st) (λ r c. listed (pushed_then end w r) c) else listed (stop 25 w) A
 
   delay_pushed : Refines e.section front tail rest spare from (λ _. tt {0}) (λ n (_ : Unit {0}). Unit {0}) (seen_push M (push A 4 0 0 0 absent absent absent w.st)) (walks.push delaying e from)
   unfolding action_kind_number operation_word operation_of output_of first_of second_of
   delay_pushed = (below s t e front tail rest we given).pushes spare from room (stood_more (4 + spare) (omega arith) stand.stood) delaying (omega arith) (record { inputs = tt; output = tt }) (no_operation_lem _ refl)
 
   delayed : (c : Bool) → Delays (delay_or c next) (on e (require c delay_slot_argument e from) λ _. walks.push delaying)
-  unfolding if◌then◌else◌ require on
+  unfolding when◌then◌else◌ require on
   delayed true = goes _ _ (step_push e.section front tail rest spare from _ M _ next w delay_pushed)
   delayed false = unfold then_l in stops 25 delay_slot_argument (unfold refusal_number in refl)
 
   delay_by : (o : Option ℕ) (offset end : ℕ) → Only o offset end next → Delays (delay_or (eqb offset 1) end) (d.delay_slot o e from)
   unfolding d.delay_slot expect on
-  delay_by none offset end h = rw (ne_eqb offset 1 (λ q. omega arith)) (unfold if◌then◌else◌ then_l in stops 25 delay_slot_argument (unfold refusal_number in refl))
+  delay_by none offset end h = rw (ne_eqb offset 1 (λ q. omega arith)) (unfold when◌then◌else◌ then_l in stops 25 delay_slot_argument (unfold refusal_number in refl))
   delay_by (some k) offset end h = rw (h.0, h.1) (delayed (eqb k 1))
 
   module _ (args : Args) (reads : args_of (expr_within (le16 s 2) 32) (get_or s (pos + 3) 0) (drop (pos + 4) s) ≡ parsed args (drop next s)) (known : le16 s (pos + 1) < le16 s 2) (few : get_or s (pos + 3) 0 < 9) (starts : pos + 4 ≤ length s) (inside : next ≤ length s) where
@@ -138,10 +138,10 @@ module _ (s t : List ℕ) (e : Env) (p front tail rest : List ℕ) (we : WordEnv
       by_symbol (some (Symbol.Macro i x)) c = let z : true ≡ false = unfold is_macro in c in let y : ◌≡◌ {A = ℕ} 0 1 = cc in absurd (omega arith)
       by_symbol (some (Symbol.Other i)) c = wrong_kind_lem
 
-      by_name : (a : Bool) → is_macro (if a then Called.DelaySlot else symbol_called (enc_symbol (find name (globals e.section)))) ≡ false
-          → Called_as (if a then Called.DelaySlot else symbol_called (enc_symbol (find name (globals e.section))))
-          ((definition.if◌then◌else◌ a (d.delay_slot (expressions.only_integer args)) (λ e1 st1. on e1 (lookup name e1 st1) (d.symbol_statement enter args))) e from)
-      unfolding if◌then◌else◌ lookup on
+      by_name : (a : Bool) → is_macro (when a then Called.DelaySlot else symbol_called (enc_symbol (find name (globals e.section)))) ≡ false
+          → Called_as (when a then Called.DelaySlot else symbol_called (enc_symbol (find name (globals e.section))))
+          ((definition.when◌then◌else◌ a (d.delay_slot (expressions.only_integer args)) (λ e1 st1. on e1 (lookup name e1 st1) (d.symbol_statement enter args))) e from)
+      unfolding when◌then◌else◌ lookup on
       by_name true c = unfold call_named in delay_steps
       by_name false c = by_symbol (find name (globals e.section)) c
 

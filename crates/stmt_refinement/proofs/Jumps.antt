@@ -7,7 +7,7 @@ use native.Mathlib.Omega.{arith}
 use lib.ListN.{get_or}
 use lib.Dec.{eqb}
 use Rattle.prelude.specs.Base as definition
-use Rattle.prelude.specs.Base.{or_else, is_some, if◌then◌else◌}
+use Rattle.prelude.specs.Base.{or_else, is_some, when◌then◌else◌}
 use Rattle.definition.specs.Refusals.{refusal_number, jump_to_non_local}
 use Rattle.definition.specs.Operations.{Operation, operation_number}
 use Rattle.definition.specs.Value.{Kind, kind_number, Value, is_kind}
@@ -64,22 +64,22 @@ module _ (s t : List ℕ) (e : Env) (front tail rest : List ℕ) (we : WordEnv) 
       (no_output_lem s t e front tail rest we given.lent given.sizes given.pointer spare st room (stood_more (suc spare) (omega arith) f) Operation.Branch (d.hint_number hint) (cond ∷ address ∷ []) (omega arith) (h, (g, tt)) (refl, refl) refl))
 
   abbrev addressed : Value → Value
-  addressed v = definition.if◌then◌else◌ (is_kind Kind.Subtable v) (record { kind = Kind.SubtableRef; number = v.number; offset = v.offset; size = some (pointer_size e.section) }) v
+  addressed v = definition.when◌then◌else◌ (is_kind Kind.Subtable v) (record { kind = Kind.SubtableRef; number = v.number; offset = v.offset; size = some (pointer_size e.section) }) v
 
   address_is : (v : Value) → direct_address we.pointer (enc_v v) ≡ enc_v (addressed v)
   unfolding direct_address is_kind
   address_is v = rw given.pointer (go v.kind)
     where
-      go : (k : Kind) → (if eqb (kind_number k) 4 then record { kind = 5; number = v.number; offset = v.offset; size = pointer_size e.section } else record { kind = kind_number k; number = v.number; offset = v.offset; size = or_none v.size })
-          ≡ enc_v (definition.if◌then◌else◌ (eqb (kind_number Kind.Subtable) (kind_number k)) (record { kind = Kind.SubtableRef; number = v.number; offset = v.offset; size = some (pointer_size e.section) }) (record { kind = k; number = v.number; offset = v.offset; size = v.size }))
-      go Kind.InstStart = unfold kind_number if◌then◌else◌ base_opens or_none or_else in refl
-      go Kind.InstNext = unfold kind_number if◌then◌else◌ base_opens or_none or_else in refl
-      go Kind.Register = unfold kind_number if◌then◌else◌ base_opens or_none or_else in refl
-      go Kind.Field = unfold kind_number if◌then◌else◌ base_opens or_none or_else in refl
-      go Kind.Subtable = unfold kind_number if◌then◌else◌ base_opens or_none or_else in refl
-      go Kind.SubtableRef = unfold kind_number if◌then◌else◌ base_opens or_none or_else in refl
-      go Kind.PcodeTmp = unfold kind_number if◌then◌else◌ base_opens or_none or_else in refl
-      go Kind.Constant = unfold kind_number if◌then◌else◌ base_opens or_none or_else in refl
+      go : (k : Kind) → (when eqb (kind_number k) 4 then record { kind = 5; number = v.number; offset = v.offset; size = pointer_size e.section } else record { kind = kind_number k; number = v.number; offset = v.offset; size = or_none v.size })
+          ≡ enc_v (definition.when◌then◌else◌ (eqb (kind_number Kind.Subtable) (kind_number k)) (record { kind = Kind.SubtableRef; number = v.number; offset = v.offset; size = some (pointer_size e.section) }) (record { kind = k; number = v.number; offset = v.offset; size = v.size }))
+      go Kind.InstStart = unfold kind_number when◌then◌else◌ base_opens or_none or_else in refl
+      go Kind.InstNext = unfold kind_number when◌then◌else◌ base_opens or_none or_else in refl
+      go Kind.Register = unfold kind_number when◌then◌else◌ base_opens or_none or_else in refl
+      go Kind.Field = unfold kind_number when◌then◌else◌ base_opens or_none or_else in refl
+      go Kind.Subtable = unfold kind_number when◌then◌else◌ base_opens or_none or_else in refl
+      go Kind.SubtableRef = unfold kind_number when◌then◌else◌ base_opens or_none or_else in refl
+      go Kind.PcodeTmp = unfold kind_number when◌then◌else◌ base_opens or_none or_else in refl
+      go Kind.Constant = unfold kind_number when◌then◌else◌ base_opens or_none or_else in refl
 
   address_sound : (n : ℕ) (v : Value) → Sound e.section n v → Sound e.section n (addressed v)
   unfolding is_kind
@@ -89,7 +89,7 @@ module _ (s t : List ℕ) (e : Env) (front tail rest : List ℕ) (we : WordEnv) 
       same k m = record { number = m; offset = h.offset; size = h.size }
 
       go : (k : Kind) → Within e.section n k v.number
-          → Sound e.section n (definition.if◌then◌else◌ (eqb (kind_number Kind.Subtable) (kind_number k)) (record { kind = Kind.SubtableRef; number = v.number; offset = v.offset; size = some (pointer_size e.section) }) (record { kind = k; number = v.number; offset = v.offset; size = v.size }))
+          → Sound e.section n (definition.when◌then◌else◌ (eqb (kind_number Kind.Subtable) (kind_number k)) (record { kind = Kind.SubtableRef; number = v.number; offset = v.offset; size = some (pointer_size e.section) }) (record { kind = k; number = v.number; offset = v.offset; size = v.size }))
       go Kind.InstStart m = unfold kind_number base_opens in same Kind.InstStart m
       go Kind.InstNext m = unfold kind_number base_opens in same Kind.InstNext m
       go Kind.Register m = unfold kind_number base_opens in same Kind.Register m

@@ -11,7 +11,7 @@ use lib.Dec.{eqb}
 use borrow.Author.Tests.{eqb-true}
 use Rattle.access.specs.Le.{le16}
 use Rattle.prelude.specs.Base as definition
-use Rattle.prelude.specs.Base.{or_else, if◌then◌else◌}
+use Rattle.prelude.specs.Base.{or_else, when◌then◌else◌}
 use Rattle.definition.specs.Refusals.{refusal_number, macro_arguments}
 use Rattle.definition.specs.Ast.{Args, Statement, Macro}
 use Rattle.definition.specs.SectionFile.{parsed, expr_within, args_of, statement}
@@ -118,8 +118,8 @@ module _ (s t : List ℕ) (e : Env) (front tail rest : List ℕ) (spare : ℕ) (
 
   -- the arguments are resolved
   entered : (xs : List ExprValue) (u : State) → Reached e.section front tail rest spare st u → Each (SoundX e.section (count u)) xs → length xs ≡ n → Kept e u → Each (ExprFits e (count u)) xs → (c : Bool) → eqb (length m.params) n ≡ c
-      → Goes_on u (on_args (passed (if c then WordArgs.Done next (W u) else WordArgs.No 26) (A u) (M u) (bound xs)) enter refuse) (on e (require c macro_arguments e u) (λ _. enter_of deep id m xs))
-  unfolding if◌then◌else◌ on_args on require beside_p
+      → Goes_on u (on_args (passed (when c then WordArgs.Done next (W u) else WordArgs.No 26) (A u) (M u) (bound xs)) enter refuse) (on e (require c macro_arguments e u) (λ _. enter_of deep id m xs))
+  unfolding when◌then◌else◌ on_args on require beside_p
   entered xs u r sound many kept fits true q =
       let same = eqb-true (length m.params) n q in
       let l = r.later in
@@ -140,7 +140,7 @@ module _ (s t : List ℕ) (e : Env) (front tail rest : List ℕ) (spare : ℕ) (
   count_test : (xs : List ExprValue) → length xs ≡ n → eqb (length m.params) (length xs) ≡ eqb (length m.params) n
   count_test xs q = rw q
 
-  counted_is : (u : State) → counted s t id n next (W u) ≡ (if eqb (length m.params) n then WordArgs.Done next (W u) else WordArgs.No 26)
+  counted_is : (u : State) → counted s t id n next (W u) ≡ (when eqb (length m.params) n then WordArgs.Done next (W u) else WordArgs.No 26)
   unfolding counted
   counted_is u = rw count_is
 
@@ -202,9 +202,9 @@ module _ (s t : List ℕ) (e : Env) (front tail rest : List ℕ) (spare : ℕ) (
   by_symbol (some (Symbol.UserOp i)) q c = no_macro c
   by_symbol (some (Symbol.Other i)) q c = no_macro c
 
-  by_name : (a : Bool) → is_macro (if a then Called.DelaySlot else symbol_called (enc_symbol (find name (globals e.section)))) ≡ true
-      → Calls (if a then Called.DelaySlot else symbol_called (enc_symbol (find name (globals e.section)))) ((definition.if◌then◌else◌ a (d.delay_slot (expressions.only_integer args)) (λ e1 st1. on e1 (lookup name e1 st1) (d.symbol_statement (enter_of deep) args))) e st)
-  unfolding if◌then◌else◌ lookup on
+  by_name : (a : Bool) → is_macro (when a then Called.DelaySlot else symbol_called (enc_symbol (find name (globals e.section)))) ≡ true
+      → Calls (when a then Called.DelaySlot else symbol_called (enc_symbol (find name (globals e.section)))) ((definition.when◌then◌else◌ a (d.delay_slot (expressions.only_integer args)) (λ e1 st1. on e1 (lookup name e1 st1) (d.symbol_statement (enter_of deep) args))) e st)
+  unfolding when◌then◌else◌ lookup on
   by_name true c = no_macro (unfold is_macro in c)
   by_name false c = by_symbol (find name (globals e.section)) (found_placed e.section name _ refl) c
 

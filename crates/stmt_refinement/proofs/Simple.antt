@@ -19,7 +19,7 @@ use Rattle.list_values.specs.declared.value.Value.{Value as WordValue}
 use Rattle.list_pushes.specs.declared.push.State.{State as WordState}
 use Rattle.list_pushes.specs.declared.push.Env.{Env as WordEnv}
 use Rattle.list_pushes.specs.declared.push.Read.{Read}
-use Rattle.prelude.specs.Base.{if◌then◌else◌}
+use Rattle.prelude.specs.Base.{when◌then◌else◌}
 use Rattle.list_pushes.specs.Pushes.{ReadOut, read}
 use Rattle.file_refinement.proofs.Inversion.{ExportAt}
 use Rattle.list_refinement.specs.Encoding.{enc_v, Sound, first_of, second_of}
@@ -48,7 +48,7 @@ abbrev computed_in : Walk → WordValue → Beside
 computed_in w v = record { labels = w.labels; placed = w.placed; statements = w.statements; export = record { kind = 1; v = v; size = 0 } }
 
 export_seen : (x : ReadOut) (next : ℕ) (w : Walk) → seen_step (begun_in w) (step_read x (export_value next w)) ≡ map_seen (λ v. (next, computed_in w v)) (seen_read x)
-unfolding seen_step step_read export_value map_seen seen_read if◌then◌else◌
+unfolding seen_step step_read export_value map_seen seen_read when◌then◌else◌
 export_seen (read (Read.Value v st) a m) next w = refl
 export_seen (read (Read.No n) a m) next w = rw (eq-eqb (begun_in w) (begun_in w) refl)
 

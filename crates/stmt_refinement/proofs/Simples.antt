@@ -19,7 +19,7 @@ use Rattle.definition_guarantee.proofs.Outcomes.{positive}
 use Rattle.list_pushes.specs.declared.push.State.{State as WordState}
 use Rattle.list_pushes.specs.declared.push.Env.{Env as WordEnv}
 use Rattle.list_values.specs.Base.{Listed, listed, then_l}
-use Rattle.prelude.specs.Base.{if◌then◌else◌}
+use Rattle.prelude.specs.Base.{when◌then◌else◌}
 use Rattle.file_refinement.specs.Holds.{absent_at}
 use Rattle.file_refinement.proofs.Inversion.{unimplemented_at, export_at, local_at, local_assignment_at, build_at, copy_at, store_at_lem}
 use Rattle.list_refinement.proofs.Seen.{outcome}
@@ -167,7 +167,7 @@ module _ (s t : List ℕ) (e : Env) (p front tail rest : List ℕ) (we : WordEnv
 
     -- the codes below 7
     pub simple-steps : (code : ℕ) → get_or s pos 0 ≡ code → code < 7 → Done (simple code s t p A M we pos (walk_of b W))
-    unfolding simple if◌then◌else◌
+    unfolding simple when◌then◌else◌
     simple-steps zero c l = unimplemented_case c
     simple-steps (suc zero) c l = export_case c
     simple-steps (suc (suc zero)) c l = local_case c

@@ -13,7 +13,7 @@ use Rattle.definition.specs.Walk as walks
 use Rattle.definition.specs.Walk.{ExprValue, State, Env}
 use Rattle.definition.specs.Statements as d
 use Rattle.list_pushes.specs.declared.push.Env.{Env as WordEnv}
-use Rattle.prelude.specs.Base.{if◌then◌else◌}
+use Rattle.prelude.specs.Base.{when◌then◌else◌}
 use Rattle.file_refinement.proofs.Inversion.{statement-begun}
 use Rattle.stmt_bodies.specs.Statements.{other_statement}
 use Rattle.expr_refinement.proofs.Answers.{acts, temps, word}
@@ -24,7 +24,7 @@ use Rattle.stmt_refinement.proofs.Branches.{branch_case, cond_branch_case, label
 use Rattle.stmt_refinement.specs.Standing.{Beside, Given, walk_of, Standing}
 
 unfoldable pub labels_of : ℕ → ℕ
-labels_of code = if eqb code 10 then 1 else 0
+labels_of code = when eqb code 10 then 1 else 0
 
 module _ (s t : List ℕ) (e : Env) (p front tail rest : List ℕ) (we : WordEnv) (given : Given s t e front tail rest we) (spare : ℕ) (room : Spare spare tail) (b : Beside) (room64 : b.placed + 1 < 2 ^ 64)
     (from : State) (stand : Standing t e tail rest we spare p b from) (enter : ℕ → Macro → List ExprValue → walks.Walk (Unit {0}))
@@ -33,7 +33,7 @@ module _ (s t : List ℕ) (e : Env) (p front tail rest : List ℕ) (we : WordEnv
   Done code = Steps t e front tail rest we spare (labels_of code) b from next (other_statement code s t p (acts e.section front tail rest from) (temps e.section front tail rest from) we pos (walk_of b (word e.section front tail rest from))) (d.resolve_statement enter x e from)
 
   by_code_lem : (code : ℕ) → get_or s pos 0 ≡ code → code < 11 → eqb code 7 ≡ false → Done code
-  unfolding labels_of other_statement if◌then◌else◌
+  unfolding labels_of other_statement when◌then◌else◌
   by_code_lem zero c l h = simple-steps s t e p front tail rest we given spare room b from stand enter pos x next reads inside 0 c (omega arith)
   by_code_lem (suc zero) c l h = simple-steps s t e p front tail rest we given spare room b from stand enter pos x next reads inside 1 c (omega arith)
   by_code_lem (suc (suc zero)) c l h = simple-steps s t e p front tail rest we given spare room b from stand enter pos x next reads inside 2 c (omega arith)

@@ -9,7 +9,7 @@ use lib.Dec.{eqb}
 use borrow.Author.Tests.{eqb-true}
 use Rattle.access.specs.Le.{le16}
 use Rattle.prelude.specs.Base as definition
-use Rattle.prelude.specs.Base.{sum, if◌then◌else◌}
+use Rattle.prelude.specs.Base.{sum, when◌then◌else◌}
 use Rattle.definition.specs.Value.{SemanticAction}
 use Rattle.definition.specs.Ast.{Statement}
 use Rattle.definition.specs.SectionFile.{parsed, statement}
@@ -39,7 +39,7 @@ unfolding labels_placed sum
 placed-few [] = omega arith
 placed-few (x ∷ xs) = let h = placed-few xs in go (places_label x) h
   where
-    go : (b : Bool) → labels_placed xs ≤ length xs → (definition.if◌then◌else◌ b 1 0) + labels_placed xs ≤ length (x ∷ xs)
+    go : (b : Bool) → labels_placed xs ≤ length xs → (definition.when◌then◌else◌ b 1 0) + labels_placed xs ≤ length (x ∷ xs)
     go true h = unfold base_opens in omega arith
     go false h = unfold base_opens in omega arith
 
@@ -69,8 +69,8 @@ module _ (s t : List ℕ) (e : Env) (front tail rest : List ℕ) (spare : ℕ) (
   called c true h = macro-statement s t e front tail rest spare room limits deep enters we p b st ordinal begun pos x next reads (call-inside s (le16 s 2) pos x next reads inside c) inside within c h
   called c false h = follow 0 _ (other_call-steps s t e p front tail rest we begun.between.given spare room b st begun.between.standing (enter_of deep) (enter_macro deep s t) pos x next reads inside c h)
 
-  by_code_lem : (call : Bool) → eqb (get_or s pos 0) 7 ≡ call → F (if call then beside_p p (call_statement (enter_macro deep s t) s t p A M we pos (walk_of b (word e.section front tail rest st))) else other_statement (get_or s pos 0) s t p A M we pos (walk_of b (word e.section front tail rest st)))
-  unfolding if◌then◌else◌
+  by_code_lem : (call : Bool) → eqb (get_or s pos 0) 7 ≡ call → F (when call then beside_p p (call_statement (enter_macro deep s t) s t p A M we pos (walk_of b (word e.section front tail rest st))) else other_statement (get_or s pos 0) s t p A M we pos (walk_of b (word e.section front tail rest st)))
+  unfolding when◌then◌else◌
   by_code_lem true h = called (eqb-true (get_or s pos 0) 7 h) (is_macro (called_of s t (le16 s (pos + 1)))) refl
   by_code_lem false h = follow (labels_of (get_or s pos 0)) _ (other_statement-steps s t e p front tail rest we begun.between.given spare room b few st begun.between.standing (enter_of deep) pos x next reads inside h)
 

@@ -17,7 +17,7 @@ use Rattle.definition_guarantee.proofs.Outcomes.{positive}
 use Rattle.list_values.specs.declared.value.Value.{Value as WordValue}
 use Rattle.list_pushes.specs.declared.push.State.{State as WordState}
 use Rattle.list_pushes.specs.declared.push.Env.{Env as WordEnv}
-use Rattle.prelude.specs.Base.{if◌then◌else◌}
+use Rattle.prelude.specs.Base.{when◌then◌else◌}
 use Rattle.list_refinement.specs.Encoding.{enc_v, Sound, EachOption}
 use Rattle.list_refinement.proofs.Seen.{Seen, no, yes, outcome}
 use Rattle.expr_scope.specs.declared.scope.ExprValue.{ExprValue as WordExpr}
@@ -43,11 +43,11 @@ seen_next begun (stepped (Step.Next n w) b u) p d st a m h = let o : (n, beside 
 seen_next begun (stepped (Step.Stop n ordinal) b u) p d st a m h = let z : ◌≡◌ {A = ℕ} 0 1 = cc in absurd (omega arith)
 
 pub seen_stop : (begun : ℕ) (x : Stepped) (p : List ℕ) (k : ℕ) → 0 < k → seen_step begun x ≡ no k → (a : List ℕ) × (m : List ℕ) × (beside_p p x ≡ walked (Step.Stop k begun) p a m)
-unfolding seen_step beside_p if◌then◌else◌
+unfolding seen_step beside_p when◌then◌else◌
 seen_stop begun (stepped (Step.Next n w) b u) p k l h = let z : ◌≡◌ {A = ℕ} 0 1 = cc in absurd (omega arith)
 seen_stop begun (stepped (Step.Stop n ordinal) b u) p k l h = (b, u, go (eqb ordinal begun) refl h)
   where
-    go : (c : Bool) → eqb ordinal begun ≡ c → ◌≡◌ {A = Seen (ℕ × Beside)} (no (if c then n else 0)) (no k) → walked (Step.Stop n ordinal) p b u ≡ walked (Step.Stop k begun) p b u
+    go : (c : Bool) → eqb ordinal begun ≡ c → ◌≡◌ {A = Seen (ℕ × Beside)} (no (when c then n else 0)) (no k) → walked (Step.Stop n ordinal) p b u ≡ walked (Step.Stop k begun) p b u
     go true q h = let i : n ≡ k = cc in rw (i, eqb-true ordinal begun q)
     go false q h = let i : 0 ≡ k = cc in absurd (omega arith)
 

@@ -7,7 +7,7 @@ use native.Mathlib.Omega.{arith}
 use lib.ListN.{length, drop}
 use Rattle.access.specs.Le.{le16}
 use Rattle.prelude.specs.Base as definition
-use Rattle.prelude.specs.Base.{is_some, if◌then◌else◌, contains}
+use Rattle.prelude.specs.Base.{is_some, when◌then◌else◌, contains}
 use Rattle.definition.specs.Refusals.{refusal_number, store_to_no_address}
 use Rattle.definition.specs.Operations.{Operation, operation_number}
 use Rattle.definition.specs.Value.{Value, ActionKind, SemanticAction, operation_of}
@@ -131,7 +131,7 @@ module _ (s t : List ℕ) (e : Env) (front tail rest : List ℕ) (we : WordEnv) 
     -- the reference that a pointer is, as words that may be absent
     address_at : (st : State) → Stands st → (space size : Option ℕ) (a b : ℕ) → or_none space ≡ a → or_none size ≡ b → (x : ExprValue) → ((y : ℕ) → space ≡ some y → y < 1024) → Small size → SoundX e.section (count st) x
         → Refines e.section front tail rest spare st (λ (x : ExprValue). (enc_x x, next)) (SoundX e.section) (seen_expr (resolve_address s t (A st) (M st) we a b (enc_x x) next (W st)))
-        ((definition.if◌then◌else◌ (contains e.section.header.const space) (expressions.in_const_space size x) (expressions.address_in space size x)) e st)
+        ((definition.when◌then◌else◌ (contains e.section.header.const space) (expressions.in_const_space size x) (expressions.address_in space size x)) e st)
     address_at st f space size a b p q x k l h = rw (← p, ← q) (address s t e front tail rest we (below s t e front tail rest we given) given.holds spare room next st f space size x k l h)
 
   module _ (b : Beside) (p : List ℕ) (from : State) (pos : ℕ) (l : pos ≤ length s) (x : Statement) (u : List ℕ) (i : StoreAt s (le16 s 2) pos x u) where
@@ -142,7 +142,7 @@ module _ (s t : List ℕ) (e : Env) (front tail rest : List ℕ) (we : WordEnv) 
     space-known y g = omega (arith, i.space-below y g, given.holds.limits.names)
 
     abbrev placing : ExprValue → walks.Walk ExprValue
-    placing y e1 st1 = (definition.if◌then◌else◌ (contains e1.section.header.const (absent_at s (pos + 1))) (expressions.in_const_space (absent_at s (pos + 3)) y) (expressions.address_in (absent_at s (pos + 1)) (absent_at s (pos + 3)) y)) e1 st1
+    placing y e1 st1 = (definition.when◌then◌else◌ (contains e1.section.header.const (absent_at s (pos + 1))) (expressions.in_const_space (absent_at s (pos + 3)) y) (expressions.address_in (absent_at s (pos + 1)) (absent_at s (pos + 3)) y)) e1 st1
 
     store_in_lem : (st : State) → Stands st → (y : ExprValue) (v : Value) → SoundX e.section (count st) y → Sound e.section (count st) v
         → Ends w i.value_end st (store_in s t (A st) (M st) we pos (enc_x y) (enc_v v) i.value_end (W st) w) (on e (placing y e st) (d.store_at v))

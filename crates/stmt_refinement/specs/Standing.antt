@@ -6,7 +6,7 @@ use Rattle.definition.specs.Value.{Export}
 use Rattle.definition.specs.Ast.{Section}
 use Rattle.definition.specs.Walk.{State, Env, Label}
 use Rattle.definition.specs.ActionList.{export_kind_number}
-use Rattle.prelude.specs.Base.{if◌then◌else◌}
+use Rattle.prelude.specs.Base.{when◌then◌else◌}
 use Rattle.list_refinement.specs.Encoding.{enc_v, Sound, SizesHold, Lent, EachOption}
 use Rattle.stmt_walk.specs.declared.walk.Walk.{Walk}
 use Rattle.stmt_walk.specs.declared.walk.Export.{Export as WordExport}
@@ -58,7 +58,7 @@ pub record SoundExport (sec : Section) (n : ℕ) (x : Export) : Type 0 where
 -- one more than the number of a label, 512 more once it is placed, and 0 for none
 unfoldable pub label_number : Option Label → ℕ
 label_number none = 0
-label_number (some l) = l.id + 1 + (if l.defined then 512 else 0)
+label_number (some l) = l.id + 1 + (when l.defined then 512 else 0)
 
 -- the labels of a scope, all with numbers below n
 pub record LabelsIn (p : List ℕ) (n : ℕ) (labels : List (ℕ × Label)) : Type 0 where

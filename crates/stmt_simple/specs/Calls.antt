@@ -6,7 +6,7 @@ use Rattle.list_pushes.specs.declared.push.State.{State}
 use Rattle.list_pushes.specs.declared.push.Env.{Env}
 use Rattle.list_pushes.specs.declared.push.Pushed.{Pushed}
 use Rattle.list_values.specs.Base.{Listed, listed, then_l}
-use Rattle.prelude.specs.Base.{if◌then◌else◌}
+use Rattle.prelude.specs.Base.{when◌then◌else◌}
 use Rattle.access.specs.Loops.{run}
 use Rattle.list_values.specs.Values.{absent, no_output, value_at, put_value}
 use Rattle.list_pushes.specs.Pushes.{on_read, on_push, push}
@@ -35,11 +35,11 @@ symbol_called (Symbol.Table i) = Called.No 23
 symbol_called (Symbol.Other i) = Called.No 23
 
 unfoldable pub called_of : List ℕ → List ℕ → ℕ → Called
-called_of s t name = if eqb name (le16 s 32) then Called.DelaySlot else symbol_called (lookup t name)
+called_of s t name = when eqb name (le16 s 32) then Called.DelaySlot else symbol_called (lookup t name)
 
 unfoldable pub delay_slot : List ℕ → List ℕ → ℕ → ℕ → Walk → Listed Step
 delay_slot s a pos n w =
-    if eqb (only_integer s pos n) 1
+    when eqb (only_integer s pos n) 1
     then then_l (push a 4 0 0 0 absent absent absent w.st) (λ r b. listed (pushed_then (after pos 13) w r) b)
     else listed (stop 25 w) a
 
@@ -97,7 +97,7 @@ bind_names n s names args = run n 0 (bind_name s names) args
 
 -- as many arguments as the macro has parameters
 unfoldable pub counted : List ℕ → List ℕ → ℕ → ℕ → ℕ → State → Args
-counted s t id n next st = if eqb (get_or s (macro_at t id + 0) 0) n then Args.Done next st else Args.No 26
+counted s t id n next st = when eqb (get_or s (macro_at t id + 0) 0) n then Args.Done next st else Args.No 26
 
 unfoldable pub macro_counted : List ℕ → List ℕ → ℕ → ℕ → ArgsOut → ArgsOut
 macro_counted s t id n (passed (Args.Done next st) a m args) =

@@ -7,7 +7,7 @@ use Rattle.list_pushes.specs.declared.push.State.{State}
 use Rattle.list_pushes.specs.declared.push.Env.{Env}
 use Rattle.list_pushes.specs.declared.push.Read.{Read}
 use Rattle.list_values.specs.Base.{Listed, listed, then_l}
-use Rattle.prelude.specs.Base.{if◌then◌else◌}
+use Rattle.prelude.specs.Base.{when◌then◌else◌}
 use Rattle.list_values.specs.Values.{absent, no_output}
 use Rattle.list_values.specs.Sizes.{entry}
 use Rattle.list_pushes.specs.Pushes.{on_read, push, push_op}
@@ -81,11 +81,11 @@ local_assignment s t p a m e pos w =
 unfoldable pub find_subtable : ℕ → ℕ → List ℕ → List ℕ → ℕ → ℕ
 find_subtable zero i s t table = i
 find_subtable (suc k) i s t table =
-    if eqb (le16 s (entry t 8 (i % 65536 * 4) + 2)) table then i else find_subtable k (suc i) s t table
+    when eqb (le16 s (entry t 8 (i % 65536 * 4) + 2)) table then i else find_subtable k (suc i) s t table
 
 unfoldable pub build_subtable : ℕ → ℕ → List ℕ → ℕ → Walk → Listed Step
 build_subtable i n a pos w =
-    if ltb i n
+    when ltb i n
     then then_l (push a 5 0 i 0 absent absent absent w.st) (λ r b. listed (pushed_then (after pos 3) w r) b)
     else listed (stop 24 w) a
 

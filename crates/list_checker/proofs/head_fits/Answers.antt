@@ -1,5 +1,5 @@
 use native.Mathlib.Omega.{arith}
-use Rattle.prelude.specs.Base.{if◌then◌else◌}
+use Rattle.prelude.specs.Base.{when◌then◌else◌}
 use Rattle.list_checker.specs.Action.{kind_fit}
 use Rattle.list_checker.proofs.FitLaws.{head_op, head_kind, head_none}
 use Rattle.list_checker.proofs.head_fits.Goals as goal
@@ -8,23 +8,23 @@ pub returns-in-0 : goal.returns-in-0
 returns-in-0 c = head_op _ _ _ _ _ c.in-0.is c.operation_fits.ensures
 
 pub returns-in-1 : goal.returns-in-1
-unfolding kind_fit if◌then◌else◌
+unfolding kind_fit when◌then◌else◌
 returns-in-1 c = head_kind _ _ _ _ 1 c.in-1.is (λ z. omega arith)
 
 pub returns-in-2 : goal.returns-in-2
-unfolding kind_fit if◌then◌else◌
+unfolding kind_fit when◌then◌else◌
 returns-in-2 c = head_kind _ _ _ _ 2 c.in-2.is (λ z. omega arith)
 
 pub returns-in-3 : goal.returns-in-3
-unfolding kind_fit if◌then◌else◌
+unfolding kind_fit when◌then◌else◌
 returns-in-3 c = head_kind _ _ _ _ 3 c.in-3.is (λ z. omega arith)
 
 pub returns-in-4 : goal.returns-in-4
-unfolding kind_fit if◌then◌else◌
+unfolding kind_fit when◌then◌else◌
 returns-in-4 c = head_kind _ _ _ _ 4 c.in-4.is (λ z. omega arith)
 
 pub returns-in-5 : goal.returns-in-5
-unfolding kind_fit if◌then◌else◌
+unfolding kind_fit when◌then◌else◌
 returns-in-5 c = head_kind _ _ _ _ 5 c.in-5.is (λ z. omega arith)
 
 pub returns-in_default : goal.returns-in_default

@@ -3,12 +3,12 @@ use native.Mathlib.Omega.{arith}
 use mathlib.Core.Path.{◌∙◌, refl}
 use Rattle.listing_names.specs.Operations.{operation_text, operation_names}
 use Rattle.definition.specs.Spellings.{bytes_of}
-use Rattle.prelude.specs.Base.{if◌then◌else◌}
+use Rattle.prelude.specs.Base.{when◌then◌else◌}
 use Rattle.listing_names.specs.Words.{first, widest}
 use Rattle.listing_names.proofs.operations.operation.Goals as goal
 
 pub put-requires : goal.put-requires
-unfolding widest first if◌then◌else◌
+unfolding widest first when◌then◌else◌
 put-requires c = rw c.word.ensures (word_fits _ _ _ refl (omega arith))
 
 pub returns : goal.returns
