@@ -20,7 +20,7 @@ use Rattle.definition.specs.Passing as passing
 use Rattle.definition.specs.Starred as starred
 
 unfoldable pub base_opens : Unit {0}
-unfolding base.when◌then◌else◌ base.◌or◌ base.or_else base.and_then base.is_some base.contains base.any base.all base.filter base.is_empty base.first base.position base.sum base.same_numbers
+unfolding base.◌or◌ base.or_else base.and_then base.is_some base.contains base.any base.all base.filter base.is_empty base.first base.position base.sum base.same_numbers
 base_opens = tt
 
 unfoldable pub refusals_opens : Unit {0}

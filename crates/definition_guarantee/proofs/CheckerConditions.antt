@@ -51,7 +51,7 @@ option_at p none v h e = none_some {x = none} refl e
 option_at {A} p (some u) v h e = subst (λ (x : A). p x ≡ true) (some_same e) h
 
 same-counts : (n m : ℕ) (x y : Bool) → same_count (n, x) (m, y) ≡ true → ◌≡◌ {A = ℕ × Bool} (m, y) (n, x)
-unfolding same_count when◌then◌else◌
+unfolding same_count
 same-counts n m true true h = let e = eq_of n m (and_true _ _ h).0 in rw e
 same-counts n m true false h = never (and_true (eqb n m) _ h).1
 same-counts n m false true h = never (and_true (eqb n m) _ h).1

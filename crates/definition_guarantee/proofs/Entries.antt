@@ -20,7 +20,7 @@ find-each {A} P n xs a h e =
 module _ {A : Type 0} (n : ℕ) (a : A) where
   -- two entries of different names may stand either way round
   either_way : (m : ℕ) (x : ℕ × A) (xs : List (ℕ × A)) → eqb n x.0 ≡ false → find m (x ∷ (n, a) ∷ xs) ≡ find m ((n, a) ∷ x ∷ xs)
-  unfolding find first when◌then◌else◌ ◌or◌
+  unfolding find first ◌or◌
   either_way m x xs h = go (eqb m x.0) refl (eqb m n) refl
     where
       go : (b : Bool) → eqb m x.0 ≡ b → (c : Bool) → eqb m n ≡ c
@@ -33,7 +33,7 @@ module _ {A : Type 0} (n : ℕ) (a : A) where
 
   -- an entry behind another of its name is never found
   hidden : (m : ℕ) (x : ℕ × A) (xs : List (ℕ × A)) → eqb n x.0 ≡ true → find m ((n, a) ∷ xs) ≡ find m ((n, a) ∷ x ∷ xs)
-  unfolding find first when◌then◌else◌ ◌or◌
+  unfolding find first ◌or◌
   hidden m x xs h = rw (← eq_of n x.0 h) (go (eqb m n))
     where
       go : (b : Bool) → (when b then some a else none) or find m xs ≡ (when b then some a else none) or (when b then some x.1 else none) or find m xs
@@ -46,7 +46,7 @@ module _ {A : Type 0} (n : ℕ) (a : A) where
 
   -- an entry that was put is found as if it stood in front
   pub find-put : (m : ℕ) (xs : List (ℕ × A)) → find m (put_entry n a xs) ≡ find m ((n, a) ∷ xs)
-  unfolding put_entry when◌then◌else◌
+  unfolding put_entry
   find-put m [] = refl
   find-put m (x ∷ xs) = go (eqb n x.0) refl (find-put m xs)
     where
@@ -63,7 +63,7 @@ module _ {A : Type 0} (n : ℕ) (a : A) where
       go : (b : Bool) → eqb n x.0 ≡ b → (when b then some x.1 else none) or find n xs ≡ none
           → (find n xs ≡ none → find m (xs ++ ((n, a) ∷ [])) ≡ find m ((n, a) ∷ xs))
           → find m (x ∷ xs ++ ((n, a) ∷ [])) ≡ find m ((n, a) ∷ x ∷ xs)
-      go true p q rest = let r : some x.1 ≡ none = unfold when◌then◌else◌ ◌or◌ in q in none_some r refl
+      go true p q rest = let r : some x.1 ≡ none = unfold ◌or◌ in q in none_some r refl
       go false p q rest =
-          let r : find n xs ≡ none = unfold when◌then◌else◌ ◌or◌ in q in
+          let r : find n xs ≡ none = unfold ◌or◌ in q in
           behind m x (xs ++ ((n, a) ∷ [])) ((n, a) ∷ xs) (rest r) ∙ either_way m x xs p

@@ -187,7 +187,7 @@ module _ (e : Env) where
   finished-op : (o : Option Operation) (x y : SemanticAction) (s t : State) → operation_of x.kind ≡ o → finish_op o x e s ≡ done y t
       → t.sizing.errors ≡ []
       → (t ≡ s) × Finished sec s.sizing.temporaries x y
-  unfolding finish_op on when◌then◌else◌
+  unfolding finish_op on
   finished-op none x y s t k h n = (sym (done_state h), unchanged k (sym (done_value h)))
   finished-op (some op) x y s t k h n = go (is_op Operation.Subpiece op) refl h
     where

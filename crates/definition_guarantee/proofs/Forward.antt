@@ -20,7 +20,7 @@ use Rattle.definition_guarantee.proofs.Growth.{tmp_size, Grown, grown_refl, grow
 use Rattle.definition_guarantee.proofs.Rules.{Core, core_of, is_tmp, AllObeyed, RuleHolds, nothing_holds, rule_holds, steps_grown, steps_alike}
 
 union_empty : (ms ns : List ℕ) → union ms ns ≡ [] → (ms ≡ []) × (ns ≡ [])
-unfolding union any when◌then◌else◌
+unfolding union any
 union_empty [] ns e = (refl, e)
 union_empty (m ∷ ms) ns e = absurd (go (union ms ns) (any (eqb m) (union ms ns)) refl e)
   where
@@ -30,7 +30,7 @@ union_empty (m ∷ ms) ns e = absurd (go (union ms ns) (any (eqb m) (union ms ns
     go rest false d e = let z : ◌≡◌ {A = ℕ} 0 1 = cc in omega (arith, z)
 
 pub filter_none : (p : ℕ → Bool) (xs : List ℕ) (n : ℕ) → filter p xs ≡ [] → In n xs → p n ≡ false
-unfolding filter when◌then◌else◌
+unfolding filter
 filter_none p [] n e i = absurd i
 filter_none p (x ∷ xs) n e i = go (p x) refl i e (filter_none p xs n)
   where
@@ -75,11 +75,11 @@ module _ (sec : Section) where
   -- an operand's temporary is among the ruled ones
 
   among_first : (v : Value) (vs : List Value) → is_tmp sec v ≡ true → In v.number (temporaries_among (v ∷ vs))
-  unfolding temporaries_among is_kind when◌then◌else◌
+  unfolding temporaries_among is_kind
   among_first v vs e = rw e (inl refl)
 
   among_next : (v : Value) (vs : List Value) (n : ℕ) → In n (temporaries_among vs) → In n (temporaries_among (v ∷ vs))
-  unfolding temporaries_among is_kind when◌then◌else◌
+  unfolding temporaries_among is_kind
   among_next v vs n i = go (is_tmp sec v)
     where
       go : (b : Bool) → In n (when b then v.number ∷ temporaries_among vs else temporaries_among vs)

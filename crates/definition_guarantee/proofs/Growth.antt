@@ -126,7 +126,7 @@ module _ (sec : Section) where
 
   pub settled_touched : (v : Value) (n : ℕ) (s : Sizing) (k : Option ℕ) → size_of sec s.temporaries v ≡ k
       → Touched n s.temporaries (settled sec k n v s).temporaries
-  unfolding settled size_temporary is_kind when◌then◌else◌
+  unfolding settled size_temporary is_kind
   settled_touched v n s (some m) e = go (eqb m n || is_kind Kind.Subtable v)
     where
       go : (b : Bool) → Touched n s.temporaries

@@ -259,7 +259,6 @@ keep_expect r none = keep_refuse r
 
 pub keep_if : {A : Type 0} {e : Env} {n : ℕ} {P : ℕ → A → Type 0} (b : Bool) (m r : Walk A) → Keeps e n P m → Keeps e n P r
     → Keeps e n P (when b then m else r)
-unfolding when◌then◌else◌
 keep_if true m r h g = h
 keep_if false m r h g = g
 

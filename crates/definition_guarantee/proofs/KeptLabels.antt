@@ -30,7 +30,7 @@ use Rattle.definition_guarantee.proofs.Shapes.{label_applies}
 -- the entry that was put, or another under another name
 found : {A : Type 0} (n m : ℕ) (l k : A) (xs : List (ℕ × A)) → find m (put_entry n l xs) ≡ some k
     → ((m ≡ n) × (l ≡ k)) ⊎ ((m ≢ n) × (find m xs ≡ some k))
-unfolding find first when◌then◌else◌ ◌or◌
+unfolding find first ◌or◌
 found {A} n m l k xs e = go (eqb m n) refl (sym (find-put n l m xs) ∙ e)
   where
     go : (b : Bool) → eqb m n ≡ b → (when b then some l else none) or find m xs ≡ some k
@@ -39,7 +39,7 @@ found {A} n m l k xs e = go (eqb m n) refl (sym (find-put n l m xs) ∙ e)
     go false d e = inr (differs m n d, e)
 
 own : {A : Type 0} (n : ℕ) (l : A) (xs : List (ℕ × A)) → find n (put_entry n l xs) ≡ some l
-unfolding find first when◌then◌else◌ ◌or◌
+unfolding find first ◌or◌
 own n l xs = find-put n l n xs ∙ rw (same n)
 
 pub no_label : {A : Type 0} (l : Label) (n : ℕ) → find n [] ≡ some l → A

@@ -41,7 +41,7 @@ hint-small BranchHint.Call = omega arith
 hint-small BranchHint.Return = omega arith
 
 position-below : {A : Type 0} (p : A → Bool) (i n : ℕ) (xs : List A) → position p i xs ≡ some n → n < i + length xs
-unfolding position when◌then◌else◌
+unfolding position
 position-below p i n [] e = none_some {x = none} refl e
 position-below {A} p i n (x ∷ xs) e = go (p x) e (position-below p (suc i) n xs)
   where
@@ -229,7 +229,7 @@ module _ (e : Env) (w : WithinLimits e.section) where
   keep_jump (JumpLabel.Integer v z) h = keep_pure _ λ k l. omega arith
 
   keep_direct : {n : ℕ} (x : ExprValue) → ExprFits e n x → Keeps e n (λ k v. ValueFits e k v) (direct_address x)
-  unfolding direct_address when◌then◌else◌ is_kind or_else
+  unfolding direct_address is_kind or_else
   keep_direct {n} x f =
       keep_bind _ _ keep_section λ k l sec d.
       keep_bind _ _ (keep_expect _ _) λ k₁ l₁ v p.

@@ -75,7 +75,7 @@ module _ (sec : Section) (limits : SmallSection sec) where
       go none d e = local-small ts v.kind v.number n s e
 
   pub fallback_small : (v : Value) (n : ℕ) → fallback_size sec v ≡ some n → n < 65535
-  unfolding fallback_size when◌then◌else◌
+  unfolding fallback_size
   fallback_small v n e = go (is_kind Kind.InstStart v || is_kind Kind.InstNext v || is_kind Kind.Constant v || is_kind Kind.Field v) e
     where
       go : (b : Bool) → (when b then some (pointer_size sec) else none) ≡ some n → n < 65535
@@ -190,7 +190,7 @@ module _ (sec : Section) (limits : SmallSection sec) where
     share_good : (op : Operation) (x y : Option ℕ) (ps : List Operand) (a : SemanticAction) (s : Sizing)
         → ((n : ℕ) → x ≡ some n → n < 65535) → ((n : ℕ) → y ≡ some n → n < 65535) → Good op a s
         → Good op (share_size sec x y ps a s).0 (share_size sec x y ps a s).1
-    unfolding share_size when◌then◌else◌
+    unfolding share_size
     share_good op (some n) y ps a s h k g = go (all (λ p. contains n (known_at sec a s p)) ps)
       where
         qs : List Operand
@@ -212,7 +212,6 @@ module _ (sec : Section) (limits : SmallSection sec) where
 
     first_fallback : (late : Bool) (ps : List Operand) (a : SemanticAction) (n : ℕ)
         → (when late then first (λ p. and_then (at p a) (fallback_size sec)) ps else none) ≡ some n → n < 65535
-    unfolding when◌then◌else◌
     first_fallback true ps a n e =
         let q = first_from (λ p. and_then (at p a) (fallback_size sec)) ps n e in
         let r = then_some (at q.1 a) (fallback_size sec) n q.3 in

@@ -17,7 +17,7 @@ use Rattle.definition_guarantee.specs.Limits.{SizeWithin, ExprWithin, ArgsWithin
 use Rattle.definition_guarantee.proofs.Readings.{Reading, Reads, bind, returns, refuses, passed, passes, reads-up_to, reads-bits}
 
 reads-absent : (limit v : ℕ) (b : Bool) → Reads (λ z. or_else 0 z ≤ limit) (when b then pure none else (up_to limit v >>= λ w. pure (some w)))
-unfolding when◌then◌else◌ or_else
+unfolding or_else
 reads-absent limit v true = returns none (omega arith)
 reads-absent limit v false = bind (up_to limit v) _ (reads-up_to limit v) (λ w h. returns (some w) h)
 

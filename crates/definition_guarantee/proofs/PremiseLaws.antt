@@ -90,7 +90,7 @@ not_late ts us i g (inl k) = rw k.1
 not_late ts us i g (inr k) = let c = g.count in rw (size_past ts i k, size_past us i (omega arith))
 
 filter_empty : (p : ℕ → Bool) (xs : List ℕ) → ((n : ℕ) → In n xs → p n ≡ false) → filter p xs ≡ []
-unfolding filter when◌then◌else◌
+unfolding filter
 filter_empty p [] h = refl
 filter_empty p (x ∷ xs) h = rw (h x (inl refl)) (filter_empty p xs (λ n i. h n (inr i)))
 
@@ -199,7 +199,7 @@ five_copies_unsized = refl
 -- The premise fails at each of its temporaries once.
 
 not_among : (m : ℕ) (ns : List ℕ) → any (eqb m) ns ≡ false → ¬ In m ns
-unfolding any when◌then◌else◌
+unfolding any
 not_among m [] h i = absurd i
 not_among m (n ∷ ns) h i = go (eqb m n) refl h i (not_among m ns)
   where
@@ -210,7 +210,7 @@ not_among m (n ∷ ns) h i = go (eqb m n) refl h i (not_among m ns)
     go false d h (inr i) r = r h i
 
 union_distinct : (ms ns : List ℕ) → Distinct ns → Distinct (union ms ns)
-unfolding union when◌then◌else◌
+unfolding union
 union_distinct [] ns h = h
 union_distinct (m ∷ ms) ns h = go (any (eqb m) (union ms ns)) refl (union_distinct ms ns h)
   where

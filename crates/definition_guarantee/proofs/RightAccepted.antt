@@ -18,7 +18,7 @@ use Rattle.definition_guarantee.proofs.Words.{parts_fit, laid_fits, filled_appen
 use Rattle.definition.specs.Right.{Among, input, output, NumberWithin, ValueWithin, ActionRight, Right}
 
 pub any_at : {A : Type 0} (p : A → Bool) (xs : List A) (i : ℕ) (x : A) → get_elem? xs i ≡ some x → p x ≡ true → any p xs ≡ true
-unfolding any when◌then◌else◌
+unfolding any
 any_at p [] i x e h = none_some {x = none} refl e
 any_at {A} p (y ∷ xs) zero x e h = rw (subst (λ (z : A). p z ≡ true) (sym (some_same e)) h)
 any_at p (y ∷ xs) (suc i) x e h = go (p y) (any_at p xs i x e h)
@@ -56,7 +56,7 @@ option_from p none h = refl
 option_from p (some u) h = h u refl
 
 counts_same : (n : ℕ) (x : Bool) → same_count (n, x) (n, x) ≡ true
-unfolding same_count when◌then◌else◌
+unfolding same_count
 counts_same n true = both (same n) refl
 counts_same n false = both (same n) refl
 
@@ -181,7 +181,7 @@ at_once (x ∷ xs) h = both (nowhere (places_label x) (any (places x.number) xs)
         omega arith
 
 of_builds : (m : ℕ) (a : SemanticAction) → a.kind ≡ ActionKind.Build → a.number ≡ m → builds m a ≡ true
-unfolding builds is_build when◌then◌else◌
+unfolding builds is_build
 of_builds m a k n = rw (k, n) (same m)
 
 all_built_lem : (xs : List SemanticAction) (n : ℕ) → ((m : ℕ) → m < n → any (builds m) xs ≡ true) → all_built xs n ≡ true

@@ -283,7 +283,7 @@ module _ (sec : Section) where
   share : (ps : List Operand) (a : SemanticAction) (s : Sizing) (x y : Option ℕ) → first (known_at sec a s) ps ≡ x
       → first (λ p. and_then (at p a) (fallback_size sec)) ps ≡ y
       → Shared ps a s (share_size sec x y ps a s).0 (share_size sec x y ps a s).1
-  unfolding share_size when◌then◌else◌ and_then
+  unfolding share_size and_then
   share ps a s (some n) y e d = go (all (λ p. contains n (known_at sec a s p)) ps) refl
     where
       qs : List Operand
@@ -306,7 +306,7 @@ module _ (sec : Section) where
 
   share_grown : (x y : Option ℕ) (ps : List Operand) (a : SemanticAction) (s : Sizing)
       → Grown s.temporaries (share_size sec x y ps a s).1.temporaries
-  unfolding share_size when◌then◌else◌
+  unfolding share_size
   share_grown (some n) y ps a s = go (all (λ p. contains n (known_at sec a s p)) ps)
     where
       go : (b : Bool) → Grown s.temporaries (when b then (a, s) else set_operands sec n (but_first (λ p. is_some (known_at sec a s p)) ps)
@@ -317,7 +317,7 @@ module _ (sec : Section) where
   share_grown none none ps a s = grown_refl
 
   share_alike : (x y : Option ℕ) (ps : List Operand) (a : SemanticAction) (s : Sizing) → Alike a (share_size sec x y ps a s).0
-  unfolding share_size when◌then◌else◌
+  unfolding share_size
   share_alike (some n) y ps a s = go (all (λ p. contains n (known_at sec a s p)) ps)
     where
       go : (b : Bool) → Alike a (when b then (a, s) else set_operands sec n (but_first (λ p. is_some (known_at sec a s p)) ps) a s).0
@@ -448,7 +448,7 @@ module _ (sec : Section) where
       → ((i : ℕ) (q : Operand) → get_elem? ps i ≡ some q → (a : SemanticAction) (s : Sizing)
       → at q (apply_steps sec true xs a s).0 ≡ at q a)
       → RuleHolds xs → RuleHolds (equal ps ∷ xs)
-  unfolding apply_steps apply_step set_size_of_all when◌then◌else◌
+  unfolding apply_steps apply_step set_size_of_all
   equal-holds ps xs z touch frame rest = record {
     holds = λ a s w g q. (go a s w g q (share ps a s _ _ refl refl), rest.holds _ _ w g q);
   }

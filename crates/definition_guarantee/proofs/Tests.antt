@@ -66,12 +66,10 @@ pub both : {a b : Bool} → a ≡ true → b ≡ true → a && b ≡ true
 both {a} {b} p q = rw p q
 
 pub if_true : (b c : Bool) → (when b then c else false) ≡ true → (b ≡ true) × (c ≡ true)
-unfolding when◌then◌else◌
 if_true true c e = (refl, e)
 if_true false c e = never e
 
 pub if_both : {b c : Bool} → b ≡ true → c ≡ true → (when b then c else false) ≡ true
-unfolding when◌then◌else◌
 if_both {b} {c} p q = rw p q
 
 -- options
@@ -83,7 +81,6 @@ pub none_some : {A B : Type 0} {a : A} {x : Option A} → x ≡ none → x ≡ s
 none_some {A} {B} {a} {x} p q = let z : ◌≡◌ {A = ℕ} 0 1 = cc in absurd (omega arith)
 
 pub chosen : {A : Type 0} (b : Bool) (x y : A) → (when b then some x else none) ≡ some y → x ≡ y
-unfolding when◌then◌else◌
 chosen true x y e = some_same e
 chosen false x y e = none_some {x = none} refl e
 
@@ -161,7 +158,7 @@ module _ {A : Type 0} where
 
   -- what passes a test that something passes
   pub any_from : (p : A → Bool) (xs : List A) → any p xs ≡ true → (i : ℕ) × (x : A) × (get_elem? xs i ≡ some x) × (p x ≡ true)
-  unfolding any when◌then◌else◌
+  unfolding any
   any_from p [] e = never e
   any_from p (x ∷ xs) e = go (p x) refl e (any_from p xs)
     where
@@ -182,7 +179,6 @@ same-list (x ∷ xs) = if_both (same x) (same-list xs)
 
 by_head : (x y : ℕ) (xs ys : List ℕ) → (b : Bool) → eqb x y ≡ b → (same_numbers xs ys ≡ true → xs ≡ ys)
     → (when b then same_numbers xs ys else false) ≡ true → (x ∷ xs) ≡ (y ∷ ys)
-unfolding when◌then◌else◌
 by_head x y xs ys true e tails h = let p : x ≡ y = eq_of x y e in let q : xs ≡ ys = tails h in cc
 by_head x y xs ys false e tails h = never h
 

@@ -50,7 +50,7 @@ numbers_append (a ∷ xs) ys = go (placing a.kind) (numbers_append xs ys)
     go false e = e
 
 not_placed : (n : ℕ) (xs : List SemanticAction) → ¬ In n (label_numbers xs) → any (places n) xs ≡ false
-unfolding label_numbers place any places places_label placing when◌then◌else◌
+unfolding label_numbers place any places places_label placing
 not_placed n [] h = refl
 not_placed n (a ∷ xs) h = go (placing a.kind) (not_placed n xs) h
   where
@@ -87,7 +87,7 @@ same-labels xs ys (head {x = x} {y = y} {xs = xr} {ys = yr} p b n m r) = rw (p, 
     go false n = refl
 
 pub same-builds : (i : ℕ) (xs ys : List SemanticAction) → SameHeads xs ys → any (builds i) ys ≡ any (builds i) xs
-unfolding any builds when◌then◌else◌
+unfolding any builds
 same-builds i xs ys no_heads = refl
 same-builds i xs ys (head {x = x} {y = y} {xs = xr} {ys = yr} p b n m r) = rw (b, same-builds i xr yr r) (go (is_build x.kind) m)
   where
@@ -152,7 +152,7 @@ module _ (sec : Section) where
 -- the Builds in front
 
 any_right : (p : SemanticAction → Bool) (xs ys : List SemanticAction) → any p ys ≡ true → any p (xs ++ ys) ≡ true
-unfolding any when◌then◌else◌
+unfolding any
 any_right p [] ys h = h
 any_right p (x ∷ xs) ys h = go (p x) (any_right p xs ys h)
   where
@@ -167,14 +167,14 @@ abbrev pub build_of : ℕ → SemanticAction
 build_of i = record { kind = ActionKind.Build; number = i; inputs = []; output = none }
 
 own_build : (i : ℕ) (xs : List SemanticAction) → any (builds i) (build_of i ∷ xs) ≡ true
-unfolding any builds is_build when◌then◌else◌
+unfolding any builds is_build
 own_build i xs = rw (same i)
 
 -- what holds of the Builds in front of a list, if it holds of each Build below j + n
 module _ (P : List SemanticAction → Type 0) (bound : ℕ)
     (more : (i : ℕ) (xs : List SemanticAction) → i < bound → P xs → P (build_of i ∷ xs)) where
   pub with_builds : (xs ys : List SemanticAction) (j n : ℕ) → j + n ≤ bound → P ys → P (implicit_builds xs j n ++ ys)
-  unfolding implicit_builds when◌then◌else◌
+  unfolding implicit_builds
   with_builds xs ys j zero h p = p
   with_builds xs ys j (suc n) h p = go (any (builds j) xs) (with_builds xs ys (suc j) n (omega arith) p)
     where
@@ -185,7 +185,7 @@ module _ (P : List SemanticAction → Type 0) (bound : ℕ)
 
 built_each : (xs ys : List SemanticAction) (j n i : ℕ) → (any (builds i) xs ≡ true → any (builds i) ys ≡ true) → j ≤ i → i < j + n
     → any (builds i) (implicit_builds xs j n ++ ys) ≡ true
-unfolding implicit_builds when◌then◌else◌
+unfolding implicit_builds
 built_each xs ys j zero i h p q = absurd (omega arith)
 built_each xs ys j (suc n) i h p q = go (eqb i j) refl (any (builds j) xs) refl (λ k. built_each xs ys (suc j) n i h k (omega arith))
   where
@@ -220,7 +220,7 @@ labels_once_lem xs ys n r d = distinct_once _ (with_builds (λ zs. Distinct (lab
     unplaced i zs p = p
 
 pub build_laid : (t sub i : ℕ) → i < sub → Laid t sub (build_of i)
-unfolding shape_of counts_fit same_count is_some any when◌then◌else◌ all option_fits base_fits
+unfolding shape_of counts_fit same_count is_some any all option_fits base_fits
 build_laid t sub i h = record {
   shaped = record { shape = record { counts = (0, false) ∷ []; below = sub }; is = refl; counts = refl; number = h };
   inputs = refl;
@@ -244,7 +244,7 @@ builds_hold p xs ys n h = with_builds (λ zs. all (sizes_hold p) zs ≡ true) n
     (λ i zs k q. all_cons (sizes_hold p) (build_of i) zs (build-sized p i) q) xs ys 0 n (omega arith) h
 
 pub builds_length : (xs ys : List SemanticAction) (j n : ℕ) → length (implicit_builds xs j n ++ ys) ≤ n + length ys
-unfolding implicit_builds when◌then◌else◌
+unfolding implicit_builds
 builds_length xs ys j zero = omega arith
 builds_length xs ys j (suc n) = go (any (builds j) xs) (builds_length xs ys (suc j) n)
   where

@@ -59,7 +59,6 @@ unfolding operation_numbered shapes operations_opens
 read_back = alike (λ op. operation_numbered (operation_number op)) (λ op. when eqb (operation_number op) 66 then none else some op) refl
 
 pub numbered : (op : Operation) → eqb (operation_number op) 66 ≡ false → operation_numbered (operation_number op) ≡ some op
-unfolding when◌then◌else◌
 numbered op h = rw h at (read_back op)
 
 op_numbered_lem : (op : Operation) → eqb (operation_number op) 66 ≡ false → op_numbered (operation_number op) ≡ some (ActionKind.Op op)
@@ -69,7 +68,7 @@ op_numbered_lem op h = rw (numbered op h)
 -- a value's two words
 
 size_back : (z : Option ℕ) → or_else 0 z < 65535 → size_from (or_none z) ≡ z
-unfolding size_from or_none or_else when◌then◌else◌
+unfolding size_from or_none or_else
 size_back none h = refl
 size_back (some n) h = rw (differ n 65535 (omega arith))
 
@@ -128,7 +127,7 @@ no_clash v = let k = kind_small v.kind in differ (packed v) 255 (λ e. absurd (o
 
 output_back : (v : Value) → v.offset ≤ 65535 → or_else 0 v.size < 65535 → (operation : Operation)
     → output_from (ActionKind.Op operation) v.number (packed v) ≡ some (some v)
-unfolding output_from some_value and_then when◌then◌else◌
+unfolding output_from some_value and_then
 output_back v h j operation = go (eqb v.number 0)
   where
     go : (b : Bool) → (when b && eqb (packed v) 255 then some none else some_value (value_from v.number (packed v))) ≡ some (some v)
@@ -315,7 +314,7 @@ module _ (t sub : ℕ) where
   pub words-pass : (xs : List SemanticAction) (la pointer_size : ℕ) → 24 * length xs ≤ la → all (layout_fits t sub) xs ≡ true
       → all (sizes_hold pointer_size) xs ≡ true
       → labels_once xs ≡ true → all_built xs sub ≡ true → check (filled la (list_words xs)) (length xs) t sub pointer_size ≡ true
-  unfolding check list_holds when◌then◌else◌ or_else and_then
+  unfolding check list_holds or_else and_then
   words-pass xs la p h f z l b =
       rw (filled_length la (list_words xs), of_le (24 * length xs) la h, actions_back xs la h f)
       (both (both (both (both (same-list (filled la (list_words xs))) f) z) l) b)

@@ -13,17 +13,15 @@ use Rattle.expr_inbuilts.specs.declared.inbuilt.Inbuilt.{Inbuilt}
 use Rattle.expr_inbuilts.specs.Inbuilts.{attempt, logical, carries, extensions, roundings, conversions, inbuilt_of, inbuilt_at}
 
 same_refl : (a : List ℕ) → same_numbers a a ≡ true
-unfolding same_numbers when◌then◌else◌
+unfolding same_numbers
 same_refl [] = refl
 same_refl (x ∷ xs) = rw (eq-eqb x x refl) (same_refl xs)
 
 if_first : (a b : Bool) → (when a then b else false) ≡ true → a ≡ true
-unfolding when◌then◌else◌
 if_first true b e = refl
 if_first false b e = e
 
 if_second : (a b : Bool) → (when a then b else false) ≡ true → b ≡ true
-unfolding when◌then◌else◌
 if_second true b e = e
 if_second false b e = absurd (let z : ◌≡◌ {A = ℕ} 0 1 = cc in omega arith)
 
@@ -46,11 +44,11 @@ same_law a b false f g = go (same_numbers a b) refl
     go false e = sym e
 
 pub attempt_hit : (w x : List ℕ) (o n : ℕ) (r : Inbuilt) (h : Bool) → h ≡ same_numbers w x → h ≡ true → ◌≡◌ {A = Inbuilt} (record { op = o; arguments = n }) (attempt w x o n r)
-unfolding attempt when◌then◌else◌
+unfolding attempt
 attempt_hit w x o n r h e k = rw (← e, k)
 
 pub attempt_miss : (w x : List ℕ) (o n : ℕ) (r : Inbuilt) (h : Bool) → h ≡ same_numbers w x → h ≡ false → r ≡ attempt w x o n r
-unfolding attempt when◌then◌else◌
+unfolding attempt
 attempt_miss w x o n r h e k = rw (← e, k)
 
 pub inbuilt_law : (w : List ℕ) (a b c d e : Inbuilt) → a ≡ conversions w (record { op = 0; arguments = 0 }) → b ≡ roundings w a → c ≡ extensions w b → d ≡ carries w c → e ≡ logical w d → e ≡ inbuilt_of w

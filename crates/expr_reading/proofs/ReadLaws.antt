@@ -30,41 +30,41 @@ module _ (s t m : List ℕ) (v : Value) (size : ℕ) (st : State) where
   set_size_law known n z w u st1 k e g p q = rw (← k, ← (e.settles st.sizing), p, q, g)
 
   pub stated_none : size ≡ 0 → listed (stated v st) m ≡ set_stated s t m v size st
-  unfolding set_stated when◌then◌else◌
+  unfolding set_stated
   stated_none h = rw (eq-eqb size 0 h)
 
   pub stated_set : (r : Stated) (w : List ℕ) → (size ≡ 0 → ⊥) → listed r w ≡ set_size s t m v size st → listed r w ≡ set_stated s t m v size st
-  unfolding set_stated when◌then◌else◌
+  unfolding set_stated
   stated_set r w h e = rw (ne_eqb size 0 h) e
 
   pub taken_none : size ≡ 0 → listed (stated v st) m ≡ take_stated s t m v size st
-  unfolding take_stated when◌then◌else◌
+  unfolding take_stated
   taken_none h = rw (eq-eqb size 0 h)
 
   pub taken_known : (k : ℕ) (u : Value) → (size ≡ 0 → ⊥) → k ≡ size_of s t m v → (k ≡ 65535 → ⊥) → u ≡ with_size size v → listed (stated u st) m ≡ take_stated s t m v size st
-  unfolding take_stated when◌then◌else◌
+  unfolding take_stated
   taken_known k u h e n q = rw (ne_eqb size 0 h, ← e, ne_eqb k 65535 n, q)
 
   pub taken_set : (k : ℕ) (r : Stated) (w : List ℕ) → (size ≡ 0 → ⊥) → k ≡ size_of s t m v → k ≡ 65535 → listed r w ≡ set_size s t m v size st → listed r w ≡ take_stated s t m v size st
-  unfolding take_stated when◌then◌else◌
+  unfolding take_stated
   taken_set k r w h e n q = rw (ne_eqb size 0 h, ← e, eq-eqb k 65535 n) q
 
 -- ---- copies and slices
 module _ (s t a m : List ℕ) (e : Env) (given : Bool) (to v : Value) (st : State) where
   pub copy_given : (b : Value) (r : Read) (a1 m1 : List ℕ) → given ≡ true → b ≡ absent → read r a1 m1 ≡ op_to s t a m e 57 0 1 to v b st → read r a1 m1 ≡ copy_to s t a m e given to v st
-  unfolding copy_to when◌then◌else◌
+  unfolding copy_to
   copy_given b r a1 m1 g q f = rw g (rw q at f)
 
   pub copy_none : given ≡ false → read (Read.Value v st) a m ≡ copy_to s t a m e given to v st
-  unfolding copy_to when◌then◌else◌
+  unfolding copy_to
   copy_none g = rw g
 
 pub aligned_first : (from bits : ℕ) → from % 8 ≡ 0 → eqb (bits % 8) 0 ≡ byte_aligned from bits
-unfolding byte_aligned when◌then◌else◌
+unfolding byte_aligned
 aligned_first from bits h = rw (eq-eqb (from % 8) 0 h)
 
 pub aligned_not : (from bits : ℕ) → (from % 8 ≡ 0 → ⊥) → false ≡ byte_aligned from bits
-unfolding byte_aligned when◌then◌else◌
+unfolding byte_aligned
 aligned_not from bits h = rw (ne_eqb (from % 8) 0 h)
 
 module _ (v : Value) (more size : ℕ) (st : State) (x : Slice) (f : x ≡ slice_bytes v more size) where
@@ -105,11 +105,11 @@ module _ (s t a m : List ℕ) (e : Env) (v : Value) (from bits : ℕ) (st : Stat
 
 module _ (s t a m : List ℕ) (e : Env) (v : Value) (from bits : ℕ) (st : State) (b : Bool) (f : b ≡ byte_aligned from bits) where
   pub part_bytes : (r : Read) → b ≡ true → r ≡ sliced v (from / 8) (bits / 8) st → read r a m ≡ part_of s t a m e v from bits st
-  unfolding part_of when◌then◌else◌
+  unfolding part_of
   part_bytes r h q = rw (← f, h, q)
 
   pub part-bits : (r : Read) (a1 m1 : List ℕ) → b ≡ false → read r a1 m1 ≡ shift_and_mask s t a m e v from bits st → read r a1 m1 ≡ part_of s t a m e v from bits st
-  unfolding part_of when◌then◌else◌
+  unfolding part_of
   part-bits r a1 m1 h q = rw (← f, h) q
 
 module _ (s t a m : List ℕ) (e : Env) (v : Value) (from bits : ℕ) (given : Bool) (to : Value) (st : State) (r : Read) (a1 m1 : List ℕ)
@@ -134,17 +134,17 @@ pushed_yes r v st q = rw q
 
 module _ (a m : List ℕ) (base : Value) (size : ℕ) (given : Bool) (to : Value) (st : State) where
   pub address_offset : (base.offset ≡ 0 → ⊥) → read (Read.No 31) a m ≡ read_address a m base size given to st
-  unfolding read_address when◌then◌else◌
+  unfolding read_address
   address_offset h = rw (ne_eqb base.offset 0 h)
 
   module _ (h : base.offset ≡ 0) (r : Read) (m1 : List ℕ) (f : listed r m1 ≡ output_or m given to size st) where
     pub address_full : (n : ℕ) → r ≡ Read.No n → read (Read.No n) a m1 ≡ read_address a m base size given to st
-    unfolding read_address when◌then◌else◌ on_tmp
+    unfolding read_address on_tmp
     address_full n q = rw (eq-eqb base.offset 0 h, ← f, q)
 
     pub address_made : (v : Value) (st1 : State) (x y : Value) (r2 : Pushed) (a2 : List ℕ) (r3 : Read) → r ≡ Read.Value v st1 → x ≡ local base.kind base.number → y ≡ absent →
         listed r2 a2 ≡ push a 1 0 0 1 v x y st1 → r3 ≡ pushed_to r2 v → read r3 a2 m1 ≡ read_address a m base size given to st
-    unfolding read_address when◌then◌else◌ on_tmp pushed_out
+    unfolding read_address on_tmp pushed_out
     address_made v st1 x y r2 a2 r3 q ex ey g l =
         let g1 : listed r2 a2 ≡ push a 1 0 0 1 v (local base.kind base.number) absent st1 = rw (ex, ey) at g in
         rw (eq-eqb base.offset 0 h, ← f, q, ← g1, l)

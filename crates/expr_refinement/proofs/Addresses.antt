@@ -60,12 +60,12 @@ pub data Finds (st : State) : Space → Outcome SpaceEntry → Type 0 where
   lost : (r : Refusal) (n : ℕ) → n ≡ refusal_number r → Finds st (Space.No n) (stopped r st.sizing.begun 0)
 
 or_size_lem : (a b : Option ℕ) → Small a → or_size (or_none a) (or_none b) ≡ or_none (a or b)
-unfolding or_size or_none or_else ◌or◌ when◌then◌else◌
+unfolding or_size or_none or_else ◌or◌
 or_size_lem none b h = refl
 or_size_lem (some n) b h = rw (ne_eqb n 65535 (λ q. omega arith))
 
 or_zero : (a : Option ℕ) → Small a → or_size (or_none a) 0 ≡ or_else 0 a
-unfolding or_size or_none or_else when◌then◌else◌
+unfolding or_size or_none or_else
 or_zero none h = refl
 or_zero (some n) h = rw (ne_eqb n 65535 (λ q. omega arith))
 
@@ -103,7 +103,7 @@ module _ (s t : List ℕ) (e : Env) (holds : Holds s t e.section) (st : State) w
 
   default_finds : (b : Bool) → eqb (le16 s 24) 65535 ≡ b → absent_at s 24 ≡ (definition.when◌then◌else◌ b none (some (le16 s 24)))
       → Finds st (when b then Space.No 39 else kind_of_space s t (le16 s 24)) (expect no_default_space (and_then (definition.when◌then◌else◌ b none (some (le16 s 24))) (get_elem? e.section.spaces)) e st)
-  unfolding when◌then◌else◌ base_opens expect
+  unfolding base_opens expect
   default_finds true q h = lost no_default_space 39 (unfold refusal_number in refl)
   default_finds false q h =
       let g : absent_at s 24 ≡ some (le16 s 24) = h in
@@ -113,7 +113,7 @@ module _ (s t : List ℕ) (e : Env) (holds : Holds s t e.section) (st : State) w
       rw x (space_finds (le16 s 24) _ x)
 
   pub space_found : (space : Option ℕ) → ((y : ℕ) → space ≡ some y → y < 1024) → Finds st (resolve_space s t (or_none space)) (d.resolve_space space e st)
-  unfolding resolve_space d.resolve_space or_none or_else when◌then◌else◌ default_space named_space lookup on
+  unfolding resolve_space d.resolve_space or_none or_else default_space named_space lookup on
   space_found none h =
       subst (λ (x : Option ℕ). Finds st (when eqb (le16 s 24) 65535 then Space.No 39 else kind_of_space s t (le16 s 24)) (expect no_default_space (and_then x (get_elem? e.section.spaces)) e st)) (sym holds.default_space) (default_finds (eqb (le16 s 24) 65535) refl refl)
   space_found (some n) h =
@@ -156,7 +156,7 @@ module _ (s t : List ℕ) (e : Env) (front tail rest : List ℕ) (we : WordEnv) 
 
   refers : (st : State) → Stood e.section tail rest spare st → (k : SpaceKind) (n : ℕ) → IsKind k n → (size : Option ℕ) (v : Value) → Small size → Sound e.section (count st) v
       → Answers st (resolved (reference_to n (or_none size) next (enc_v v) (W st)) (A st) (M st)) (d.reference k v (or_else 0 size) e st)
-  unfolding reference_to d.reference when◌then◌else◌
+  unfolding reference_to d.reference
   refers st f SpaceKind.RamSpace n ram size v l h = rw (or_zero size l) (unfold enc_x in means-done s t e front tail rest we below spare room next st f (ExprValue.RamRef v (or_else 0 size)) (h, l))
   refers st f SpaceKind.RegisterSpace n register size v l h = rw (or_zero size l) (unfold enc_x in means-done s t e front tail rest we below spare room next st f (ExprValue.RegisterRef v (or_else 0 size)) (h, l))
   refers st f SpaceKind.OtherSpace n (other m) size v l h = rw (ne_eqb (2 + m) 0 (λ q. omega arith), ne_eqb (2 + m) 1 (λ q. omega arith)) (refused st 40 _ (unfold refusal_number in refl))
@@ -195,5 +195,5 @@ module _ (s t : List ℕ) (e : Env) (front tail rest : List ℕ) (we : WordEnv) 
   address st f space size x k l h = rw (const_is s t e holds st space k) (go (contains e.section.header.const space))
     where
       go : (b : Bool) → Answers st (when b then resolved (in_const_space (enc_x x) (or_none size) next (W st)) (A st) (M st) else address_in s t (A st) (M st) we (or_none space) (or_none size) (enc_x x) next (W st)) ((definition.when◌then◌else◌ b (d.in_const_space size x) (d.address_in space size x)) e st)
-      go true = unfold when◌then◌else◌ base_opens in in_const st f size x l h
-      go false = unfold when◌then◌else◌ base_opens in address_in_lem st f space size x k l h
+      go true = unfold base_opens in in_const st f size x l h
+      go false = unfold base_opens in address_in_lem st f space size x k l h

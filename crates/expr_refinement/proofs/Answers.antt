@@ -224,13 +224,13 @@ module _ (sec : Section) (front tail rest : List ℕ) where
   module _ {B C R : Type 0} (more : ℕ) (e : Env) (st : State) (seen : R → Seen B) (enc_c : C → B) (Q : ℕ → C → Type 0) where
     pub bind_require : (b : Bool) (r : Refusal) (y z : R) (k : Unit {0} → Walk C) → seen z ≡ no (refusal_number r) → (b ≡ true → Refines more st enc_c Q (seen y) (k tt e st))
         → Refines more st enc_c Q (seen (when b then y else z)) (on e (require b r e st) k)
-    unfolding when◌then◌else◌ on require
+    unfolding on require
     bind_require true r y z k h f = f refl
     bind_require false r y z k h f = rw h (refines_stopped more st enc_c Q (refusal_number r) r refl)
 
     -- the same, the other way round
     pub bind_unless : (b : Bool) (r : Refusal) (y z : R) (k : Unit {0} → Walk C) → seen z ≡ no (refusal_number r) → (b ≡ false → Refines more st enc_c Q (seen y) (k tt e st)) → (c : Bool) → (b ≡ false → c ≡ true) → (b ≡ true → c ≡ false)
         → Refines more st enc_c Q (seen (when b then z else y)) (on e (require c r e st) k)
-    unfolding when◌then◌else◌ on require
+    unfolding on require
     bind_unless true r y z k h f c i j = rw (j refl) (rw h (refines_stopped more st enc_c Q (refusal_number r) r refl))
     bind_unless false r y z k h f c i j = rw (i refl) (f refl)

@@ -137,7 +137,7 @@ module _ (s t : List ℕ) (e : Env) (front tail rest : List ℕ) (we : WordEnv) 
     read_second : (y : ExprValue) (args : List ℕ) → arg_at args 1 ≡ enc_x y → (v : Value) (n : ℕ) (st : State) → Stood e.section tail rest spare st → SoundX e.section (count st) y → Sound e.section (count st) v
         → Answers st (when ltb 1 (suc (suc n)) then user_op_two s t (A st) (M st) args id next (enc_v v) we (W st) else resolved (applied 63 id 1 (enc_v v) absent next (W st)) (A st) (M st))
         (on e (on e (d.read_all (y ∷ []) e st) (λ vs. λ e2 st2. done (v ∷ vs) st2)) calls)
-    unfolding user_op_two when◌then◌else◌
+    unfolding user_op_two
     read_second y args g v n st f h k =
         let q : on e (on e (d.read_all (y ∷ []) e st) (λ vs. λ e2 st2. done (v ∷ vs) st2)) calls ≡ on e (d.read_value y none e st) (λ u. calls (v ∷ u ∷ [])) = unfold d.read_all on in
         ap (λ (o : Outcome (List Value)). on e o calls) (on_assoc e (d.read_value y none e st) (λ u. λ e1 st1. done (u ∷ []) st1) (λ vs. λ e2 st2. done (v ∷ vs) st2)) ∙ on_assoc e (d.read_value y none e st) (λ u. λ e1 st1. done (v ∷ u ∷ []) st1) calls in
@@ -149,7 +149,6 @@ module _ (s t : List ℕ) (e : Env) (front tail rest : List ℕ) (we : WordEnv) 
     -- the first two
     read-two : (xs : List ExprValue) (args : List ℕ) → ArgsIn args 0 xs → (st : State) → Stood e.section tail rest spare st → Each (SoundX e.section (count st)) xs
         → Answers st (when eqb (length xs) 0 then resolved (applied 63 id 0 absent absent next (W st)) (A st) (M st) else user_op_some s t (A st) (M st) args (length xs) id next we (W st)) (on e (d.read_all (take 2 xs) e st) calls)
-    unfolding when◌then◌else◌
     read-two [] args g st f h =
         unfold d.read_all on enc_x operation_number first_of second_of in means-done s t e front tail rest we below spare room next st f (ExprValue.Apply Operation.PcodeOp id []) (omega arith, user_applies [], tt)
     read-two (x ∷ []) args g st f h =
@@ -198,7 +197,7 @@ module _ (s t : List ℕ) (e : Env) (p front tail rest : List ℕ) (we : WordEnv
       → Answers2 st (resolved (subpiece_from offset end (enc_v v) (W2 st)) (A2 st) (M2 st)) (on e (expect subpiece_argument o e st) λ n. λ e2 st2. on e2 (require (leb n 255) subpiece_argument e2 st2) λ _. λ e3 st3. done (ExprValue.Apply Operation.Subpiece n (v ∷ [])) st3)
   unfolding subpiece_from expect on
   piece_from st f none offset end h v g =
-      rw (lt-ltb 255 offset h) (unfold when◌then◌else◌ seen_expr in refines_stopped e.section front tail rest spare st (λ (x : ExprValue). (enc_x x, next)) (SoundX e.section) 35 subpiece_argument (unfold refusal_number in refl))
+      rw (lt-ltb 255 offset h) (unfold seen_expr in refines_stopped e.section front tail rest spare st (λ (x : ExprValue). (enc_x x, next)) (SoundX e.section) 35 subpiece_argument (unfold refusal_number in refl))
   piece_from st f (some k) offset end h v g =
       rw (h.0, h.1) (bind_unless e.section front tail rest spare e st (λ (x : Expr). seen_expr (resolved x (A2 st) (M2 st))) (λ (x : ExprValue). (enc_x x, next)) (SoundX e.section) (ltb 255 k) subpiece_argument (applied 66 k 1 (enc_v v) absent next (W2 st)) (Expr.No 35)
       (λ _. λ e3 st3. done (ExprValue.Apply Operation.Subpiece k (v ∷ [])) st3) (unfold seen_expr refusal_number in refl)

@@ -65,7 +65,7 @@ use Rattle.expr_refinement.proofs.Positions.{starts, ident_ends, integer_ends, a
 use Rattle.expr_refinement.specs.Encoding.{enc_x, SoundX, Applies, count, Stood, enc_m, Scoped, enc_symbol, BitRangesFit, SoundM}
 
 pub after_is : (pos n : ℕ) → pos < 65536 → n < 65536 → after pos n ≡ pos + n
-unfolding after when◌then◌else◌
+unfolding after
 after_is pos n h k = rw (lt-ltb pos 65536 h, lt-ltb n 65536 k)
 
 -- a u16 that may be absent
@@ -165,7 +165,6 @@ module _ (s : List ℕ) (m deep pos n : ℕ) (xs : Args) (next : ℕ) (starts : 
   none_of (some i) offset h k = let z : ◌≡◌ {A = ℕ} 0 1 = cc in absurd (omega arith)
 
   by_code_lem : (g : OneArg s m deep (pos + 4) xs next) (b : Bool) → IntegerOr b s (pos + 4) g.first next → Only (d.only_integer xs) (when b then le64 s (after pos 5) else 18446744073709551615) (after pos 13) next
-  unfolding when◌then◌else◌
   by_code_lem g true h =
       let a : after pos 5 ≡ pos + 4 + 1 = after_is pos 5 (omega arith) (omega arith) ∙ omega arith in
       let b : after pos 13 ≡ next = after_is pos 13 (omega arith) (omega arith) ∙ omega (arith, h.1) in
@@ -174,7 +173,7 @@ module _ (s : List ℕ) (m deep pos n : ℕ) (xs : Args) (next : ℕ) (starts : 
   by_code_lem g false h = none_of (d.only_integer xs) 18446744073709551615 (unfold d.only_integer in rw g.is h) (omega arith)
 
   pub only_integer_lem : Only (d.only_integer xs) (calls.only_integer s pos n) (after pos 13) next
-  unfolding calls.only_integer when◌then◌else◌
+  unfolding calls.only_integer
   only_integer_lem = go n refl
     where
       go : (k : ℕ) → n ≡ k → Only (d.only_integer xs) (when eqb k 1 then (when eqb (get_or s (pos + 4) 0) 1 then le64 s (after pos 5) else 18446744073709551615) else 18446744073709551615) (after pos 13) next
@@ -374,7 +373,7 @@ module _ (s t : List ℕ) (e : Env) (p front tail rest : List ℕ) (we : WordEnv
       stop (operand (Operand.No k) b w) n q = (let i : k ≡ n = cc in rw i)
 
   later_second : (a b : ℕ) → a ≤ b → later a b ≡ b
-  unfolding later when◌then◌else◌
+  unfolding later
   later_second a b h = go (ltb a b) refl
     where
       go : (c : Bool) → ltb a b ≡ c → (when c then b else a) ≡ b
@@ -382,7 +381,7 @@ module _ (s t : List ℕ) (e : Env) (p front tail rest : List ℕ) (we : WordEnv
       go false q = let k = ltb-false a b q in omega arith
 
   later_first : (a b : ℕ) → b ≤ a → later a b ≡ a
-  unfolding later when◌then◌else◌
+  unfolding later
   later_first a b h = rw (le-ltb a b h)
 
   module _ (deep : ℕ) (small : suc deep ≤ 32) (walks : Resolves deep) (pos : ℕ) (x : PcodeExpr) (next : ℕ) (reads : ReadAt (suc deep) pos x next) (inside : next ≤ length s) (st : State) (f : Stands st) (c : Scopes st) where
@@ -396,7 +395,7 @@ module _ (s t : List ℕ) (e : Env) (p front tail rest : List ℕ) (we : WordEnv
     ahead n h = let a = inside_pos in after_is pos n (omega arith) (omega arith)
 
     name_case : get_or s pos 0 ≡ 0 → Done 0
-    unfolding by_code atom when◌then◌else◌ d.resolve_expr
+    unfolding by_code atom d.resolve_expr
     name_case q =
         let i = ident_at s (le16 s 2) deep pos x (drop next s) q reads in
         let k = ident_ends s (le16 s 2) deep pos x next reads inside q in
@@ -404,14 +403,14 @@ module _ (s t : List ℕ) (e : Env) (p front tail rest : List ℕ) (we : WordEnv
         rw (i.is, ahead 3 (omega arith), ← k) (ident s t e p front tail rest we holds spare st c (le16 s (pos + 1)) (omega (arith, i.name_below)) ranges f next)
 
     integer_case : get_or s pos 0 ≡ 1 → Done 1
-    unfolding by_code atom when◌then◌else◌ d.resolve_expr
+    unfolding by_code atom d.resolve_expr
     integer_case q =
         let i = integer_at s (le16 s 2) deep pos x (drop next s) q reads in
         let k = integer_ends s (le16 s 2) deep pos x next reads inside q in
         rw (i.is, ahead 9 (omega arith), ahead 1 (omega arith), ← k) (unfold enc_x or_none or_else in answers next st f (ExprValue.Const (le64 s (pos + 1)) none) (unfold or_else in omega arith))
 
     address_case : get_or s pos 0 ≡ 2 → Done 2
-    unfolding by_code atom address_of when◌then◌else◌ d.resolve_expr scope.resolve_ident meaning on
+    unfolding by_code atom address_of d.resolve_expr scope.resolve_ident meaning on
     address_case q =
         let i = address_of_at s (le16 s 2) deep pos x (drop next s) q reads in
         let k = address_of_ends s (le16 s 2) deep pos x next reads inside q in
@@ -421,7 +420,7 @@ module _ (s t : List ℕ) (e : Env) (p front tail rest : List ℕ) (we : WordEnv
         (address_named next st f (absent_at s (pos + 1)) (le16 s (pos + 1)) (absent-word s (pos + 1)) (small_or (absent_at s (pos + 1)) i.size_below) (le16 s (pos + 3)) c known _ (meaning-sound e.section tail rest spare st (le16 s (pos + 3)) ranges f))
 
     truncate_case : get_or s pos 0 ≡ 3 → Done 3
-    unfolding by_code part part_at with_part when◌then◌else◌ d.resolve_expr
+    unfolding by_code part part_at with_part d.resolve_expr
     truncate_case q =
         let i = truncate_at s (le16 s 2) deep pos x (drop next s) q reads in
         let k = truncate_ends s (le16 s 2) deep pos x next reads inside i.value i.value_end i.value_reads i.value_inside q in
@@ -431,7 +430,7 @@ module _ (s t : List ℕ) (e : Env) (p front tail rest : List ℕ) (we : WordEnv
         λ y st1 r h. rw (after_is i.value_end 2 (omega (arith, i.value_inside)) (omega arith), ← k, add-zero i.value_end) (slice_bits_lem s t e front tail rest we below spare room next st1 r.stood 0 (8 * le16 s i.value_end) y h (omega (arith, i.size_below))))
 
     slice_case : get_or s pos 0 ≡ 4 → Done 4
-    unfolding by_code part part_at with_part when◌then◌else◌ d.resolve_expr
+    unfolding by_code part part_at with_part d.resolve_expr
     slice_case q =
         let i = slice_bits_at s (le16 s 2) deep pos x (drop next s) q reads in
         let k = slice_ends s (le16 s 2) deep pos x next reads inside i.value i.value_end i.value_reads i.value_inside q in
@@ -441,7 +440,7 @@ module _ (s t : List ℕ) (e : Env) (p front tail rest : List ℕ) (we : WordEnv
         λ y st1 r h. rw (after_is i.value_end 4 (omega (arith, i.value_inside)) (omega arith), ← k, add-zero i.value_end) (slice_bits_lem s t e front tail rest we below spare room next st1 r.stood (le16 s i.value_end) (le16 s (i.value_end + 2)) y h (omega (arith, i.first_below, i.count-below))))
 
     deref_case : get_or s pos 0 ≡ 6 → Done 6
-    unfolding by_code part part_at with_part when◌then◌else◌ d.resolve_expr d.resolve_address on
+    unfolding by_code part part_at with_part d.resolve_expr d.resolve_address on
     deref_case q =
         let i = deref_at s (le16 s 2) deep pos x (drop next s) q reads in
         let k = drop_same s next i.pointer-end inside i.pointer-inside i.rest in
@@ -454,13 +453,13 @@ module _ (s t : List ℕ) (e : Env) (p front tail rest : List ℕ) (we : WordEnv
         (address_at next st1 r.stood (absent_at s (pos + 1)) (absent_at s (pos + 3)) (le16 s (pos + 1)) (le16 s (pos + 3)) (absent-word s (pos + 1)) (absent-word s (pos + 3)) y (λ z g. omega (arith, i.space-below z g)) (small_or (absent_at s (pos + 3)) i.size_below) h))
 
     pool_case : get_or s pos 0 ≡ 7 → Done 7
-    unfolding by_code when◌then◌else◌ d.resolve_expr
+    unfolding by_code d.resolve_expr
     pool_case q =
         let i = constant_pool_at s (le16 s 2) deep pos x (drop next s) q reads in
         rw i.is (stops next st 32 constant_pool (unfold refusal_number in refl))
 
     operator_case : get_or s pos 0 ≡ 5 → Done 5
-    unfolding by_code words.resolve_op operands_of operands_around skip_expr when◌then◌else◌ d.resolve_expr
+    unfolding by_code words.resolve_op operands_of operands_around skip_expr d.resolve_expr
     operator_case q =
         let i = op_at s (le16 s 2) deep pos x (drop next s) q reads in
         let k = drop_same s next i.b_end inside i.b_inside i.rest in
@@ -473,9 +472,9 @@ module _ (s t : List ℕ) (e : Env) (p front tail rest : List ℕ) (we : WordEnv
       where
         by_order : (i : OpAt s (le16 s 2) deep pos x (drop next s)) → next ≡ i.b_end → i.a_end + 1 ≤ i.b_end → (o : PcodeOp) → OrderIs o (get_or s i.a_end 0)
             → Answers next st (binary (resolve_expr deep s t p we) s t we (order_of (get_or s i.a_end 0) (pos + 1) (i.a_end + 1)) (A st) (M st) (W st)) (d.resolve_op o (d.value_of (d.resolve_expr i.a)) (d.value_of (d.resolve_expr i.b)) e st)
-        by_order i k l (PcodeOp.plain op) h = unfold order_of when◌then◌else◌ d.resolve_op in
+        by_order i k l (PcodeOp.plain op) h = unfold order_of d.resolve_op in
             rw (h.0, ← h.1) (both deep walks op h.2 (pos + 1) i.a i.a_end i.a_reads i.a_inside (i.a_end + 1) i.b i.b_end i.b_reads i.b_inside next (later_second i.a_end i.b_end (omega arith) ∙ sym k) st f c)
-        by_order i k l (PcodeOp.greater op) h = unfold order_of when◌then◌else◌ d.resolve_op in
+        by_order i k l (PcodeOp.greater op) h = unfold order_of d.resolve_op in
             rw (h.0, ← h.1) (both deep walks op h.2 (i.a_end + 1) i.b i.b_end i.b_reads i.b_inside (pos + 1) i.a i.a_end i.a_reads i.a_inside next (later_first i.b_end i.a_end (omega arith) ∙ sym k) st f c)
 
     -- a call: its name, the count of its arguments, and they
@@ -515,7 +514,7 @@ module _ (s t : List ℕ) (e : Env) (p front tail rest : List ℕ) (we : WordEnv
         -- a built-in function
         one_case : (g : Inbuilt) → ((v : Value) → Applies g.op (v ∷ [])) → pos + 4 ≤ length s → num ≡ 1
             → Answers next st (words.call_inbuilt (resolve_expr deep s t p we) s t we pos (operation_number g.op) 1 (A st) (M st) (W st)) (on e (d.resolve_arg_values i.args e st) λ vs. λ e1 st1. done (ExprValue.Apply g.op 0 vs) st1)
-        unfolding words.call_inbuilt when◌then◌else◌
+        unfolding words.call_inbuilt
         one_case g ok l h =
             let o = one-arg s (le16 s 2) deep (pos + 4) i.args next l (rw h at args_read_lem) in
             let r : on e (d.resolve_arg_values (arg o.first no_args) e st) (λ vs. λ e1 st1. done (ExprValue.Apply g.op 0 vs) st1) ≡ on e (d.value_of (d.resolve_expr o.first) e st) (λ v. λ e1 st1. done (ExprValue.Apply g.op 0 (v ∷ [])) st1) = unfold d.resolve_arg_values on in
@@ -533,7 +532,7 @@ module _ (s t : List ℕ) (e : Env) (p front tail rest : List ℕ) (we : WordEnv
 
         two_case : (g : Inbuilt) → Applies2 g.op → pos + 4 ≤ length s → num ≡ 2
             → Answers next st (words.call_inbuilt (resolve_expr deep s t p we) s t we pos (operation_number g.op) 2 (A st) (M st) (W st)) (on e (d.resolve_arg_values i.args e st) λ vs. λ e1 st1. done (ExprValue.Apply g.op 0 vs) st1)
-        unfolding words.call_inbuilt words.second_of when◌then◌else◌
+        unfolding words.call_inbuilt words.second_of
         two_case g ok l h =
             let o = two_args s (le16 s 2) deep (pos + 4) i.args next l (rw h at args_read_lem) in
             let r : on e (d.resolve_arg_values (arg o.first (arg o.second no_args)) e st) (λ vs. λ e1 st1. done (ExprValue.Apply g.op 0 vs) st1)
@@ -556,15 +555,15 @@ module _ (s t : List ℕ) (e : Env) (p front tail rest : List ℕ) (we : WordEnv
 
         inbuilt_case : (g : Inbuilt) → Taking g → pos + 4 ≤ length s → (y : WordSymbol)
             → Answers next st (words.call_named (resolve_expr deep s t p we) s t p we pos (le16 s (pos + 1)) num (inbuilt_or (inbuilt_words (some g)) y num) (A st) (M st) (W st)) (d.call_inbuilt g i.args (d.resolve_arg_values i.args) e st)
-        unfolding inbuilt_or inbuilt_words d.call_inbuilt when◌then◌else◌
+        unfolding inbuilt_or inbuilt_words d.call_inbuilt
         inbuilt_case g k l y =
             let n = args_count (expr_within (le16 s 2) deep) num (drop (pos + 4) s) i.args (drop next s) args_read_lem in
             rw (some-arguments g k, n, eqb_swap num g.arguments) (by (eqb g.arguments num) refl)
           where
             by : (b : Bool) → eqb g.arguments num ≡ b → Answers next st (words.call_named (resolve_expr deep s t p we) s t p we pos (le16 s (pos + 1)) num (when b then Callee.Inbuilt (operation_number g.op) else Callee.No 33) (A st) (M st) (W st))
                 (on e (w.require b argument_count e st) λ _. λ e1 st1. on e1 (d.resolve_arg_values i.args e1 st1) λ vs. λ e2 st2. done (ExprValue.Apply g.op 0 vs) st2)
-            by true h = unfold words.call_named when◌then◌else◌ w.require on in taking_case g k l (sym (eqb-true g.arguments num h))
-            by false h = unfold words.call_named when◌then◌else◌ w.require on in stops next st 33 argument_count (unfold refusal_number in refl)
+            by true h = unfold words.call_named w.require on in taking_case g k l (sym (eqb-true g.arguments num h))
+            by false h = unfold words.call_named w.require on in stops next st 33 argument_count (unfold refusal_number in refl)
 
         call-done : pos + 4 ≤ length s → Answers next st (words.resolve_call (resolve_expr deep s t p we) s t p we pos (A st) (M st) (W st)) (d.resolve_call (le16 s (pos + 1)) i.args (d.resolve_arg_values i.args) (d.resolve_args i.args) e st)
         unfolding words.resolve_call d.resolve_call on
@@ -575,10 +574,10 @@ module _ (s t : List ℕ) (e : Env) (p front tail rest : List ℕ) (we : WordEnv
             by : (g : Option Inbuilt) → translate_inbuilt_func (get_or e.section.names (le16 s (pos + 1)) []) ≡ g
                 → Answers next st (words.call_named (resolve_expr deep s t p we) s t p we pos (le16 s (pos + 1)) num (inbuilt_or (inbuilt_words g) (enc_symbol (find (le16 s (pos + 1)) (globals e.section))) num) (A st) (M st) (W st)) (d.call_named (le16 s (pos + 1)) i.args (d.resolve_arg_values i.args) (d.resolve_args i.args) g e st)
             by (some g) h = unfold d.call_named in inbuilt_case g (inbuilt_takes (get_or e.section.names (le16 s (pos + 1)) []) g h) l (enc_symbol (find (le16 s (pos + 1)) (globals e.section)))
-            by none h = unfold d.call_named scope.lookup inbuilt_or inbuilt_words when◌then◌else◌ on in (symbol_case l (find (le16 s (pos + 1)) (globals e.section)))
+            by none h = unfold d.call_named scope.lookup inbuilt_or inbuilt_words on in (symbol_case l (find (le16 s (pos + 1)) (globals e.section)))
 
       call_case : Done 8
-      unfolding by_code when◌then◌else◌ d.resolve_expr
+      unfolding by_code d.resolve_expr
       call_case =
           let i = call_at s (le16 s 2) deep pos x (drop next s) q reads in
           let k = drop_same s next i.args_end inside i.args_inside i.rest in

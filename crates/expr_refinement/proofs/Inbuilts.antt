@@ -22,7 +22,7 @@ attempts w [] = record { op = 0; arguments = 0 }
 attempts w (x ∷ xs) = attempt w x.spelling (operation_number x.op) x.arguments (attempts w xs)
 
 words_or : (w : List ℕ) (x : definition.Inbuilt) (y : Option definition.Inbuilt) (b : Bool) → same_numbers w x.spelling ≡ b → inbuilt_words ((when b then some x else none) or y) ≡ attempt w x.spelling (operation_number x.op) x.arguments (inbuilt_words y)
-unfolding inbuilt_words attempt when◌then◌else◌ ◌or◌
+unfolding inbuilt_words attempt ◌or◌
 words_or w x y true e = rw e
 words_or w x y false e = rw e
 

@@ -64,7 +64,7 @@ coded_at (x ∷ os) i zero o h q = let p : x ≡ o = cc in let r : i + 0 ≡ i =
 coded_at (x ∷ os) i (suc code) o h q = let r : i + suc code ≡ suc i + code = omega arith in rw r (coded_at os (suc i) code o (and_true (coded i x) (all_coded (suc i) os) h).1 q)
 
 all_coded_lem : all_coded 0 pcode_ops ≡ true
-unfolding all_coded coded takes suits pcode_ops operations_opens operation_of when◌then◌else◌ kind_of
+unfolding all_coded coded takes suits pcode_ops operations_opens operation_of kind_of
 all_coded_lem = refl
 
 pub order_is : (code : ℕ) (o : PcodeOp) → get_elem? pcode_ops code ≡ some o → OrderIs o code

@@ -31,7 +31,7 @@ pub record Passed (v n len lim k : ℕ) (c : Cursor) : Type 0 where
   pub fits : c.at + n ≤ len
 
 pub passed : (v n len lim k : ℕ) (c : Cursor) → eqb k 0 ≡ false → (number v n len lim k c).bad ≡ 0 → Passed v n len lim k c
-unfolding number when◌then◌else◌
+unfolding number
 passed v n len lim k c z h = go (eqb c.bad 0) (leb (c.at + n) len) (ltb v lim) refl refl refl
   where
     go : (a b l : Bool) → eqb c.bad 0 ≡ a → leb (c.at + n) len ≡ b → ltb v lim ≡ l → Passed v n len lim k c
@@ -41,7 +41,7 @@ passed v n len lim k c z h = go (eqb c.bad 0) (leb (c.at + n) len) (ltb v lim) r
     go false b l p q r = let x : c.bad ≡ 0 = rw p at h in absurd (eqb-false c.bad 0 p x)
 
 pub skipped : (s : List ℕ) (n p v : ℕ) → (skip s n (cursor p 0 v)).bad ≡ 0 → (skip s n (cursor p 0 v)).at ≡ p + n
-unfolding skip number when◌then◌else◌
+unfolding skip number
 skipped s n p v h = go (leb (p + n) (length s)) refl
   where
     go : (b : Bool) → leb (p + n) (length s) ≡ b → (skip s n (cursor p 0 v)).at ≡ p + n
@@ -83,7 +83,7 @@ module _ (s : List ℕ) (m : ℕ) where
     starts = let b = (expr-begun s m deep pos x (drop next s) reads).inside in omega arith
 
     coded : u8 s 9 3 (cursor pos 0 0) ≡ cursor (pos + 1) 0 (get_or s pos 0)
-    unfolding u8 number when◌then◌else◌
+    unfolding u8 number
     coded =
         let b = expr-begun s m deep pos x (drop next s) reads in
         rw (le-leb (pos + 1) (length s) starts, lt-ltb (get_or s pos 0) 9 b.known)
@@ -156,7 +156,7 @@ module _ (s : List ℕ) (m : ℕ) where
 -- a cursor never goes back
 
 number_on : (v n len lim k : ℕ) (c : Cursor) → c.at ≤ (number v n len lim k c).at
-unfolding number when◌then◌else◌
+unfolding number
 number_on v n len lim k c = go (eqb c.bad 0) (leb (c.at + n) len) (ltb v lim)
   where
     go : (a b l : Bool) → c.at ≤ (when a then (when b then (when l then cursor (c.at + n) 0 v else cursor c.at k 0) else cursor c.at 3 0) else c).at
@@ -195,7 +195,7 @@ after_on Kind.pool s m f h c = omega (arith, u8_on s 9 4 c, run_on (u8 s 9 4 c).
 after_on Kind.calling s m f h c = omega (arith, u16_on s m 5 c, u8_on s 9 4 (u16 s m 5 c), run_on (u8 s 9 4 (u16 s m 5 c)).val 0 f h (u8 s 9 4 (u16 s m 5 c)))
 
 refuse_on : (k : ℕ) (c : Cursor) → c.at ≤ (refuse k c).at
-unfolding refuse when◌then◌else◌
+unfolding refuse
 refuse_on k c = go (eqb c.bad 0)
   where
     go : (b : Bool) → c.at ≤ (when b then cursor c.at k 0 else c).at

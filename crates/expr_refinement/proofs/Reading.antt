@@ -94,14 +94,14 @@ module _ (s t : List ℕ) (e : Env) (front tail rest : List ℕ) (we : WordEnv) 
 
   pub copy_to_lem : (st : State) → Stands st → (to : Option Value) (v : Value) → EachOption (Sound e.section (count st)) to → Sound e.section (count st) v
       → Reads st (copy_to s t (A st) (M st) we (is_some to) (to_of to) (enc_v v) (W st)) (d.copy_to to v e st)
-  unfolding copy_to when◌then◌else◌ is_some to_of d.copy_to seen_read operation_number first_of second_of
+  unfolding copy_to is_some to_of d.copy_to seen_read operation_number first_of second_of
   copy_to_lem st f none v g h = refines_done e.section front tail rest spare st enc_v (Sound e.section) v (enc_v v) f h refl
   copy_to_lem st f (some to) v g h = below.ops spare st room (stood_more (suc spare) (omega arith) f) Operation.Copy 0 (v ∷ []) to (omega arith) (copy_applies v) (h, tt) g
 
   -- the output given, else a fresh temporary
   output : (st : State) → Stands st → (size : Option ℕ) (to : Option Value) → Small size → EachOption (Sound e.section (count st)) to
       → Refines e.section front tail rest spare st enc_v (Sound e.section) (seen_tmp (A st) (output_or (M st) (is_some to) (to_of to) (or_none size) (W st))) (w.output_or size to e st)
-  unfolding output_or when◌then◌else◌ is_some to_of w.output_or
+  unfolding output_or is_some to_of w.output_or
   output st f size none h g = below.adds spare st room f size h
   output st f size (some v) h g = unfold seen_tmp in refines_done e.section front tail rest spare st enc_v (Sound e.section) v (enc_v v) f g refl
 
@@ -157,7 +157,7 @@ module _ (s t : List ℕ) (e : Env) (front tail rest : List ℕ) (we : WordEnv) 
       unfold seen_read in refines_done e.section front tail rest spare st2 enc_v (Sound e.section) (truncate (needed_bytes bits) tmp) _ q.stood (record { number = g.number; offset = g.offset; size = unfold or_else in omega arith }) (unfold or_none or_else in refl)))
 
   aligned_is : (from bits : ℕ) → byte_aligned from bits ≡ d.byte_aligned from bits
-  unfolding byte_aligned d.byte_aligned when◌then◌else◌
+  unfolding byte_aligned d.byte_aligned
   aligned_is from bits = go (eqb (from % 8) 0) (eqb (bits % 8) 0)
     where
       go : (a b : Bool) → (when a then b else false) ≡ a && b
@@ -172,14 +172,14 @@ module _ (s t : List ℕ) (e : Env) (front tail rest : List ℕ) (we : WordEnv) 
       go : (b : Bool) → leb (v.offset + more) 65535 ≡ b
           → Reads st (read (slice_read (when b then Slice.Is (record { kind = kind_number v.kind; number = v.number; offset = v.offset + more; size = size }) else Slice.No 42) (W st)) (A st) (M st))
           (on e (w.require b offset_too_far e st) λ _. λ e1 st1. done (slice_bytes more size v) st1)
-      go true q = unfold when◌then◌else◌ slice_read seen_read w.require on in
+      go true q = unfold slice_read seen_read w.require on in
           refines_done e.section front tail rest spare st enc_v (Sound e.section) (slice_bytes more size v) _ f (record { number = h.number; offset = leb-true (v.offset + more) 65535 q; size = unfold or_else in l }) (unfold or_none or_else in refl)
-      go false q = unfold when◌then◌else◌ slice_read seen_read w.require on in
+      go false q = unfold slice_read seen_read w.require on in
           refines_stopped e.section front tail rest spare st enc_v (Sound e.section) 42 offset_too_far (unfold refusal_number in refl)
 
   pub read_slice_lem : (st : State) → Stands st → (v : Value) (from bits : ℕ) (to : Option Value) → Sound e.section (count st) v → bits ≤ 16384 → EachOption (Sound e.section (count st)) to
       → Reads st (read_slice s t (A st) (M st) we (enc_v v) from bits (is_some to) (to_of to) (W st)) (d.read_slice v from bits to e st)
-  unfolding read_slice d.read_slice part_of when◌then◌else◌ base_opens
+  unfolding read_slice d.read_slice part_of base_opens
   read_slice_lem st f v from bits to h l g =
       bind_read e.section front tail rest spare spare e st (Sound e.section) seen_read enc_v (Sound e.section) (d.copy_to to) enc_v _ _ _ _
       (rw (aligned_is from bits) (go (d.byte_aligned from bits))) (λ n a m. unfold seen_read in refl)

@@ -50,11 +50,10 @@ means_or none other = other
 
 -- the search, with the meaning that it finds
 found : ℕ → List ℕ → WordMeaning → WordMeaning
-unfolding when◌then◌else◌
 found i p other = when ltb 0 i then WordMeaning.Means (of_slot (slot_at p (param_place (i - 1)))) else other
 
 param_is : (ps : List (ℕ × ExprValue)) (p : List ℕ) (name : ℕ) (other : WordMeaning) → ParamsIn p ps → found (find_param (length ps) p name) p other ≡ means_or (find name ps) other
-unfolding found find_param find first means_or base_opens when◌then◌else◌
+unfolding found find_param find first means_or base_opens
 param_is [] p name other h = refl
 param_is (x ∷ xs) p name other h = rw (h.0, eqb_swap x.0 name) (go (eqb name x.0) (param_is xs p name other h.2))
   where
@@ -85,7 +84,7 @@ find-each {A} P n (x ∷ xs) a h q = go (eqb n x.0) (find-each P n xs a h.1) q
     go false f q = f q
 
 word_parts : (k i : ℕ) → k < 8 → symbol_of (1 + k + 8 * i) ≡ of_kind k i
-unfolding symbol_of when◌then◌else◌
+unfolding symbol_of
 word_parts k i h =
     let z : 1 + k + 8 * i - 1 ≡ k + 8 * i = omega arith in
     let a : (k + 8 * i) % 8 ≡ k = omega arith in
@@ -94,14 +93,14 @@ word_parts k i h =
 
 symbol_is : (y : Option Symbol) → symbol_of (symbol_word y) ≡ enc_symbol y
 unfolding symbol_word enc_symbol
-symbol_is none = unfold symbol_of when◌then◌else◌ in refl
-symbol_is (some (Symbol.Space i x)) = word_parts 0 i (omega arith) ∙ (unfold of_kind when◌then◌else◌ in refl)
-symbol_is (some (Symbol.Register i x)) = word_parts 1 i (omega arith) ∙ (unfold of_kind when◌then◌else◌ in refl)
-symbol_is (some (Symbol.BitRange i x)) = word_parts 2 i (omega arith) ∙ (unfold of_kind when◌then◌else◌ in refl)
-symbol_is (some (Symbol.Table i x)) = word_parts 3 i (omega arith) ∙ (unfold of_kind when◌then◌else◌ in refl)
-symbol_is (some (Symbol.UserOp i)) = word_parts 4 i (omega arith) ∙ (unfold of_kind when◌then◌else◌ in refl)
-symbol_is (some (Symbol.Macro i x)) = word_parts 5 i (omega arith) ∙ (unfold of_kind when◌then◌else◌ in refl)
-symbol_is (some (Symbol.Other i)) = word_parts 6 i (omega arith) ∙ (unfold of_kind when◌then◌else◌ in refl)
+symbol_is none = unfold symbol_of in refl
+symbol_is (some (Symbol.Space i x)) = word_parts 0 i (omega arith) ∙ (unfold of_kind in refl)
+symbol_is (some (Symbol.Register i x)) = word_parts 1 i (omega arith) ∙ (unfold of_kind in refl)
+symbol_is (some (Symbol.BitRange i x)) = word_parts 2 i (omega arith) ∙ (unfold of_kind in refl)
+symbol_is (some (Symbol.Table i x)) = word_parts 3 i (omega arith) ∙ (unfold of_kind in refl)
+symbol_is (some (Symbol.UserOp i)) = word_parts 4 i (omega arith) ∙ (unfold of_kind in refl)
+symbol_is (some (Symbol.Macro i x)) = word_parts 5 i (omega arith) ∙ (unfold of_kind in refl)
+symbol_is (some (Symbol.Other i)) = word_parts 6 i (omega arith) ∙ (unfold of_kind in refl)
 
 module _ (s t : List ℕ) (sec : Section) (holds : Holds s t sec) where
   pub lookup_is : (name : ℕ) → name < 1024 → lookup t name ≡ enc_symbol (find name (globals sec))
@@ -148,10 +147,10 @@ module _ (s t : List ℕ) (e : Env) (p : List ℕ) (we : WordEnv) (holds : Holds
       go : (a b : Bool) (v : Option Value)
           → (when a then WordMeaning.Means (WordExpr.Local (record { kind = 1; number = 0; offset = 0; size = 65535 })) else when b then WordMeaning.Means (WordExpr.Local (record { kind = 0; number = 0; offset = 0; size = 65535 })) else found_or (enc_f v) (words.global_meaning s t (enc_symbol (find name (globals e.section)))))
           ≡ enc_m (meaning_of e.section ((definition.when◌then◌else◌ a (some (ExprValue.Local (local Kind.InstNext 0))) none) or (definition.when◌then◌else◌ b (some (ExprValue.Local (local Kind.InstStart 0))) none) or (and_then v λ v. some (ExprValue.Local v))) name)
-      go true b v = unfold when◌then◌else◌ base_opens meaning_of enc_m enc_x kind_number or_none or_else in refl
-      go false true v = unfold when◌then◌else◌ base_opens meaning_of enc_m enc_x kind_number or_none or_else in refl
-      go false false (some v) = unfold when◌then◌else◌ base_opens meaning_of enc_m enc_x found_or enc_f in refl
-      go false false none = unfold when◌then◌else◌ base_opens meaning_of found_or enc_f in global_means s t e.section holds (find name (globals e.section)) (found_placed e.section name _ refl)
+      go true b v = unfold base_opens meaning_of enc_m enc_x kind_number or_none or_else in refl
+      go false true v = unfold base_opens meaning_of enc_m enc_x kind_number or_none or_else in refl
+      go false false (some v) = unfold base_opens meaning_of enc_m enc_x found_or enc_f in refl
+      go false false none = unfold base_opens meaning_of found_or enc_f in global_means s t e.section holds (find name (globals e.section)) (found_placed e.section name _ refl)
 
   pub ident_is : words.resolve_ident s t p we name ≡ enc_m (meaning_of e.section (inner_meaning e.section st.scope name) name)
   unfolding words.resolve_ident param_or found inner_meaning words.inner_meaning

@@ -39,7 +39,7 @@ pub less : (a b : ℕ) → ltb a b ≡ true → leb b a ≡ false
 less a b h = lt-leb b a (ltb-true a b h)
 
 const-bytes : (z : Option ℕ) → Small z → const_bytes (or_none z) ≡ or_else 8 z
-unfolding const_bytes or_none or_else when◌then◌else◌
+unfolding const_bytes or_none or_else
 const-bytes none h = refl
 const-bytes (some n) h = rw (ne_eqb n 65535 (λ q. omega arith)) (omega arith)
 

@@ -123,7 +123,7 @@ high_part a b h = omega arith
 
 -- a slot gives back what was put into it
 slot_back : (sec : Section) (n : ℕ) (x : ExprValue) → SoundX sec n x → of_slot (read_as (slot_of (enc_x x))) ≡ enc_x x
-unfolding of_slot read_as slot_of enc_x of_parts when◌then◌else◌
+unfolding of_slot read_as slot_of enc_x of_parts
 slot_back sec n (ExprValue.Local v) h = rw (value_again v h)
 slot_back sec n (ExprValue.Unbound v) h = rw (value_again v h)
 slot_back sec n (ExprValue.Const c z) h = refl

@@ -41,7 +41,7 @@ unfolding small
 none_small n i = rw (zero_word_lem n (64 + i / 6)) (zero_place (i % 6) (omega arith))
 
 pub none_local : (name : ℕ) → tmp_local (replicate 406 0) name ≡ Found.Nothing
-unfolding tmp_local tmp_of when◌then◌else◌
+unfolding tmp_local tmp_of
 none_local name = rw (none_small 406 (name % 1024))
 
 pub find_append : {A : Type 0} (n : ℕ) (xs ys : List (ℕ × A)) → find n (xs ++ ys) ≡ find n xs or find n ys
@@ -64,7 +64,7 @@ find-locals k n i (x ∷ xs) = go (eqb n x) (find-locals k n (suc i) xs)
     go false h = h
 
 own_word : (a b : Option ℕ) → own_of (local_word a b) ≡ enc_f (and_then a (λ j. some (local Kind.Field j)) or and_then b (λ j. some (local Kind.Subtable j)))
-unfolding own_of local_word when◌then◌else◌ enc_f base_opens kind_number or_none
+unfolding own_of local_word enc_f base_opens kind_number or_none
 own_word (some i) b =
     let p : (1 + 2 * i) % 2 ≡ 1 = omega arith in
     let q : (1 + 2 * i) / 2 ≡ i = omega arith in
@@ -91,7 +91,7 @@ module _ (s t : List ℕ) (sec : Section) (holds : Holds s t sec) (name : ℕ) (
 
   -- no local is declared
   pub start_locals : lookup_local t (replicate 406 0) true name ≡ enc_f (find name (section_scope sec).mapping)
-  unfolding lookup_local when◌then◌else◌
+  unfolding lookup_local
   start_locals = go (own_local t name) own_is
     where
       go : (x : Found) → x ≡ enc_f (find name (section_scope sec).mapping) → or_tmp x (replicate 406 0) name ≡ enc_f (find name (section_scope sec).mapping)

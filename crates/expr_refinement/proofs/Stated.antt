@@ -53,8 +53,8 @@ module _ (s t : List ℕ) (e : Env) (front tail rest : List ℕ) (holds : SizesH
   set_stated_lem st f size v l h = go (eqb size 0)
     where
       go : (b : Bool) → Sets st (when b then listed (stated (enc_v v) (W st)) (M st) else set_size s t (M st) (enc_v v) size (W st)) ((definition.when◌then◌else◌ b (w.pure v) (w.by_sizes λ sec. sizes.set_size sec size v)) e st)
-      go true = unfold when◌then◌else◌ base_opens in same-stated st f v h
-      go false = unfold when◌then◌else◌ base_opens in set_size_lem s t e front tail rest holds spare st room f v size l h
+      go true = unfold base_opens in same-stated st f v h
+      go false = unfold base_opens in set_size_lem s t e front tail rest holds spare st room f v size l h
 
   pub take_stated_lem : (st : State) → Stands st → (size : ℕ) (v : Value) → size < 65535 → Sound e.section (count st) v → Sets st (take_stated s t (M st) (enc_v v) size (W st)) (d.take_stated size v e st)
   unfolding take_stated d.take_stated
@@ -63,12 +63,12 @@ module _ (s t : List ℕ) (e : Env) (front tail rest : List ℕ) (holds : SizesH
       (go (eqb size 0) (sizes.size_of e.section (tmps st) v) refl (known_small s t e.section holds rest (tmps st) f.sizes v h))
     where
       known : (z : Option ℕ) → Small z → Sets st (when eqb (or_none z) 65535 then set_size s t (M st) (enc_v v) size (W st) else listed (stated (record { kind = kind_number v.kind; number = v.number; offset = v.offset; size = size }) (W st)) (M st)) (d.take_known z size v e st)
-      known none k = unfold or_none or_else when◌then◌else◌ d.take_known in set_size_lem s t e front tail rest holds spare st room f v size l h
-      known (some n) k = unfold or_none or_else when◌then◌else◌ d.take_known in rw (ne_eqb n 65535 (λ q. omega arith))
+      known none k = unfold or_none or_else d.take_known in set_size_lem s t e front tail rest holds spare st room f v size l h
+      known (some n) k = unfold or_none or_else d.take_known in rw (ne_eqb n 65535 (λ q. omega arith))
           (unfold seen_stated in refines_done e.section front tail rest (suc spare) st enc_v (Sound e.section) (truncate size v) _ (stood_more (suc spare) (omega arith) f) (record { number = h.number; offset = h.offset; size = l }) refl)
 
       go : (b : Bool) (z : Option ℕ) → sizes.size_of e.section (tmps st) v ≡ z → Small z
           → Sets st (when b then listed (stated (enc_v v) (W st)) (M st) else when eqb (or_none z) 65535 then set_size s t (M st) (enc_v v) size (W st) else listed (stated (record { kind = kind_number v.kind; number = v.number; offset = v.offset; size = size }) (W st)) (M st))
           ((definition.when◌then◌else◌ b (w.pure v) (λ e st. on e (w.known_size v e st) λ known. d.take_known known size v)) e st)
-      go true z q k = unfold when◌then◌else◌ base_opens in same-stated st f v h
-      go false z q k = unfold when◌then◌else◌ base_opens on in rw q (known z k)
+      go true z q k = unfold base_opens in same-stated st f v h
+      go false z q k = unfold base_opens on in rw q (known z k)

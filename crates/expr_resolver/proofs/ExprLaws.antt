@@ -41,19 +41,19 @@ use Rattle.access.proofs.LoopLaws.{one_less}
 
 -- ---- positions
 pub later_second : (x y : ℕ) → x < y → y ≡ later x y
-unfolding later when◌then◌else◌
+unfolding later
 later_second x y h = rw (lt-ltb x y h)
 
 pub later_first : (x y : ℕ) → y ≤ x → x ≡ later x y
-unfolding later when◌then◌else◌
+unfolding later
 later_first x y h = rw (le-ltb x y h)
 
 pub part_deref : (code : ℕ) → code ≡ 6 → 5 ≡ part_at code
-unfolding part_at when◌then◌else◌
+unfolding part_at
 part_deref code h = rw (eq-eqb code 6 h)
 
 pub part_other : (code : ℕ) → (code ≡ 6 → ⊥) → 1 ≡ part_at code
-unfolding part_at when◌then◌else◌
+unfolding part_at
 part_other code h = rw (ne_eqb code 6 h)
 
 pub skip_law : (s : List ℕ) (pos n : ℕ) (c : Cursor) → n ≡ le16 s 2 → c ≡ section.expr 32 s n (cursor pos 0 0) → c.at ≡ skip_expr s pos
@@ -125,104 +125,104 @@ module _ (code : ℕ) (s t p : List ℕ) (pos : ℕ) (e : Env) (st : State) wher
   atom_name z k h = rw k h
 
   pub atom_integer : (at n next : ℕ) → code ≡ 1 → at ≡ after pos 1 → n ≡ le64 s at → next ≡ after pos 9 → Expr.Value next (ExprValue.Const n 65535) st ≡ atom code s t p pos e st
-  unfolding atom when◌then◌else◌
+  unfolding atom
   atom_integer at n next k ea en ex = rw (k, ← ea, ← en, ← ex)
 
   pub atom_address : (z : Expr) → (code ≡ 0 → ⊥) → (code ≡ 1 → ⊥) → z ≡ address_of s t p pos e st → z ≡ atom code s t p pos e st
-  unfolding atom when◌then◌else◌
+  unfolding atom
   atom_address z k l h = rw (ne_eqb code 0 k, ne_eqb code 1 l) h
 
 module _ (s t p : List ℕ) (pos : ℕ) (e : Env) (st : State) (name : ℕ) (en : name ≡ le16 s (pos + 1)) (next : ℕ) (ex : next ≡ after pos 3) where
   pub name_plain : (q : ℕ) (v : Value) → q ≡ plain_local s t p e name → 8 ≤ q → v ≡ local (q % 8) (q / 8 - 1) →
       Expr.Value next (ExprValue.Local v) st ≡ atom 0 s t p pos e st
-  unfolding atom means_at when◌then◌else◌
+  unfolding atom means_at
   name_plain q v f h ev = rw (← en, ← ex, plain-means s t p e name q f h, ev)
 
   pub name_other : (x : Meaning) (z : Expr) → x ≡ resolve_ident s t p e name → z ≡ means_at x next st → z ≡ atom 0 s t p pos e st
-  unfolding atom when◌then◌else◌
+  unfolding atom
   name_other x z f h = rw (← en, ← ex, ← f) h
 
 -- ---- operands that are the value itself
 pub plain_deep : (d : ℕ) (s t p : List ℕ) (pos : ℕ) (e : Env) → d ≡ 0 → 0 ≡ plain_at d s t p pos e
-unfolding plain_at when◌then◌else◌
+unfolding plain_at
 plain_deep d s t p pos e z = rw (eq-eqb d 0 z)
 
 module _ (d : ℕ) (s t p : List ℕ) (pos : ℕ) (e : Env) (nz : d ≡ 0 → ⊥) (code : ℕ) (ec : code ≡ get_or s (pos + 0) 0) where
   pub plain_name : (name q : ℕ) → code ≡ 0 → name ≡ le16 s (pos + 1) → q ≡ plain_local s t p e name → q ≡ plain_at d s t p pos e
-  unfolding plain_at when◌then◌else◌
+  unfolding plain_at
   plain_name name q k en f = rw (ne_eqb d 0 nz, ← ec, eq-eqb code 0 k, ← en) f
 
   pub plain_integer : code ≡ 1 → 7 ≡ plain_at d s t p pos e
-  unfolding plain_at when◌then◌else◌
+  unfolding plain_at
   plain_integer k = rw (ne_eqb d 0 nz, ← ec, k)
 
   pub plain_none : (code ≡ 0 → ⊥) → (code ≡ 1 → ⊥) → 0 ≡ plain_at d s t p pos e
-  unfolding plain_at when◌then◌else◌
+  unfolding plain_at
   plain_none k l = rw (ne_eqb d 0 nz, ← ec, ne_eqb code 0 k, ne_eqb code 1 l)
 
 module _ (q : ℕ) (s : List ℕ) (pos : ℕ) (st : State) (v : Value) (next : ℕ) where
   pub operand-local : 8 ≤ q → v ≡ local (q % 8) (q / 8 - 1) → next ≡ after pos 3 → Operand.Value v next st ≡ plain_operand q s pos st
-  unfolding plain_operand when◌then◌else◌
+  unfolding plain_operand
   operand-local h ev ex = rw (le-ltb q 8 h, ← ex, ev)
 
   pub operand_integer : (at n : ℕ) → q < 8 → at ≡ after pos 1 → n ≡ le64 s at → v ≡ constant n → next ≡ after pos 9 → Operand.Value v next st ≡ plain_operand q s pos st
-  unfolding plain_operand when◌then◌else◌
+  unfolding plain_operand
   operand_integer at n h ea en ev ex = rw (lt-ltb q 8 h, ← ea, ← en, ← ex, ev)
 
 -- ---- operators
 module _ (code : ℕ) where
   pub operation_33 : code ≡ 33 → 12 ≡ operation_of code
-  unfolding operation_of when◌then◌else◌
+  unfolding operation_of
   operation_33 k = rw k
 
   pub operation_34 : code ≡ 34 → 13 ≡ operation_of code
-  unfolding operation_of when◌then◌else◌
+  unfolding operation_of
   operation_34 k = rw k
 
   pub operation_35 : code ≡ 35 → 10 ≡ operation_of code
-  unfolding operation_of when◌then◌else◌
+  unfolding operation_of
   operation_35 k = rw k
 
   pub operation_36 : code ≡ 36 → 11 ≡ operation_of code
-  unfolding operation_of when◌then◌else◌
+  unfolding operation_of
   operation_36 k = rw k
 
   pub operation_37 : code ≡ 37 → 20 ≡ operation_of code
-  unfolding operation_of when◌then◌else◌
+  unfolding operation_of
   operation_37 k = rw k
 
   pub operation_38 : code ≡ 38 → 21 ≡ operation_of code
-  unfolding operation_of when◌then◌else◌
+  unfolding operation_of
   operation_38 k = rw k
 
   pub operation-same : (code ≡ 33 → ⊥) → (code ≡ 34 → ⊥) → (code ≡ 35 → ⊥) → (code ≡ 36 → ⊥) → (code ≡ 37 → ⊥) → (code ≡ 38 → ⊥) → code ≡ operation_of code
-  unfolding operation_of when◌then◌else◌
+  unfolding operation_of
   operation-same a b c d e f = rw (ne_eqb code 33 a, ne_eqb code 34 b, ne_eqb code 35 c, ne_eqb code 36 d, ne_eqb code 37 e, ne_eqb code 38 f)
 
 module _ (s : List ℕ) (pos first middle code second : ℕ) (ef : first ≡ after pos 1) (em : middle ≡ skip_expr s first) (ec : code ≡ get_or s (middle + 0) 0) (es : second ≡ after middle 1) where
   pub order_written : code < 33 → order code first second ≡ operands_of s pos
-  unfolding operands_of operands_around order_of when◌then◌else◌
+  unfolding operands_of operands_around order_of
   order_written h = rw (← ef, ← em, ← ec, ← es, lt-ltb code 33 h)
 
   pub order_swapped : (op : ℕ) → 33 ≤ code → op ≡ operation_of code → order op second first ≡ operands_of s pos
-  unfolding operands_of operands_around order_of when◌then◌else◌
+  unfolding operands_of operands_around order_of
   order_swapped op h q = rw (← ef, ← em, ← ec, ← es, le-ltb code 33 h, q)
 
 -- ---- one part
 module _ (code : ℕ) (s t a m : List ℕ) (pos : ℕ) (e : Env) (x : ExprValue) (next : ℕ) (st : State) (z : Expr) (a1 m1 : List ℕ) where
   pub with_truncate : (n end : ℕ) → code ≡ 3 → n ≡ le16 s (next + 0) → end ≡ after next 2 → resolved z a1 m1 ≡ slice_bits s t a m e x 0 (8 * n) end st →
       resolved z a1 m1 ≡ with_part code s t a m pos e x next st
-  unfolding with_part when◌then◌else◌
+  unfolding with_part
   with_truncate n end k en ee h = rw (eq-eqb code 3 k, ← en, ← ee) h
 
   pub with_slice : (from bits end : ℕ) → code ≡ 4 → from ≡ le16 s (next + 0) → bits ≡ le16 s (next + 2) → end ≡ after next 4 →
       resolved z a1 m1 ≡ slice_bits s t a m e x from bits end st → resolved z a1 m1 ≡ with_part code s t a m pos e x next st
-  unfolding with_part when◌then◌else◌
+  unfolding with_part
   with_slice from bits end k ef eb ee h = rw (k, ← ef, ← eb, ← ee) h
 
   pub with_deref : (space size : ℕ) → (code ≡ 3 → ⊥) → (code ≡ 4 → ⊥) → space ≡ le16 s (pos + 1) → size ≡ le16 s (pos + 3) →
       resolved z a1 m1 ≡ resolve_address s t a m e space size x next st → resolved z a1 m1 ≡ with_part code s t a m pos e x next st
-  unfolding with_part when◌then◌else◌
+  unfolding with_part
   with_deref space size k l ep es h = rw (ne_eqb code 3 k, ne_eqb code 4 l, ← ep, ← es) h
 
 module _ (walk : Walk) (code : ℕ) (s t : List ℕ) (e : Env) (pos : ℕ) (a m : List ℕ) (st : State) (k at : ℕ) (ek : k ≡ part_at code) (ea : at ≡ after pos k)
@@ -262,16 +262,16 @@ module _ (walk : Walk) (s t : List ℕ) (e : Env) (pos : ℕ) (a m : List ℕ) (
 module _ (walk : Walk) (s t : List ℕ) (e : Env) (pos op count : ℕ) (a m : List ℕ) (st : State) (at : ℕ) (ea : at ≡ after pos 4)
     (r : Operand) (a1 m1 : List ℕ) (f : operand r a1 m1 ≡ expr_value walk s t e at a m st) where
   pub inbuilt-one : (z : Expr) → (count ≡ 2 → ⊥) → z ≡ apply1 op r → resolved z a1 m1 ≡ call_inbuilt walk s t e pos op count a m st
-  unfolding call_inbuilt when◌then◌else◌ applied_to
+  unfolding call_inbuilt applied_to
   inbuilt-one z k h = rw (ne_eqb count 2 k, ← ea, ← f, h)
 
   pub inbuilt_no : (n : ℕ) → count ≡ 2 → r ≡ Operand.No n → resolved (Expr.No n) a1 m1 ≡ call_inbuilt walk s t e pos op count a m st
-  unfolding call_inbuilt when◌then◌else◌ second_of on_operand
+  unfolding call_inbuilt second_of on_operand
   inbuilt_no n k q = rw (eq-eqb count 2 k, ← ea, ← f, q)
 
   pub inbuilt-two : (v : Value) (next : ℕ) (st1 : State) (r2 : Operand) (a2 m2 : List ℕ) (z : Expr) → count ≡ 2 → r ≡ Operand.Value v next st1 →
       operand r2 a2 m2 ≡ expr_value walk s t e next a1 m1 st1 → z ≡ apply2 op v 0 r2 → resolved z a2 m2 ≡ call_inbuilt walk s t e pos op count a m st
-  unfolding call_inbuilt when◌then◌else◌ second_of on_operand applied_to
+  unfolding call_inbuilt second_of on_operand applied_to
   inbuilt-two v next st1 r2 a2 m2 z k q g h = rw (eq-eqb count 2 k, ← ea, ← f, q, ← g, h)
 
 pub args_start : (walk : Walk) (n pos : ℕ) (a m args : List ℕ) (st : State) → resolve_args walk (n - 0) 0 pos a m args st ≡ resolve_args walk n 0 pos a m args st
@@ -335,27 +335,27 @@ module _ (d : ℕ) (s t p : List ℕ) (e : Env) (pos : ℕ) (a m : List ℕ) (st
   step = let h : d ≡ suc (d - 1) = omega arith in ap (λ n. resolve_expr n s t p e pos a m st) h ∙ rw (ec)
 
   pub expr-atom : (z : Expr) → code < 3 → z ≡ atom code s t p pos e st → resolved z a m ≡ resolve_expr d s t p e pos a m st
-  unfolding by_code when◌then◌else◌
+  unfolding by_code
   expr-atom z h g = rw (step, lt-ltb code 3 h, g)
 
   module _ (k : 3 ≤ code) where
     pub expr_operator : (z : Expr) (a1 m1 : List ℕ) → code ≡ 5 → resolved z a1 m1 ≡ resolve_op (resolve_expr (d - 1) s t p e) s t e pos a m st → resolved z a1 m1 ≡ resolve_expr d s t p e pos a m st
-    unfolding by_code when◌then◌else◌
+    unfolding by_code
     expr_operator z a1 m1 h g = rw (step, le-ltb code 3 k, eq-eqb code 5 h) g
 
     module _ (l : code ≡ 5 → ⊥) where
       pub expr-part : (z : Expr) (a1 m1 : List ℕ) → code < 7 → resolved z a1 m1 ≡ part (resolve_expr (d - 1) s t p e) code s t e pos a m st → resolved z a1 m1 ≡ resolve_expr d s t p e pos a m st
-      unfolding by_code when◌then◌else◌
+      unfolding by_code
       expr-part z a1 m1 h g = rw (step, le-ltb code 3 k, ne_eqb code 5 l, lt-ltb code 7 h) g
 
       module _ (o : 7 ≤ code) where
         pub expr_pool : code ≡ 7 → resolved (Expr.No 32) a m ≡ resolve_expr d s t p e pos a m st
-        unfolding by_code when◌then◌else◌
+        unfolding by_code
         expr_pool h = rw (step, le-ltb code 3 k, ne_eqb code 5 l, le-ltb code 7 o, eq-eqb code 7 h)
 
         pub expr-call : (z : Expr) (a1 m1 : List ℕ) → (code ≡ 7 → ⊥) → resolved z a1 m1 ≡ resolve_call (resolve_expr (d - 1) s t p e) s t p e pos a m st →
             resolved z a1 m1 ≡ resolve_expr d s t p e pos a m st
-        unfolding by_code when◌then◌else◌
+        unfolding by_code
         expr-call z a1 m1 h g = rw (step, le-ltb code 3 k, ne_eqb code 5 l, le-ltb code 7 o, ne_eqb code 7 h) g
 
 -- ---- an atom that is read is the value itself
@@ -369,7 +369,7 @@ module _ (d : ℕ) (s t p : List ℕ) (e : Env) (pos : ℕ) (a m : List ℕ) (st
 
   plain-atom : (q : ℕ) → get_or s (pos + 0) 0 ≡ 0 → q ≡ plain_local s t p e (le16 s (pos + 1)) → 7 ≤ q →
       operand (plain_operand q s pos st) a m ≡ expr_value (resolve_expr d s t p e) s t e pos a m st
-  unfolding plain_operand read_operand read_value copy_to when◌then◌else◌
+  unfolding plain_operand read_operand read_value copy_to
   plain-atom q k f h =
       let l : 8 ≤ q = plain_least s t p e (le16 s (pos + 1)) q f (omega arith) in
       rw (le-ltb q 8 l)
@@ -377,14 +377,14 @@ module _ (d : ℕ) (s t p : List ℕ) (e : Env) (pos : ℕ) (a m : List ℕ) (st
       (rw k (name_plain s t p pos e st (le16 s (pos + 1)) refl (after pos 3) refl q _ f l refl)) refl)
 
   integer_atom : get_or s (pos + 0) 0 ≡ 1 → operand (plain_operand 7 s pos st) a m ≡ expr_value (resolve_expr d s t p e) s t e pos a m st
-  unfolding plain_operand read_operand read_value copy_to when◌then◌else◌
+  unfolding plain_operand read_operand read_value copy_to
   integer_atom k =
       value_atom (ExprValue.Const (le64 s (after pos 1)) 65535) (constant (le64 s (after pos 1))) (after pos 9) (omega arith)
       (atom_integer (get_or s (pos + 0) 0) s t p pos e st (after pos 1) _ (after pos 9) k refl refl refl) refl
 
 pub value_plain : (d : ℕ) (s t p : List ℕ) (e : Env) (pos : ℕ) (a m : List ℕ) (st : State) (q : ℕ) (z : Operand) → q ≡ plain_at d s t p pos e → 7 ≤ q →
     z ≡ plain_operand q s pos st → operand z a m ≡ expr_value (resolve_expr d s t p e) s t e pos a m st
-unfolding plain_at when◌then◌else◌
+unfolding plain_at
 value_plain d s t p e pos a m st q z f h g = rw g (go (eqb d 0) refl (eqb (get_or s (pos + 0) 0) 0) refl (eqb (get_or s (pos + 0) 0) 1) refl f)
   where
     go : (x : Bool) → eqb d 0 ≡ x → (y : Bool) → eqb (get_or s (pos + 0) 0) 0 ≡ y → (w : Bool) → eqb (get_or s (pos + 0) 0) 1 ≡ w →

@@ -25,24 +25,24 @@ use Rattle.expr_scope.specs.Scopes.{find_param, Found, own_of, own_local, tmp_of
 
 -- ---- locals
 pub plain_own_none : (t : List ℕ) (name k : ℕ) → k ≡ get_or t (2048 + name % 1024) 0 → k ≡ 0 → 0 ≡ plain_found (own_local t name)
-unfolding plain_found own_local own_of when◌then◌else◌
+unfolding plain_found own_local own_of
 plain_own_none t name k e z = rw (← e, z)
 
 pub plain-field : (t : List ℕ) (name k : ℕ) → k ≡ get_or t (2048 + name % 1024) 0 → (k ≡ 0 → ⊥) → k % 2 ≡ 1 → 3 + 8 * (k / 2 + 1) ≡ plain_found (own_local t name)
-unfolding plain_found own_local own_of when◌then◌else◌
+unfolding plain_found own_local own_of
 plain-field t name k e z o = rw (← e, ne_eqb k 0 z, eq-eqb (k % 2) 1 o)
 
 pub plain-subtable : (t : List ℕ) (name k : ℕ) → k ≡ get_or t (2048 + name % 1024) 0 → (k ≡ 0 → ⊥) → (k % 2 ≡ 1 → ⊥) → 4 + 8 * (k / 2) ≡ plain_found (own_local t name)
-unfolding plain_found own_local own_of when◌then◌else◌
+unfolding plain_found own_local own_of
 plain-subtable t name k e z o = rw (← e, ne_eqb k 0 z, ne_eqb (k % 2) 1 o) (omega arith)
 
 module _ (p : List ℕ) (name k : ℕ) (f : (k ≡ small p (name % 1024)) × (k < 1024)) where
   pub plain-tmp_none : k ≡ 0 → 0 ≡ plain_found (tmp_local p name)
-  unfolding plain_found tmp_local tmp_of when◌then◌else◌
+  unfolding plain_found tmp_local tmp_of
   plain-tmp_none z = rw (← f.0, z)
 
   pub plain-tmp : (k ≡ 0 → ⊥) → 6 + 8 * k ≡ plain_found (tmp_local p name)
-  unfolding plain_found tmp_local tmp_of when◌then◌else◌
+  unfolding plain_found tmp_local tmp_of
   plain-tmp z = rw (← f.0, ne_eqb k 0 z) (omega arith)
 
 -- 0 tells that none is found
@@ -58,15 +58,15 @@ or_other Found.Nothing p name z = absurd (z refl)
 
 module _ (t p : List ℕ) (own : Bool) (name q : ℕ) where
   pub plain-scoped : own ≡ false → q ≡ plain_found (tmp_local p name) → q ≡ plain_found (lookup_local t p own name)
-  unfolding lookup_local when◌then◌else◌
+  unfolding lookup_local
   plain-scoped z e = rw z e
 
   pub plain_own_else : (r : ℕ) → own ≡ true → q ≡ plain_found (own_local t name) → q ≡ 0 → r ≡ plain_found (tmp_local p name) → r ≡ plain_found (lookup_local t p own name)
-  unfolding lookup_local when◌then◌else◌
+  unfolding lookup_local
   plain_own_else r z e k f = f ∙ rw z (sym (or_zero (own_local t name) p name (sym e ∙ k)))
 
   pub plain_own : own ≡ true → q ≡ plain_found (own_local t name) → (q ≡ 0 → ⊥) → q ≡ plain_found (lookup_local t p own name)
-  unfolding lookup_local when◌then◌else◌
+  unfolding lookup_local
   plain_own z e k = e ∙ rw z (sym (or_other (own_local t name) p name (λ y. k (e ∙ y))))
 
 -- ---- globals
@@ -99,30 +99,30 @@ module _ (t : List ℕ) (name : ℕ) (x : Symbol) (f : (x ≡ lookup t name) × 
 -- ---- names
 module _ (s t p : List ℕ) (e : Env) (name : ℕ) (a : ℕ) (ea : a ≡ le16 s 28) where
   pub plain-next : name ≡ a → 9 ≡ plain_inner s t p e name
-  unfolding plain_inner when◌then◌else◌
+  unfolding plain_inner
   plain-next h = rw (← ea, eq-eqb name a h)
 
   module _ (h : name ≡ a → ⊥) (b : ℕ) (eb : b ≡ le16 s 26) where
     pub plain_start : name ≡ b → 8 ≡ plain_inner s t p e name
-    unfolding plain_inner when◌then◌else◌
+    unfolding plain_inner
     plain_start k = rw (← ea, ne_eqb name a h, ← eb, eq-eqb name b k)
 
     module _ (k : name ≡ b → ⊥) (q : ℕ) (l : q ≡ plain_found (lookup_local t p e.own name)) where
       pub plain_inner_global : (r : ℕ) → q ≡ 0 → r ≡ plain_global (lookup t name) → r ≡ plain_inner s t p e name
-      unfolding plain_inner plain_or when◌then◌else◌
+      unfolding plain_inner plain_or
       plain_inner_global r z f = rw (← ea, ne_eqb name a h, ← eb, ne_eqb name b k, ← l, eq-eqb q 0 z) f
 
       pub plain_inner_local : (q ≡ 0 → ⊥) → q ≡ plain_inner s t p e name
-      unfolding plain_inner plain_or when◌then◌else◌
+      unfolding plain_inner plain_or
       plain_inner_local z = rw (← ea, ne_eqb name a h, ← eb, ne_eqb name b k, ← l, ne_eqb q 0 z)
 
 module _ (s t p : List ℕ) (e : Env) (name i : ℕ) (f : i ≡ find_param e.count p name) where
   pub plain_param : 0 < i → 0 ≡ plain_local s t p e name
-  unfolding plain_local when◌then◌else◌
+  unfolding plain_local
   plain_param h = rw (← f, lt-ltb 0 i h)
 
   pub plain_inner_lem : (q : ℕ) → i ≤ 0 → q ≡ plain_inner s t p e name → q ≡ plain_local s t p e name
-  unfolding plain_local when◌then◌else◌
+  unfolding plain_local
   plain_inner_lem q h g = rw (← f, le-ltb 0 i h) g
 
 pub ruleset plain_laws = (plain_own_none, plain-field, plain-subtable, plain-tmp, plain-tmp_none, plain-scoped, plain_own_else, plain_own, plain-register, plain-bits, plain-wrong_kind, plain-next, plain_start, plain_inner_global, plain_inner_local, plain_param, plain_inner_lem)
@@ -139,7 +139,7 @@ data Sure (x : Found) : Type 0 where
   sure_none : x ≡ Found.Nothing → Sure x
 
 own_sure : (k : ℕ) → Sure (own_of k)
-unfolding own_of when◌then◌else◌
+unfolding own_of
 own_sure k = go (eqb k 0) (eqb (k % 2) 1)
   where
     go : (a b : Bool) → Sure (when a then Found.Nothing else (when b then Found.Is (local 3 (k / 2)) else Found.Is (local 4 (k / 2 - 1))))
@@ -148,7 +148,7 @@ own_sure k = go (eqb k 0) (eqb (k % 2) 1)
     go false false = sure 4 (k / 2 - 1) (omega arith) refl
 
 tmp_sure : (k : ℕ) → Sure (tmp_of k)
-unfolding tmp_of when◌then◌else◌
+unfolding tmp_of
 tmp_sure k = go (eqb k 0)
   where
     go : (a : Bool) → Sure (when a then Found.Nothing else Found.Is (local 6 (k - 1)))
@@ -161,7 +161,7 @@ or_sure (Found.Is v) p name a b = a
 or_sure Found.Nothing p name a b = b
 
 lookup_sure : (t p : List ℕ) (own : Bool) (name : ℕ) → Sure (lookup_local t p own name)
-unfolding lookup_local own_local tmp_local when◌then◌else◌
+unfolding lookup_local own_local tmp_local
 lookup_sure t p true name = or_sure (own_local t name) p name (own_sure (get_or t (2048 + name % 1024) 0)) (tmp_sure (small p (name % 1024)))
 lookup_sure t p false name = tmp_sure (small p (name % 1024))
 
@@ -177,14 +177,14 @@ global_told s t (Symbol.Macro i) = told_wrong 23 refl refl
 global_told s t (Symbol.Other i) = told_wrong 23 refl refl
 
 found_told : (x : Found) (q : ℕ) (y : Meaning) → Sure x → Told q y → Told (plain_or (plain_found x) q) (found_or x y)
-unfolding plain_or plain_found found_or when◌then◌else◌
+unfolding plain_or plain_found found_or
 found_told x q y (sure k n l e) f =
     let z : eqb (plain k n) 0 ≡ false = ne_eqb (plain k n) 0 (λ w. omega arith) in
     told k n l (rw (e, z)) (rw e)
 found_told x q y (sure_none e) f = rw e f
 
 inner_told : (s t p : List ℕ) (e : Env) (name : ℕ) → Told (plain_inner s t p e name) (inner_meaning s t p e name)
-unfolding plain_inner inner_meaning when◌then◌else◌
+unfolding plain_inner inner_meaning
 inner_told s t p e name = go (eqb name (le16 s 28)) (eqb name (le16 s 26))
   where
     q : ℕ
@@ -201,7 +201,7 @@ inner_told s t p e name = go (eqb name (le16 s 28)) (eqb name (le16 s 26))
 
 -- a number below 8 tells that no local is meant
 found_else : (x : Found) (q : ℕ) (y : Meaning) → plain_or (plain_found x) q < 8 → found_or x y ≡ y
-unfolding plain_or plain_found found_or when◌then◌else◌
+unfolding plain_or plain_found found_or
 found_else (Found.Is v) q y l =
     let k : eqb (plain v.kind v.number) 0 ≡ false = ne_eqb (plain v.kind v.number) 0 (λ w. omega arith) in
     let h : plain v.kind v.number < 8 = rw k at l in
@@ -209,7 +209,7 @@ found_else (Found.Is v) q y l =
 found_else Found.Nothing q y l = refl
 
 inner_else : (s t p : List ℕ) (e : Env) (name : ℕ) → plain_inner s t p e name < 8 → inner_meaning s t p e name ≡ global_meaning s t (lookup t name)
-unfolding plain_inner inner_meaning when◌then◌else◌
+unfolding plain_inner inner_meaning
 inner_else s t p e name = go (eqb name (le16 s 28)) (eqb name (le16 s 26))
   where
     x : Found
@@ -222,7 +222,7 @@ inner_else s t p e name = go (eqb name (le16 s 28)) (eqb name (le16 s 26))
     go false false l = found_else x (plain_global (lookup t name)) _ l
 
 ident_told : (s t p : List ℕ) (e : Env) (name : ℕ) → Told (plain_local s t p e name) (resolve_ident s t p e name)
-unfolding plain_local resolve_ident param_or when◌then◌else◌
+unfolding plain_local resolve_ident param_or
 ident_told s t p e name = go (ltb 0 (find_param e.count p name))
   where
     x : Meaning

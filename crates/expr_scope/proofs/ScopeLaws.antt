@@ -33,7 +33,7 @@ use Rattle.expr_scope.proofs.PlainLaws.{inner_plain, inner_other}
 -- ---- parameters, from the last one down
 pub param_hit : (p : List ℕ) (name i at w r : ℕ) → 0 < i → at ≡ param_place (i - 1) → w ≡ get_or p (at + 0) 0 → w ≡ name →
     find_param i p name ≡ r → i ≡ r
-unfolding find_param when◌then◌else◌
+unfolding find_param
 param_hit p name zero at w r h a g q e = absurd (omega arith)
 param_hit p name (suc i) at w r h a g q e =
     let d : suc i - 1 ≡ i = omega arith in
@@ -42,7 +42,7 @@ param_hit p name (suc i) at w r h a g q e =
 
 pub param_miss : (p : List ℕ) (name i at w r : ℕ) → 0 < i → at ≡ param_place (i - 1) → w ≡ get_or p (at + 0) 0 → (w ≡ name → ⊥) →
     find_param i p name ≡ r → find_param (i - 1) p name ≡ r
-unfolding find_param when◌then◌else◌
+unfolding find_param
 param_miss p name zero at w r h a g q e = absurd (omega arith)
 param_miss p name (suc i) at w r h a g q e =
     let d : suc i - 1 ≡ i = omega arith in
@@ -86,11 +86,11 @@ meaning-wrong s t (Symbol.Other i) o = refl
 -- ---- what a name means
 module _ (s t p : List ℕ) (e : Env) (name i : ℕ) (f : i ≡ find_param e.count p name) where
   pub ident_param : (at : ℕ) (k : Slot) (x : ExprValue) → 0 < i → at ≡ param_place (i - 1) → k ≡ slot_at p at → x ≡ of_slot k → Meaning.Means x ≡ resolve_ident s t p e name
-  unfolding resolve_ident param_or when◌then◌else◌
+  unfolding resolve_ident param_or
   ident_param at k x h a q r = rw (← f, lt-ltb 0 i h, ← a, ← q, r)
 
   ident_inner : (r : Meaning) → i ≤ 0 → r ≡ inner_meaning s t p e name → r ≡ resolve_ident s t p e name
-  unfolding resolve_ident param_or when◌then◌else◌
+  unfolding resolve_ident param_or
   ident_inner r h q = rw (← f, le-ltb 0 i h) q
 
   module _ (h : i ≤ 0) (q : ℕ) (g : q ≡ plain_inner s t p e name) where

@@ -56,36 +56,36 @@ slot_range x v from bits r q e = rw q e
 -- ---- a slot's value, by its tag
 module _ (k : Slot) where
   pub of_local : k.tag ≡ 0 → ExprValue.Local k.a ≡ of_slot k
-  unfolding of_slot of_parts when◌then◌else◌
+  unfolding of_slot of_parts
   of_local z = rw z
 
   pub of_unbound : k.tag ≡ 1 → ExprValue.Unbound k.a ≡ of_slot k
-  unfolding of_slot of_parts when◌then◌else◌
+  unfolding of_slot of_parts
   of_unbound z = rw z
 
   pub of_const : k.tag ≡ 2 → ExprValue.Const k.x k.y ≡ of_slot k
-  unfolding of_slot of_parts when◌then◌else◌
+  unfolding of_slot of_parts
   of_const z = rw z
 
   pub of_apply : k.tag ≡ 3 → ExprValue.Apply (k.x % 256) k.y (k.x / 256) k.a k.b ≡ of_slot k
-  unfolding of_slot of_parts when◌then◌else◌
+  unfolding of_slot of_parts
   of_apply z = rw z
 
   pub of_ram : k.tag ≡ 4 → ExprValue.RamRef k.a k.x ≡ of_slot k
-  unfolding of_slot of_parts when◌then◌else◌
+  unfolding of_slot of_parts
   of_ram z = rw z
 
   pub of_register : k.tag ≡ 5 → ExprValue.RegisterRef k.a k.x ≡ of_slot k
-  unfolding of_slot of_parts when◌then◌else◌
+  unfolding of_slot of_parts
   of_register z = rw z
 
   pub of_address : k.tag ≡ 6 → ExprValue.AddressOf k.a k.x ≡ of_slot k
-  unfolding of_slot of_parts when◌then◌else◌
+  unfolding of_slot of_parts
   of_address z = rw z
 
   pub of_range : (k.tag ≡ 0 → ⊥) → (k.tag ≡ 1 → ⊥) → (k.tag ≡ 2 → ⊥) → (k.tag ≡ 3 → ⊥) → (k.tag ≡ 4 → ⊥) → (k.tag ≡ 5 → ⊥) → (k.tag ≡ 6 → ⊥) →
       ExprValue.BitRange k.a k.x k.y ≡ of_slot k
-  unfolding of_slot of_parts when◌then◌else◌
+  unfolding of_slot of_parts
   of_range n0 n1 n2 n3 n4 n5 n6 =
       rw (ne_eqb k.tag 0 n0, ne_eqb k.tag 1 n1, ne_eqb k.tag 2 n2, ne_eqb k.tag 3 n3, ne_eqb k.tag 4 n4, ne_eqb k.tag 5 n5, ne_eqb k.tag 6 n6)
 

@@ -54,15 +54,15 @@ symbol_other (Symbol.Other i) o = refl
 
 module _ (f : Inbuilt) (t : List ℕ) (name n : ℕ) where
   pub inbuilt_none : (x : Symbol) (r : Callee) → f.arguments ≡ 0 → (x ≡ lookup t name) × (place_of x < 8192) → r ≡ symbol_called x → r ≡ inbuilt_or f (lookup t name) n
-  unfolding inbuilt_or when◌then◌else◌
+  unfolding inbuilt_or
   inbuilt_none x r z e h = rw (eq-eqb f.arguments 0 z, ← e.0) h
 
   pub inbuilt-count : (f.arguments ≡ 0 → ⊥) → (f.arguments ≡ n → ⊥) → Callee.No 33 ≡ inbuilt_or f (lookup t name) n
-  unfolding inbuilt_or when◌then◌else◌
+  unfolding inbuilt_or
   inbuilt-count z k = rw (ne_eqb f.arguments 0 z, ne_eqb f.arguments n k)
 
   pub inbuilt_found : (f.arguments ≡ 0 → ⊥) → f.arguments ≡ n → Callee.Inbuilt f.op ≡ inbuilt_or f (lookup t name) n
-  unfolding inbuilt_or when◌then◌else◌
+  unfolding inbuilt_or
   inbuilt_found z k = rw (ne_eqb f.arguments 0 z, eq-eqb f.arguments n k)
 
 pub callee_law : (s t : List ℕ) (name n at : ℕ) (f : Inbuilt) (r : Callee) → at ≡ get_or t (name % 1024) 0 → f ≡ inbuilt_at s at → r ≡ inbuilt_or f (lookup t name) n → r ≡ callee_of s t name n
@@ -119,12 +119,12 @@ module _ (s t a m args : List ℕ) (n id next : ℕ) (e : Env) (st : State) (x :
 
   pub some-two : (v : Value) (st1 : State) (z : Expr) (a2 m2 : List ℕ) → r ≡ Read.Value v st1 → 1 < n → resolved z a2 m2 ≡ user_op_two s t a1 m1 args id next v e st1 →
       resolved z a2 m2 ≡ user_op_some s t a m args n id next e st
-  unfolding user_op_some on_read when◌then◌else◌
+  unfolding user_op_some on_read
   some-two v st1 z a2 m2 q h g = rw (← ex, ← f, q, lt-ltb 1 n h) g
 
   pub some_one : (v : Value) (st1 : State) (y : Value) (z : Expr) → r ≡ Read.Value v st1 → n ≤ 1 → y ≡ absent → z ≡ applied 63 id 1 v y next st1 →
       resolved z a1 m1 ≡ user_op_some s t a m args n id next e st
-  unfolding user_op_some on_read when◌then◌else◌
+  unfolding user_op_some on_read
   some_one v st1 y z q h ey g = rw (← ex, ← f, q, le-ltb 1 n h, g, ey)
 
 module _ (s t a m args : List ℕ) (n id next : ℕ) (e : Env) (st : State) (r : Pushed) (a1 m1 : List ℕ) (f : pushed r a1 m1 ≡ pass_args s t a m args n e st) where
@@ -134,26 +134,26 @@ module _ (s t a m args : List ℕ) (n id next : ℕ) (e : Env) (st : State) (r :
 
   pub user-op_none : (st1 : State) (y w : Value) (z : Expr) → r ≡ Pushed.Done st1 → n ≡ 0 → y ≡ absent → w ≡ absent → z ≡ applied 63 id 0 y w next st1 →
       resolved z a1 m1 ≡ call_user_op s t a m args n id next e st
-  unfolding call_user_op on_pushed when◌then◌else◌
+  unfolding call_user_op on_pushed
   user-op_none st1 y w z q h ey ew g = rw (← f, q, eq-eqb n 0 h, g, ey, ew)
 
   pub user-op-some : (st1 : State) (z : Expr) (a2 m2 : List ℕ) → r ≡ Pushed.Done st1 → (n ≡ 0 → ⊥) → resolved z a2 m2 ≡ user_op_some s t a1 m1 args n id next e st1 →
       resolved z a2 m2 ≡ call_user_op s t a m args n id next e st
-  unfolding call_user_op on_pushed when◌then◌else◌
+  unfolding call_user_op on_pushed
   user-op-some st1 z a2 m2 q h g = rw (← f, q, ne_eqb n 0 h) g
 
 -- ---- subpieces
 pub integer_not_one : (s : List ℕ) (pos n : ℕ) → (n ≡ 1 → ⊥) → 18446744073709551615 ≡ only_integer s pos n
-unfolding only_integer when◌then◌else◌
+unfolding only_integer
 integer_not_one s pos n h = rw (ne_eqb n 1 h)
 
 module _ (s : List ℕ) (pos n : ℕ) (h : n ≡ 1) (k : ℕ) (e : k ≡ get_or s (pos + 4) 0) where
   pub integer_other : (k ≡ 1 → ⊥) → 18446744073709551615 ≡ only_integer s pos n
-  unfolding only_integer when◌then◌else◌
+  unfolding only_integer
   integer_other z = rw (eq-eqb n 1 h, ← e, ne_eqb k 1 z)
 
   pub integer_found : (at v : ℕ) → k ≡ 1 → at ≡ after pos 5 → v ≡ le64 s at → v ≡ only_integer s pos n
-  unfolding only_integer when◌then◌else◌
+  unfolding only_integer
   integer_found at v z q g = rw (eq-eqb n 1 h, ← e, eq-eqb k 1 z, ← q) g
 
 pub subpiece_no : (s : List ℕ) (pos n : ℕ) (r : Read) (k : ℕ) → r ≡ Read.No k → Expr.No k ≡ subpiece_of s pos n r
@@ -162,11 +162,11 @@ subpiece_no s pos n r k q = rw q
 
 module _ (s : List ℕ) (pos n : ℕ) (r : Read) (v : Value) (st : State) (q : r ≡ Read.Value v st) (offset : ℕ) (e : offset ≡ only_integer s pos n) where
   pub subpiece_far : 255 < offset → Expr.No 35 ≡ subpiece_of s pos n r
-  unfolding subpiece_of subpiece_from when◌then◌else◌
+  unfolding subpiece_of subpiece_from
   subpiece_far h = rw (q, ← e, lt-ltb 255 offset h)
 
   pub subpiece_from_lem : (y : Value) (next : ℕ) (z : Expr) → offset ≤ 255 → y ≡ absent → next ≡ after pos 13 → z ≡ applied 66 offset 1 v y next st → z ≡ subpiece_of s pos n r
-  unfolding subpiece_of subpiece_from when◌then◌else◌
+  unfolding subpiece_of subpiece_from
   subpiece_from_lem y next z h ey en g = rw (q, ← e, le-ltb 255 offset h, ← en) (rw ey at g)
 
 module _ (s t p a m : List ℕ) (pos name n : ℕ) (e : Env) (st : State) (x : Meaning) (f : x ≡ resolve_ident s t p e name) where

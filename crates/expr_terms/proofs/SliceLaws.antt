@@ -56,15 +56,14 @@ module _ (s t a m : List ℕ) (e : Env) (x : ExprValue) (from bits next : ℕ) (
       rw (← f, q, ← g1, h)
 
 pub bytes_none : (size : ℕ) → size ≡ 65535 → 8 ≡ const_bytes size
-unfolding const_bytes when◌then◌else◌
+unfolding const_bytes
 bytes_none size h = rw (eq-eqb size 65535 h)
 
 pub bytes-some : (size : ℕ) → (size ≡ 65535 → ⊥) → size % 65536 ≡ const_bytes size
-unfolding const_bytes when◌then◌else◌
+unfolding const_bytes
 bytes-some size h = rw (ne_eqb size 65535 h)
 
 small_by : (b : Bool) (size : ℕ) → (when b then 8 else size % 65536) < 65536
-unfolding when◌then◌else◌
 small_by true size = omega arith
 small_by false size = omega arith
 
@@ -74,25 +73,25 @@ bytes_small size k e = rw e (small_by (eqb size 65535) size)
 
 module _ (value size from bits next : ℕ) (st : State) (k : ℕ) (e : k ≡ const_bytes size) where
   pub const_past : 8 * k < from % 65536 + bits % 65536 → Expr.No 36 ≡ slice_const value size from bits next st
-  unfolding slice_const when◌then◌else◌
+  unfolding slice_const
   const_past h = rw (← e, lt-ltb (8 * k) (from % 65536 + bits % 65536) h)
 
   module _ (h : from % 65536 + bits % 65536 ≤ 8 * k) where
     pub const-shift : 64 ≤ from → Expr.No 41 ≡ slice_const value size from bits next st
-    unfolding slice_const when◌then◌else◌
+    unfolding slice_const
     const-shift l = rw (← e, le-ltb (8 * k) (from % 65536 + bits % 65536) h, le-leb 64 from l)
 
     pub const-part : (x z : ℕ) → from < 64 → x ≡ low_bits value from bits → z ≡ needed_bytes bits → Expr.Value next (ExprValue.Const x z) st ≡ slice_const value size from bits next st
-    unfolding slice_const when◌then◌else◌
+    unfolding slice_const
     const-part x z l p q = rw (← e, le-ltb (8 * k) (from % 65536 + bits % 65536) h, lt-leb 64 from l, p, q)
 
 module _ (v : Value) (before whole from bits next : ℕ) (st : State) where
   pub range_past : whole < from % 65536 + bits % 65536 → Expr.No 36 ≡ slice_range v before whole from bits next st
-  unfolding slice_range when◌then◌else◌
+  unfolding slice_range
   range_past h = rw (lt-ltb whole (from % 65536 + bits % 65536) h)
 
   pub range_part : from % 65536 + bits % 65536 ≤ whole → Expr.Value next (ExprValue.BitRange v (before % 65536 + from % 65536) bits) st ≡ slice_range v before whole from bits next st
-  unfolding slice_range when◌then◌else◌
+  unfolding slice_range
   range_part h = rw (le-ltb whole (from % 65536 + bits % 65536) h)
 
 pub bits-local : (s t a m : List ℕ) (e : Env) (x : ExprValue) (from bits next : ℕ) (st : State) (v : Value) → x ≡ ExprValue.Local v →
@@ -124,11 +123,11 @@ bits_other s t a m e (ExprValue.AddressOf v z) from bits next st r a1 m1 o h = h
 
 -- ---- addresses
 pub or_size_none : (size other : ℕ) → size ≡ 65535 → other ≡ or_size size other
-unfolding or_size when◌then◌else◌
+unfolding or_size
 or_size_none size other h = rw (eq-eqb size 65535 h)
 
 pub or_size_some : (size other : ℕ) → (size ≡ 65535 → ⊥) → size ≡ or_size size other
-unfolding or_size when◌then◌else◌
+unfolding or_size
 or_size_some size other h = rw (ne_eqb size 65535 h)
 
 pub const-space-local : (x : ExprValue) (size next : ℕ) (st : State) (v : Value) (k : ℕ) (w : Value) → x ≡ ExprValue.Local v → k ≡ or_size size v.size → w ≡ with_size k v →
@@ -180,16 +179,16 @@ module _ (s t : List ℕ) (name : ℕ) (x : Symbol) (e : (x ≡ lookup t name) �
       go (Symbol.Other i) o = unfold space_of in refl
 
 pub space-named : (s t : List ℕ) (name : ℕ) (r : Space) → (name ≡ 65535 → ⊥) → r ≡ named_space s t name → r ≡ resolve_space s t name
-unfolding resolve_space when◌then◌else◌
+unfolding resolve_space
 space-named s t name r h e = rw (ne_eqb name 65535 h) e
 
 module _ (s t : List ℕ) (name i : ℕ) (h : name ≡ 65535) (e : i ≡ le16 s 24) where
   pub space_none : i ≡ 65535 → Space.No 39 ≡ resolve_space s t name
-  unfolding resolve_space default_space when◌then◌else◌
+  unfolding resolve_space default_space
   space_none k = rw (eq-eqb name 65535 h, ← e, eq-eqb i 65535 k)
 
   pub space_default : (r : Space) → (i ≡ 65535 → ⊥) → r ≡ kind_of_space s t i → r ≡ resolve_space s t name
-  unfolding resolve_space default_space when◌then◌else◌
+  unfolding resolve_space default_space
   space_default r k f = rw (eq-eqb name 65535 h, ← e, ne_eqb i 65535 k) f
 
 pub reference_no : (kind size next : ℕ) (r : Read) (n : ℕ) → r ≡ Read.No n → Expr.No n ≡ reference kind size next r
@@ -198,15 +197,15 @@ reference_no kind size next r n q = rw q
 
 module _ (kind size next : ℕ) (r : Read) (v : Value) (st : State) (q : r ≡ Read.Value v st) where
   pub reference_ram : (z : ℕ) → kind ≡ 0 → z ≡ or_size size 0 → Expr.Value next (ExprValue.RamRef v z) st ≡ reference kind size next r
-  unfolding reference reference_to when◌then◌else◌
+  unfolding reference reference_to
   reference_ram z k h = rw (q, eq-eqb kind 0 k, h)
 
   pub reference-register : (z : ℕ) → kind ≡ 1 → z ≡ or_size size 0 → Expr.Value next (ExprValue.RegisterRef v z) st ≡ reference kind size next r
-  unfolding reference reference_to when◌then◌else◌
+  unfolding reference reference_to
   reference-register z k h = rw (q, k, h)
 
   pub reference_other : (kind ≡ 0 → ⊥) → (kind ≡ 1 → ⊥) → Expr.No 40 ≡ reference kind size next r
-  unfolding reference reference_to when◌then◌else◌
+  unfolding reference reference_to
   reference_other k l = rw (q, ne_eqb kind 0 k, ne_eqb kind 1 l)
 
 module _ (s t a m : List ℕ) (e : Env) (space size : ℕ) (x : ExprValue) (next : ℕ) (st : State) where
@@ -220,12 +219,12 @@ module _ (s t a m : List ℕ) (e : Env) (space size : ℕ) (x : ExprValue) (next
   in_space_lem r kind r2 a1 m1 z f q g h = rw (← f, q, ← g, h)
 
   pub address_const : (i : ℕ) (r : Expr) → i ≡ le16 s 30 → space ≡ i → r ≡ in_const_space x size next st → resolved r a m ≡ resolve_address s t a m e space size x next st
-  unfolding resolve_address when◌then◌else◌
+  unfolding resolve_address
   address_const i r f h q = rw (← f, eq-eqb space i h, q)
 
   pub address_space : (i : ℕ) (r : Expr) (a1 m1 : List ℕ) → i ≡ le16 s 30 → (space ≡ i → ⊥) → resolved r a1 m1 ≡ address_in s t a m e space size x next st →
       resolved r a1 m1 ≡ resolve_address s t a m e space size x next st
-  unfolding resolve_address when◌then◌else◌
+  unfolding resolve_address
   address_space i r a1 m1 f h q = rw (← f, ne_eqb space i h) q
 
 pub ruleset slice_laws = (low-bits_law, unbound_no, unbound_yes, slice_read_no, slice_read_yes, bytes_none, bytes-some, const_past, const-shift, const-part, range_past, range_part, bits-local, bits-const, bits_range, bits_other)

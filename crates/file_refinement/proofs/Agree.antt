@@ -131,7 +131,7 @@ abbrev pub Tests : (ℕ → Read ℕ) → ℕ → Refusal → Type 0
 Tests check lim r = (v : ℕ) (u : List ℕ) → check v u ≡ (when ltb v lim then parsed v u else refused r)
 
 pub up_to_lem : (limit : ℕ) → Tests (up_to limit) (suc limit) outside_limit
-unfolding up_to on when◌then◌else◌ require
+unfolding up_to on require
 up_to_lem limit v u = rw (leb-suc-suc v limit) (go (leb v limit))
   where
     go : (b : Bool) → on (require b outside_limit u) (λ _ t. parsed v t) ≡ (when b then parsed v u else refused outside_limit)
@@ -139,7 +139,7 @@ up_to_lem limit v u = rw (leb-suc-suc v limit) (go (leb v limit))
     go false = refl
 
 pub naming-below : (count : ℕ) → Tests (naming count) count names_nothing
-unfolding naming on when◌then◌else◌ require
+unfolding naming on require
 naming-below count v u = go (ltb v count)
   where
     go : (b : Bool) → on (require b names_nothing u) (λ _ t. parsed v t) ≡ (when b then parsed v u else refused names_nothing)
@@ -154,13 +154,13 @@ pub record Number (s : List ℕ) (n p lim : ℕ) (a q v : ℕ) : Type 0 where
   pub below : a < lim
 
 pub stuck_number : (v : Cursor → ℕ) (n len : ℕ) (lim : Cursor → ℕ) (k : ℕ) → Stuck (λ c. number (v c) n len (lim c) k c)
-unfolding number when◌then◌else◌
+unfolding number
 stuck_number v n len lim k = record { stays = λ c h. rw h }
 
 -- a number of n bytes that is tested
 pub number_agrees : (s : List ℕ) (n v p lim w : ℕ) (check : ℕ → Read ℕ) (r : Refusal) → Tests check lim r → v ≡ le n s p → p ≤ length s →
     Agrees s (Number s n p lim) (on (little_endian n (drop p s)) check) (number v n (length s) lim (refusal_number r) (cursor p 0 w))
-unfolding number when◌then◌else◌ on refusal_number
+unfolding number on refusal_number
 number_agrees s n v p lim w check r test e b = go (leb (p + n) (length s)) refl
   where
     passed : (t : Bool) → ltb v lim ≡ t → leb (p + n) (length s) ≡ true → Agrees s (Number s n p lim) (on (little_endian n (drop p s)) check) (when leb (p + n) (length s) then (when ltb v lim then cursor (p + n) 0 v else cursor p (refusal_number r) 0) else cursor p 3 0)
@@ -195,7 +195,7 @@ unfolding skip
 stuck_skip s n = stuck_number (λ _. 0) n (length s) (λ _. 1) 0
 
 pub stuck_refuse : (k : ℕ) → Stuck (refuse k)
-unfolding refuse when◌then◌else◌
+unfolding refuse
 stuck_refuse k = record { stays = λ c h. rw h }
 
 pub u16_agrees : (s : List ℕ) (lim p w : ℕ) (check : ℕ → Read ℕ) (r : Refusal) → Tests check lim r → p ≤ length s →
@@ -227,7 +227,7 @@ pub record NumberOr (s : List ℕ) (p lim : ℕ) (a : Option ℕ) (q v : ℕ) : 
 
 pub u16or_agrees : (s : List ℕ) (lim p w : ℕ) (check : ℕ → Read ℕ) (r : Refusal) → Tests check lim r → p ≤ length s →
     Agrees s (NumberOr s p lim) (on (little_endian 2 (drop p s)) (or_absent check)) (u16or s lim (refusal_number r) (cursor p 0 w))
-unfolding u16or number when◌then◌else◌ on or_absent refusal_number or_else
+unfolding u16or number on or_absent refusal_number or_else
 u16or_agrees s lim p w check r test b = go (leb (p + 2) (length s)) (eqb (le16 s p) 65535) (ltb (le16 s p) lim) refl refl refl
   where
     go : (t u x : Bool) → leb (p + 2) (length s) ≡ t → eqb (le16 s p) 65535 ≡ u → ltb (le16 s p) lim ≡ x → Agrees s (NumberOr s p lim) (on (little_endian 2 (drop p s)) (or_absent check)) (number (le16 s p) 2 (length s) (when eqb (le16 s p) 65535 then 65536 else lim) (refusal_number r) (cursor p 0 w))
@@ -249,7 +249,7 @@ u16or_agrees s lim p w check r test b = go (leb (p + 2) (length s)) (eqb (le16 s
 -- n bytes passed over
 pub skip_agrees : (s : List ℕ) (n p w : ℕ) → p ≤ length s →
     Agrees s (λ a q v. (a ≡ le n s p) × (q ≡ p + n)) (little_endian n (drop p s)) (skip s n (cursor p 0 w))
-unfolding skip number when◌then◌else◌ refusal_number
+unfolding skip number refusal_number
 skip_agrees s n p w b = go (leb (p + n) (length s)) refl
   where
     go : (t : Bool) → leb (p + n) (length s) ≡ t → Agrees s (λ a q v. (a ≡ le n s p) × (q ≡ p + n)) (little_endian n (drop p s)) (when leb (p + n) (length s) then cursor (p + n) 0 0 else cursor p 3 0)

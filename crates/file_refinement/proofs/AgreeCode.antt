@@ -29,7 +29,7 @@ pub code_agrees : (s : List ℕ) {A : Type 0} (P : A → ℕ → ℕ → Type 0)
     ((b : ℕ) → n ≤ b → get_elem? alternatives b ≡ none) →
     ((b : ℕ) → b < n → b ≡ get_or s p 0 → suc p ≤ length s → Agrees s P (choose (get_elem? alternatives b) (drop (suc p) s)) (f (cursor (suc p) 0 b))) →
     Agrees s P (d.code alternatives (drop p s)) (f (u8 s n 3 (cursor p 0 v)))
-unfolding d.code on u8 number when◌then◌else◌ choose refusal_number
+unfolding d.code on u8 number choose refusal_number
 code_agrees s {A} P alternatives f n p v b st past k = go (leb (p + 1) (length s)) (ltb (get_or s p 0) n) refl refl
   where
     go : (t x : Bool) → leb (p + 1) (length s) ≡ t → ltb (get_or s p 0) n ≡ x →
@@ -202,7 +202,7 @@ arm s m item f r (suc (suc (suc (suc (suc (suc (suc (suc zero)))))))) q h b = ca
 arm s m item f r (suc (suc (suc (suc (suc (suc (suc (suc (suc n))))))))) q h b = absurd (omega arith)
 
 refuse-four : (q v : ℕ) → w.refuse 4 (cursor q 0 v) ≡ cursor q (refusal_number outside_limit) 0
-unfolding w.refuse when◌then◌else◌ refusal_number
+unfolding w.refuse refusal_number
 refuse-four q v = refl
 
 deepest : (s : List ℕ) (l : List (Read PcodeExpr)) (b q : ℕ) → b < length l → (u : List ℕ) → choose (get_elem? (map (λ (_ : Read PcodeExpr). refuse {A = PcodeExpr} outside_limit) l) b) u ≡ refused outside_limit

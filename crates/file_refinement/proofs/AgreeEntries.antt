@@ -31,15 +31,15 @@ use Rattle.file_refinement.proofs.AgreeLists.{Base, Own, Taken, marked, named_th
 -- Where the lists mark their names, and with what.
 
 pub stamp_global : (k i : ℕ) → k < 7 → i < 1024 → stamp k i ≡ 1 + k + 8 * i
-unfolding stamp when◌then◌else◌
+unfolding stamp
 stamp_global k i h l = rw (lt-ltb k 7 h) (omega arith)
 
 pub stamp-local : (k i : ℕ) → 7 ≤ k → k < 9 → i < 1024 → stamp k i ≡ k - 6 + 2 * i
-unfolding stamp when◌then◌else◌
+unfolding stamp
 stamp-local k i h g l = rw (le-ltb k 7 h) (omega arith)
 
 pub base_global : (k : ℕ) → k < 7 → Base k 1024
-unfolding slot when◌then◌else◌
+unfolding slot
 base_global k h = record {
   slots = λ x l. rw (lt-ltb k 7 h) (omega arith);
   inside = omega arith;
@@ -47,7 +47,7 @@ base_global k h = record {
 }
 
 pub base-local : (k : ℕ) → 7 ≤ k → k < 9 → Base k 2048
-unfolding slot when◌then◌else◌
+unfolding slot
 base-local k h g = record {
   slots = λ x l. rw (le-ltb k 7 h) (omega arith);
   inside = omega arith;
@@ -309,7 +309,7 @@ macros_more s i n p own q0 q1 q taken t t1 t' x xs short z li b0 lo o m h = reco
     first (suc j) k = let f : suc i + j ≡ i + suc j = omega arith in rw (← f) (h.ordinal j (omega arith) ∙ sums (bodies (take j xs)))
 
 rest-macro : (s : List ℕ) (i : ℕ) (w : Reading) → rest_of 5 s i w ≡ macro s (le16 s 2) i w
-unfolding rest_of when◌then◌else◌
+unfolding rest_of
 rest-macro s i w = refl
 
 pub macros-fill : (s : List ℕ) → length s < 65536 → le16 s 2 ≤ 1024 → (n i p v : ℕ) (t taken : List ℕ) → i + n ≤ 128 → length t ≡ 3344 → get_or t 3338 0 < 65536 → Taken 1024 t taken → p ≤ length s →

@@ -45,11 +45,11 @@ unfolding macro_head params
 stuck_head s m = stuck_both _ _ (stuck_both _ _ (stuck_u8 s 9 4) (stuck_counted _ (stuck_u16 s m 5))) (stuck_u16 s 1025 4)
 
 stays_named : (k : ℕ) (s : List ℕ) (i : ℕ) → Stays (named k s i)
-unfolding named mark when◌then◌else◌
+unfolding named mark
 stays_named k s i = record { stays = λ w h. let e = (stuck_u16 s (le16 s 2) 5).stays w.cursor h in rw (e, h) }
 
 pub stays_rest : (k : ℕ) (s : List ℕ) (i : ℕ) → Stays (rest_of k s i)
-unfolding rest_of macro after when◌then◌else◌
+unfolding rest_of macro after
 stays_rest k s i = record { stays = λ w h. go w h (eqb k 5) }
   where
     go : (w : Reading) → eqb w.cursor.bad 0 ≡ false → (b : Bool) → (when b then macro s (le16 s 2) i w else reading (after k s w.cursor) w.table).cursor ≡ w.cursor
@@ -75,7 +75,7 @@ unfoldable pub marked : (ℕ → ℕ) → ℕ → List ℕ → ℕ → ℕ → �
 marked f i names x old = when eqb old 0 then stamp_of f (position (eqb x) i names) else old
 
 pub marked_none : (f : ℕ → ℕ) (i x old : ℕ) → old ≡ marked f i [] x old
-unfolding marked stamp_of position when◌then◌else◌
+unfolding marked stamp_of position
 marked_none f i x old = go (eqb old 0) refl
   where
     go : (b : Bool) → eqb old 0 ≡ b → old ≡ (when eqb old 0 then 0 else old)
@@ -83,11 +83,11 @@ marked_none f i x old = go (eqb old 0) refl
     go false e = rw e
 
 marked_own : (f : ℕ → ℕ) (i own old : ℕ) (names : List ℕ) → eqb (f i) 0 ≡ false → old ≡ 0 → marked f (suc i) names own (f i) ≡ marked f i (own ∷ names) own old
-unfolding marked stamp_of position when◌then◌else◌
+unfolding marked stamp_of position
 marked_own f i own old names n z = rw (n, eq-eqb old 0 z, eq-eqb own own refl)
 
 marked_other : (f : ℕ → ℕ) (i x own old : ℕ) (names : List ℕ) → (x ≡ own → ⊥) → marked f (suc i) names x old ≡ marked f i (own ∷ names) x old
-unfolding marked position when◌then◌else◌
+unfolding marked position
 marked_other f i x own old names n = rw (ne_eqb x own n)
 
 -- the taken names are the marked ones
@@ -98,7 +98,7 @@ same_place : (base x own : ℕ) → base + x ≡ base + own → x ≡ own
 same_place base x own q = omega arith
 
 pub taken_more : (base : ℕ) (t : List ℕ) (taken : List ℕ) (own v : ℕ) → base + own < length t → eqb v 0 ≡ false → Taken base t taken → Taken base (set t (base + own) v) (own ∷ taken)
-unfolding any when◌then◌else◌
+unfolding any
 taken_more base t taken own v l n a x h = go (eqb x own) refl
   where
     go : (b : Bool) → eqb x own ≡ b → (when eqb x own then true else any (eqb x) taken) ≡ not (eqb (get_or (set t (base + own) v) (base + x) 0) 0)
@@ -106,7 +106,7 @@ taken_more base t taken own v l n a x h = go (eqb x own) refl
     go false e = let z : x ≡ own → ⊥ = eqb-false _ _ e in rw (e, get_or-set_other t (base + own) (base + x) v 0 (λ q. z (same_place base x own q))) (a x h)
 
 any_swap : (p : ℕ → Bool) (o : ℕ) (xs ys : List ℕ) → any p (xs ++ (o ∷ ys)) ≡ any p (o ∷ (xs ++ ys))
-unfolding any when◌then◌else◌
+unfolding any
 any_swap p o [] ys = refl
 any_swap p o (x ∷ xs) ys = rw (any_swap p o xs ys) (go (p o) (p x))
   where
@@ -131,15 +131,15 @@ pub record Own (s : List ℕ) (base p : ℕ) (t : List ℕ) (own q : ℕ) : Type
   pub free : get_or t (base + own) 0 ≡ 0
 
 mark_kept : (at v : ℕ) (w : Reading) → eqb w.cursor.bad 0 ≡ false → mark at v w ≡ w
-unfolding mark when◌then◌else◌
+unfolding mark
 mark_kept at v w h = rw h
 
 mark-free : (at v q u : ℕ) (t : List ℕ) → eqb (get_or t at 0) 0 ≡ true → mark at v (reading (cursor q 0 u) t) ≡ reading (cursor q 0 u) (set t at v)
-unfolding mark when◌then◌else◌
+unfolding mark
 mark-free at v q u t h = rw h
 
 mark_taken : (at v q u : ℕ) (t : List ℕ) → eqb (get_or t at 0) 0 ≡ false → mark at v (reading (cursor q 0 u) t) ≡ reading (cursor q (refusal_number spelled_twice) 0) t
-unfolding mark when◌then◌else◌ refuse refusal_number
+unfolding mark refuse refusal_number
 mark_taken at v q u t h = rw h
 
 passes : (h : Reading → Reading) → Stays h → (at v : ℕ) (c : Cursor) (t : List ℕ) (q : ℕ) (r : Refusal) → c ≡ cursor q (refusal_number r) 0 → (h (mark at v (reading c t))).cursor ≡ cursor q (refusal_number r) 0
@@ -178,7 +178,7 @@ pub record EntriesHeld (s : List ℕ) (k base : ℕ) {A : Type 0} (name_of : A �
   pub all_taken : Taken base t' (map name_of xs ++ taken)
 
 rest_plain : (k : ℕ) (s : List ℕ) (i : ℕ) (w : Reading) → eqb k 5 ≡ false → rest_of k s i w ≡ reading (after k s w.cursor) w.table
-unfolding rest_of when◌then◌else◌
+unfolding rest_of
 rest_plain k s i w h = rw h
 
 entries_none : (s : List ℕ) (k base : ℕ) {A : Type 0} (name_of : A → ℕ) (f : ℕ → ℕ → A) (wide i p : ℕ) (taken t : List ℕ) → Taken base t taken → EntriesHeld s k base name_of f wide i 0 p taken t [] p t

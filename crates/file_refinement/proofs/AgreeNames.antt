@@ -166,7 +166,7 @@ same-agree (suc n) i s a b h k =
     rw (drop-cons s (a + i) 0 (omega arith), drop-cons s (b + i) 0 (omega arith), p, q, same-agree n (suc i) s a b (omega arith) (omega arith))
 
 longer : (xs ys : List ℕ) → (length xs ≡ length ys → ⊥) → same_numbers xs ys ≡ false
-unfolding same_numbers when◌then◌else◌
+unfolding same_numbers
 longer [] [] h = absurd (h refl)
 longer [] (y ∷ ys) h = refl
 longer (x ∷ xs) [] h = refl
@@ -206,7 +206,7 @@ letters_there : (s : List ℕ) (p : ℕ) → suc p + get_or s p 0 ≤ length s �
 letters_there s p h = rw length-drop (omega arith)
 
 pub alike_same : (s : List ℕ) (p q : ℕ) → Named s p → Named s q → same_numbers (spelled_at s p) (spelled_at s q) ≡ alike s p q
-unfolding alike le16 when◌then◌else◌
+unfolding alike le16
 alike_same s p q a b = go (eqb (get_or s p 0) (get_or s q 0)) refl
   where
     go : (t : Bool) → eqb (get_or s p 0) (get_or s q 0) ≡ t → same_numbers (spelled_at s p) (spelled_at s q) ≡ alike s p q
@@ -244,7 +244,7 @@ pub record Spelt (s : List ℕ) (p : ℕ) (a : List ℕ) (q v : ℕ) : Type 0 wh
 
 spelling-last : (s t : List ℕ) (i p v : ℕ) (x : Bool) → Named s p → ((j : ℕ) → j < i → Named s (get_or t j 0)) → leb (p + 1) (length s) ≡ true → eqb (get_or s p 0) 0 ≡ false → ltb (get_or s p 0) 25 ≡ true → leb (p + 1 + get_or s p 0) (length s) ≡ true → known s t p i ≡ x →
     Agrees s (Spelt s p) (d.spelling (taken_of s t i) (drop p s)) (spelling s t i (cursor p 0 v))
-unfolding d.spelling spelling letters u8 skip number w.refuse when◌then◌else◌ on require refusal_number
+unfolding d.spelling spelling letters u8 skip number w.refuse on require refusal_number
 spelling-last s t i p v true a n e1 e2 e3 e4 e5 =
     let f = a.few in
     let h = a.inside in
@@ -258,7 +258,7 @@ spelling-last s t i p v false a n e1 e2 e3 e4 e5 =
     (rw (u8_at s p (omega arith), le-leb 1 (get_or s p 0) a.some, le-leb (get_or s p 0) 24 f, bytes_at (get_or s p 0) s (suc p) h, known_any s t p i a n, e5)) (rw (e1, e3, e2, e4, e5, o))
 
 pub spelling_agrees : (s t : List ℕ) (i p v : ℕ) → p ≤ length s → ((j : ℕ) → j < i → Named s (get_or t j 0)) → Agrees s (Spelt s p) (d.spelling (taken_of s t i) (drop p s)) (spelling s t i (cursor p 0 v))
-unfolding d.spelling spelling letters u8 skip number w.refuse when◌then◌else◌ on require refusal_number
+unfolding d.spelling spelling letters u8 skip number w.refuse on require refusal_number
 spelling_agrees s t i p v b n = go (leb (p + 1) (length s)) (eqb (get_or s p 0) 0) (ltb (get_or s p 0) 25) (leb (p + 1 + get_or s p 0) (length s)) (known s t p i) refl refl refl refl refl
   where
     go : (x1 x2 x3 x4 x5 : Bool) → leb (p + 1) (length s) ≡ x1 → eqb (get_or s p 0) 0 ≡ x2 → ltb (get_or s p 0) 25 ≡ x3 → leb (p + 1 + get_or s p 0) (length s) ≡ x4 → known s t p i ≡ x5 →
@@ -302,7 +302,7 @@ pub place-fits : (s : List ℕ) (p : ℕ) → length s < 65536 → p ≤ length 
 place-fits s p h b = omega arith
 
 stuck_spelling : (s t : List ℕ) (i : ℕ) → Stuck (spelling s t i)
-unfolding spelling when◌then◌else◌
+unfolding spelling
 stuck_spelling s t i = record { stays = λ c h. let e = (stuck_u8 s 25 4).stays c h in rw (e, h) }
 
 pub stays_name : (s : List ℕ) (i : ℕ) → Stays (name_at s i)

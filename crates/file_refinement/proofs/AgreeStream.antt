@@ -43,7 +43,7 @@ zeros_all zero q s e = rw (drop_of_length-le s {i = q} (omega arith))
 zeros_all (suc n) q s e = rw (drop-cons s q 0 (omega arith), eqb_sym (get_or s q 0) 0, zeros_all n (suc q) s (omega arith))
 
 stuck_tail : (s : List ℕ) → Stuck (tail s)
-unfolding tail when◌then◌else◌
+unfolding tail
 stuck_tail s = record { stays = λ c h. go c h (zeros (length s - c.at) c.at s) }
   where
     go : (c : Cursor) → eqb c.bad 0 ≡ false → (b : Bool) → (when b then c else refuse 3 c) ≡ c
@@ -51,11 +51,11 @@ stuck_tail s = record { stays = λ c h. go c h (zeros (length s - c.at) c.at s) 
     go c h false = (stuck_refuse 3).stays c h
 
 refuse_three : (q v : ℕ) → refuse 3 (cursor q 0 v) ≡ cursor q (refusal_number malformed) 0
-unfolding refuse when◌then◌else◌ refusal_number
+unfolding refuse refusal_number
 refuse_three q v = refl
 
 pub tail_agrees : (s : List ℕ) (q v : ℕ) → q ≤ length s → Agrees s Any (nothing_left (drop q s)) (tail s (cursor q 0 v))
-unfolding nothing_left tail when◌then◌else◌ require
+unfolding nothing_left tail require
 tail_agrees s q v b = rw (zeros_all (length s - q) q s refl) (go (all (eqb 0) (drop q s)))
   where
     go : (x : Bool) → Agrees s Any (require x malformed (drop q s)) (when x then cursor q 0 v else refuse 3 (cursor q 0 v))

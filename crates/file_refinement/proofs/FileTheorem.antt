@@ -105,7 +105,7 @@ file_refusal file =
     else refusal_of (stream_of file)
 
 pub file-refusal : (file : List ℕ) → file_refusal file ≡ refusal_of (d.read file)
-unfolding file_refusal d.read refusal_of when◌then◌else◌ on
+unfolding file_refusal d.read refusal_of on
 file-refusal file = go (stream_of file) refl
   where
     go : (p : Parsed (List ℕ)) → stream_of file ≡ p → (when eqb (refusal_of p) 0 then (read_stream (joined (length file / 512) file) no_table).refusal else refusal_of p) ≡ refusal_of (on p (λ stream _. d.read_section stream))

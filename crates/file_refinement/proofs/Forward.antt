@@ -73,7 +73,7 @@ unfolding naming
 naming_takes count v = then_takes 0 _ _ (require_takes _ _) (pure_takes v)
 
 absent_takes : (check : ℕ → Read ℕ) (v : ℕ) → ((w : ℕ) → Takes 0 (check w)) → Takes 0 (or_absent check v)
-unfolding or_absent when◌then◌else◌
+unfolding or_absent
 absent_takes check v p = go (eqb v 65535)
   where
     go : (b : Bool) → Takes 0 (when b then pure none else (check v >>= (λ w. pure (some w))))

@@ -42,7 +42,7 @@ module _ (s t0 : List ℕ) (short : length s < 65536) (long : length t0 ≡ 3344
   filled v lim b (stops r q e f) = turned r e (ap (λ (c : Rattle.file_syntax.specs.declared.cursor.Cursor.Cursor). c.bad) f)
 
   answered : Answered s t0 (d.read_section s) (read_stream s t0)
-  unfolding d.read_section read_stream when◌then◌else◌ on
+  unfolding d.read_section read_stream on
   answered = read (header_agrees s)
     where
       read : Agrees s (λ h q v. (h ≡ header_at s) × (q ≡ 34) × Limits s) (d.header (drop 0 s)) (header s) → Answered s t0 (d.read_section s) (read_stream s t0)
@@ -71,7 +71,7 @@ unfoldable or_mark : ℕ → ℕ → ℕ
 or_mark a b = when eqb a 0 then b else a
 
 or_assoc : (a b c : ℕ) → or_mark (or_mark a b) c ≡ or_mark a (or_mark b c)
-unfolding or_mark when◌then◌else◌
+unfolding or_mark
 or_assoc a b c = go (eqb a 0) refl
   where
     go : (x : Bool) → eqb a 0 ≡ x → (when eqb (when eqb a 0 then b else a) 0 then c else (when eqb a 0 then b else a)) ≡ (when eqb a 0 then (when eqb b 0 then c else b) else a)
@@ -79,7 +79,7 @@ or_assoc a b c = go (eqb a 0) refl
     go false e = rw (e, e)
 
 or_none_lem : (a : ℕ) → or_mark a 0 ≡ a
-unfolding or_mark when◌then◌else◌
+unfolding or_mark
 or_none_lem a = go (eqb a 0) refl
   where
     go : (x : Bool) → eqb a 0 ≡ x → (when eqb a 0 then 0 else a) ≡ a
@@ -91,7 +91,7 @@ mark_in : (k i : ℕ) → List ℕ → ℕ → ℕ
 mark_in k i ns x = stamp_of (λ j. 1 + k + 8 * j) (position (eqb x) i ns)
 
 stamp_in : (k i : ℕ) (ns : List ℕ) (x : ℕ) → k < 7 → i + length ns ≤ 1024 → stamp_of (stamp k) (position (eqb x) i ns) ≡ mark_in k i ns x
-unfolding stamp_of position mark_in when◌then◌else◌
+unfolding stamp_of position mark_in
 stamp_in k i [] x h l = refl
 stamp_in k i (n ∷ ns) x h l = go (eqb x n) (stamp_in k (suc i) ns x h (omega arith))
   where
@@ -107,7 +107,7 @@ marked_in k ns x old h l = rw (stamp_in k 0 ns x h (omega arith))
 -- symbols of one kind, by the number that its words have
 module _ {A : Type 0} (name : A → ℕ) (symbol : ℕ → A → Symbol) (k : ℕ) (numbered : (i : ℕ) (y : A) → symbol_word (some (symbol i y)) ≡ 1 + k + 8 * i) where
   find_in : (i : ℕ) (ys : List A) (rest : List (ℕ × Symbol)) (x : ℕ) → symbol_word (find x (symbols name symbol i ys ++ rest)) ≡ or_mark (mark_in k i (map name ys) x) (symbol_word (find x rest))
-  unfolding find first symbols symbol_word mark_in stamp_of position or_mark when◌then◌else◌ ◌or◌
+  unfolding find first symbols symbol_word mark_in stamp_of position or_mark ◌or◌
   find_in i [] rest x = refl
   find_in i (y ∷ ys) rest x = go (eqb x (name y)) (find_in (suc i) ys rest x)
     where
@@ -121,14 +121,14 @@ unfolding find first symbol_word
 nothing_found x = refl
 
 or_first : (a : ℕ) → or_mark 0 a ≡ a
-unfolding or_mark when◌then◌else◌
+unfolding or_mark
 or_first a = refl
 
 regrouped : (a b c d e f g : ℕ) → or_mark (or_mark (or_mark (or_mark (or_mark (or_mark (or_mark 0 a) b) c) d) e) f) g ≡ or_mark a (or_mark b (or_mark c (or_mark d (or_mark e (or_mark f (or_mark g 0))))))
 regrouped a b c d e f g = rw (or_first a) (simp (or_assoc, or_none_lem))
 
 local-stamp : (k i : ℕ) (ns : List ℕ) (x : ℕ) → 7 ≤ k → k < 9 → i + length ns ≤ 1024 → stamp_of (stamp k) (position (eqb x) i ns) ≡ stamp_of (λ j. k - 6 + 2 * j) (position (eqb x) i ns)
-unfolding stamp_of position when◌then◌else◌
+unfolding stamp_of position
 local-stamp k i [] x h g l = refl
 local-stamp k i (n ∷ ns) x h g l = go (eqb x n) (local-stamp k (suc i) ns x h g (omega arith))
   where
@@ -138,7 +138,7 @@ local-stamp k i (n ∷ ns) x h g l = go (eqb x n) (local-stamp k (suc i) ns x h 
     go false e = e
 
 local_marks : (fs ss : List ℕ) (x : ℕ) → length fs ≤ 1024 → length ss ≤ 1024 → marked (stamp 8) 0 ss x (marked (stamp 7) 0 fs x 0) ≡ local_word (position (eqb x) 0 fs) (position (eqb x) 0 ss)
-unfolding marked when◌then◌else◌ local_word stamp_of
+unfolding marked local_word stamp_of
 local_marks fs ss x a b = rw (local-stamp 7 0 fs x (omega arith) (omega arith) (omega arith), local-stamp 8 0 ss x (omega arith) (omega arith) (omega arith)) (go (position (eqb x) 0 fs) (position (eqb x) 0 ss))
   where
     go : (f g : Option ℕ) → (when eqb (stamp_of (λ j. 7 - 6 + 2 * j) f) 0 then stamp_of (λ j. 8 - 6 + 2 * j) g else stamp_of (λ j. 7 - 6 + 2 * j) f) ≡ local_word f g

@@ -20,7 +20,6 @@ use Rattle.file_section.specs.Chains.{last_four, key, spread, hash, Hashed, last
 -- What a test that is true tells.
 
 both : (b x : Bool) → (when b then x else false) ≡ true → (b ≡ true) × (x ≡ true)
-unfolding when◌then◌else◌
 both true x e = (refl, e)
 both false x e = let z : ◌≡◌ {A = ℕ} 0 1 = cc in absurd (omega arith)
 
@@ -70,7 +69,7 @@ alike-hash s a b e h g = ap spread (alike-key s a b e h g)
 -- The last name of a hash.
 
 last_le : (s t : List ℕ) (h n : ℕ) → last s t h n ≤ n
-unfolding last when◌then◌else◌
+unfolding last
 last_le s t h zero = omega arith
 last_le s t h (suc n) = go (eqb (hash s (get_or t n 0)) h) (last_le s t h n)
   where
@@ -80,7 +79,7 @@ last_le s t h (suc n) = go (eqb (hash s (get_or t n 0)) h) (last_le s t h n)
 
 -- the name that it is has that hash
 last_has : (s t : List ℕ) (h n : ℕ) → 0 < last s t h n → hash s (get_or t (last s t h n - 1) 0) ≡ h
-unfolding last when◌then◌else◌
+unfolding last
 last_has s t h zero l = absurd (omega arith)
 last_has s t h (suc n) l = go (eqb (hash s (get_or t n 0)) h) refl l (last_has s t h n)
   where
@@ -90,7 +89,7 @@ last_has s t h (suc n) l = go (eqb (hash s (get_or t n 0)) h) refl l (last_has s
 
 -- the names after it are spelled otherwise
 last-known : (s t : List ℕ) (p h n : ℕ) → Hashed s p h → ((j : ℕ) → j < n → get_or s (get_or t j 0) 0 < 256) → known s t p (last s t h n) ≡ known s t p n
-unfolding last known when◌then◌else◌
+unfolding last known
 last-known s t p h zero d small = refl
 last-known s t p h (suc n) d small = go (eqb (hash s (get_or t n 0)) h) (alike s p (get_or t n 0)) refl refl (last-known s t p h n d (λ j l. small j (omega arith)))
   where
@@ -158,13 +157,13 @@ last-four s p l h =
     rw (y, z, v) (omega arith)
 
 pub key-short : (s : List ℕ) (p l z w : ℕ) → (l ≡ get_or s (p + 0) 0) × (l < 256) → (z ≡ get_or s (p + l) 0) × (z < 256) → (ltb l 3 || eqb z 0) ≡ true → (w ≡ le16 s p) × (w < 65536) → (w + 65536 * z ≡ key s p) × (w + 65536 * z < 4294967296) × (get_or s p 0 < 256)
-unfolding key when◌then◌else◌
+unfolding key
 key-short s p l z w el ez h ew =
     let f : l ≡ get_or s p 0 = rw add-zero at el.0 in
     (rw (← f, ← ez.0, h, ← ew.0), omega arith, omega arith)
 
 pub key-long : (s : List ℕ) (p l z r : ℕ) → (l ≡ get_or s (p + 0) 0) × (l < 256) → (z ≡ get_or s (p + l) 0) × (z < 256) → (ltb l 3 || eqb z 0) ≡ false → (r ≡ le32 s (p + (l - 3))) × (r < 4294967296) → (r ≡ key s p) × (r < 4294967296) × (get_or s p 0 < 256)
-unfolding key when◌then◌else◌
+unfolding key
 key-long s p l z r el ez h e =
     let f : l ≡ get_or s p 0 = rw add-zero at el.0 in
     (rw (← f, ← ez.0, h) (e.0 ∙ last-four s p l (key_within s p l z ez h).0), e.1, omega arith)
@@ -207,7 +206,7 @@ module _ (s t k : List ℕ) (h i v q : ℕ) (c : Linked s t k i) (d : Hashed s q
       (rw (same_name, ← d.is, last_set s t h i i v (omega arith), get_or-set_other (set k i (get_or k (1024 + h) 0)) (1024 + h) i (i + 1) 0 (λ e. omega arith), get_or-set_same k i (get_or k (1024 + h) 0) 0 (omega (arith, c.size))) (c.heads h d.below))
 
   more_heads : (o : ℕ) → o < 256 → get_or (link h i k) (1024 + o) 0 ≡ last s (set t i v) o (i + 1)
-  unfolding link last when◌then◌else◌
+  unfolding link last
   more_heads o l = rw (add-one, same_name, ← d.is) (go (eqb h o) refl)
     where
       go : (b : Bool) → eqb h o ≡ b → get_or (set (set k i (get_or k (1024 + h) 0)) (1024 + h) (suc i)) (1024 + o) 0 ≡ (when b then suc i else last s (set t i v) o i)

@@ -21,31 +21,31 @@ use Rattle.file_syntax.proofs.CodeLaws.{counted_law}
 use Rattle.file_section.proofs.HeaderLaws.{header-short}
 
 pub slot_global : (k x : ℕ) → k < 7 → 1024 + x % 65536 ≡ slot k x
-unfolding slot when◌then◌else◌
+unfolding slot
 slot_global k x h = simp (lt-ltb k 7 h)
 
 pub slot-local : (k x : ℕ) → 7 ≤ k → 2048 + x % 65536 ≡ slot k x
-unfolding slot when◌then◌else◌
+unfolding slot
 slot-local k x h = simp (le-ltb k 7 h)
 
 pub stamp_global : (k i : ℕ) → k < 7 → (1 + k + 8 * i) % 65536 ≡ stamp k i
-unfolding stamp when◌then◌else◌
+unfolding stamp
 stamp_global k i h = simp (lt-ltb k 7 h)
 
 pub stamp-local : (k i : ℕ) → 7 ≤ k → (k - 6 + 2 * i) % 65536 ≡ stamp k i
-unfolding stamp when◌then◌else◌
+unfolding stamp
 stamp-local k i h = simp (le-ltb k 7 h)
 
 pub mark_bad : (at v : ℕ) (c : Cursor) (t : List ℕ) → (c.bad ≡ 0 → ⊥) → reading c t ≡ mark at v (reading c t)
-unfolding mark when◌then◌else◌
+unfolding mark
 mark_bad at v c t h = simp (ne_eqb c.bad 0 h)
 
 pub mark_second : (at v o : ℕ) (c r : Cursor) (t : List ℕ) → c.bad ≡ 0 → o ≡ get_or t at 0 → (o ≡ 0 → ⊥) → r ≡ refuse 6 c → reading r t ≡ mark at v (reading c t)
-unfolding mark when◌then◌else◌
+unfolding mark
 mark_second at v o c r t h p q e = rw (eq-eqb c.bad 0 h, ← p, ne_eqb o 0 q, e)
 
 pub mark_new : (at v o : ℕ) (c : Cursor) (t t' : List ℕ) → c.bad ≡ 0 → o ≡ get_or t at 0 → o ≡ 0 → t' ≡ set t at v → reading c t' ≡ mark at v (reading c t)
-unfolding mark when◌then◌else◌
+unfolding mark
 mark_new at v o c t t' h p q e = rw (eq-eqb c.bad 0 h, ← p, eq-eqb o 0 q, e)
 
 which_rest : (v : ℕ) → (v ≡ 0 → ⊥) → (v ≡ 1 → ⊥) → (v ≡ 2 → ⊥) → (v ≡ 3 → ⊥) → (v ≡ 4 → ⊥) → (v ≡ 5 → ⊥) → (v ≡ 6 → ⊥) → (v ≡ 7 → ⊥) → which_of v ≡ Which.subtables
@@ -121,11 +121,11 @@ unfolding named
 named_law k s i m p q c v g t t1 hm hv hp hq e = rw (← hm.0, ← hv, ← hp, ← hq) e
 
 pub entry-macro : (k : ℕ) (s : List ℕ) (i m p q : ℕ) (c v g r : Cursor) (t t1 t2 : List ℕ) → (m ≡ le16 s 2) × (m < 65536) → v ≡ name s m c → p ≡ slot k v.val → q ≡ stamp k i → reading g t1 ≡ mark p q (reading v t) → k ≡ 5 → reading r t2 ≡ macro s m i (reading g t1) → reading r t2 ≡ entry k s i (reading c t)
-unfolding entry rest_of when◌then◌else◌
+unfolding entry rest_of
 entry-macro k s i m p q c v g r t t1 t2 hm hv hp hq e z h = rw (← named_law k s i m p q c v g t t1 hm hv hp hq e, eq-eqb k 5 z, ← hm.0) h
 
 pub entry_other : (k : ℕ) (s : List ℕ) (i m p q : ℕ) (c v g r : Cursor) (t t1 : List ℕ) → (m ≡ le16 s 2) × (m < 65536) → v ≡ name s m c → p ≡ slot k v.val → q ≡ stamp k i → reading g t1 ≡ mark p q (reading v t) → (k ≡ 5 → ⊥) → r ≡ after k s g → reading r t1 ≡ entry k s i (reading c t)
-unfolding entry rest_of when◌then◌else◌
+unfolding entry rest_of
 entry_other k s i m p q c v g r t t1 hm hv hp hq e z h = rw (← named_law k s i m p q c v g t t1 hm hv hp hq e, ne_eqb k 5 z, h)
 
 pub list_law : (s : List ℕ) (k n i l : ℕ) (c₀ c : Cursor) (t₀ t1 t : List ℕ) → l ≡ c₀.at % 65536 → t1 ≡ set t₀ (3328 + k) l → (n ≡ le16 s (4 + 2 * k)) × (n < 65536) → n ≤ i → run (n - i) i (entry k s) (reading c t) ≡ run n 0 (entry k s) (reading c₀ t1) → reading c t ≡ list s k (reading c₀ t₀)
@@ -133,11 +133,11 @@ unfolding list
 list_law s k n i l c₀ c t₀ t1 t p q hn h e = rw (← p, ← q, ← hn.0) (run_end n i (entry k s) _ _ h e)
 
 pub zeros_found : (s : List ℕ) (i : ℕ) (w : Bool) → i < length s → (get_or s i 0 ≡ 0 → ⊥) → zeros (length s - i) i s ≡ w → false ≡ w
-unfolding zeros when◌then◌else◌
+unfolding zeros
 zeros_found s i w h d e = let z : length s - i ≡ suc (length s - (i + 1)) = omega arith in rw (z, ne_eqb (get_or s i 0) 0 d) at e
 
 pub zeros_more : (s : List ℕ) (i : ℕ) (w : Bool) → i < length s → get_or s i 0 ≡ 0 → zeros (length s - i) i s ≡ w → zeros (length s - (i + 1)) (i + 1) s ≡ w
-unfolding zeros when◌then◌else◌
+unfolding zeros
 zeros_more s i w h d e =
     let z : length s - i ≡ suc (length s - (i + 1)) = omega arith in
     let o : i + 1 ≡ suc i = omega arith in
@@ -170,11 +170,11 @@ zeros-eight s i v w h d z e =
     rw (up i 7 1 8 refl) at e8
 
 pub tail_found : (s : List ℕ) (c r : Cursor) → false ≡ zeros (length s - c.at) c.at s → r ≡ refuse 3 c → r ≡ tail s c
-unfolding tail when◌then◌else◌
+unfolding tail
 tail_found s c r p e = rw (← p) e
 
 pub tail-end : (s : List ℕ) (c : Cursor) → true ≡ zeros (length s - c.at) c.at s → c ≡ tail s c
-unfolding tail when◌then◌else◌
+unfolding tail
 tail-end s c p = rw (← p)
 
 pub statements_law : (s : List ℕ) (c b r : Cursor) (l m n : ℕ) (t t' : List ℕ) → l ≡ c.at % 65536 → t' ≡ set t 3337 l → (m ≡ le16 s 2) × (m < 65536) → (n ≡ le16 s 22) × (n < 65536) → b ≡ body s m n c → r ≡ tail s b → reading r t' ≡ statements s (reading c t)
@@ -182,7 +182,7 @@ unfolding statements
 statements_law s c b r l m n t t' p q hm hn hb e = rw (← p, ← q, ← hm.0, ← hn.0, ← hb, ← e)
 
 pub stream_bad : (s t : List ℕ) (h : Cursor) → h ≡ header s → (h.bad ≡ 0 → ⊥) → answer h.bad t ≡ read_stream s t
-unfolding read_stream when◌then◌else◌
+unfolding read_stream
 stream_bad s t h e z = rw (← e, ne_eqb h.bad 0 z)
 
 -- of a stream that is shorter than a header
@@ -190,7 +190,7 @@ pub stream_short : (s t : List ℕ) (h : Cursor) → length s < 34 → h ≡ hea
 stream_short s t h short e = stream_bad s t h e (header-short s h e short)
 
 pub stream_read : (s t t1 t2 t3 : List ℕ) (h c1 c2 c3 : Cursor) (m : ℕ) → h ≡ header s → h.bad ≡ 0 → (m ≡ le16 s 2) × (m < 65536) → reading c1 t1 ≡ names s m (reading h t) → reading c2 t2 ≡ lists s (reading c1 t1) → reading c3 t3 ≡ statements s (reading c2 t2) → answer c3.bad t3 ≡ read_stream s t
-unfolding read_stream when◌then◌else◌
+unfolding read_stream
 stream_read s t t1 t2 t3 h c1 c2 c3 m e z hm p q w =
     let f : names s (le16 s 2) (reading h t) ≡ reading c1 t1 = rw (← hm.0) (sym p) in
     rw (← e, eq-eqb h.bad 0 z, f, ← q, ← w)

@@ -18,19 +18,19 @@ both_true true b e = (refl, e)
 both_true false b e = absurd (false≢true e)
 
 pub refuse_kept : (k : ℕ) (c : Cursor) → (c.bad ≡ 0 → ⊥) → c ≡ refuse k c
-unfolding refuse when◌then◌else◌
+unfolding refuse
 refuse_kept k c h = simp (ne_eqb c.bad 0 h)
 
 pub refuse_new : (k : ℕ) (c : Cursor) → c.bad ≡ 0 → cursor c.at k 0 ≡ refuse k c
-unfolding refuse when◌then◌else◌
+unfolding refuse
 refuse_new k c h = simp (eq-eqb c.bad 0 h)
 
 pub number_kept : (v n len lim k : ℕ) (c : Cursor) → (c.bad ≡ 0 → ⊥) → c ≡ number v n len lim k c
-unfolding number when◌then◌else◌
+unfolding number
 number_kept v n len lim k c h = simp (ne_eqb c.bad 0 h)
 
 number_cut : (v n len lim k : ℕ) (c r : Cursor) → c.bad ≡ 0 → len < c.at + n → r ≡ refuse 3 c → r ≡ number v n len lim k c
-unfolding number refuse when◌then◌else◌
+unfolding number refuse
 number_cut v n len lim k c r h l e = simp (eq-eqb c.bad 0 h, lt-leb (c.at + n) len l) (e ∙ simp (eq-eqb c.bad 0 h))
 
 pub number_past : (v n len lim k : ℕ) (c r : Cursor) → c.bad ≡ 0 → len < c.at → r ≡ refuse 3 c → r ≡ number v n len lim k c
@@ -40,11 +40,11 @@ pub number_short : (v n len lim k : ℕ) (c r : Cursor) → c.bad ≡ 0 → c.at
 number_short v n len lim k c r h l m e = number_cut v n len lim k c r h (omega arith) e
 
 pub number_got : (v n len lim k : ℕ) (c : Cursor) → c.bad ≡ 0 → c.at ≤ len → n ≤ len - c.at → v < lim → cursor (c.at + n) 0 v ≡ number v n len lim k c
-unfolding number when◌then◌else◌
+unfolding number
 number_got v n len lim k c h l m b = simp (eq-eqb c.bad 0 h, le-leb (c.at + n) len (omega arith), lt-ltb v lim b)
 
 pub number_out : (v n len lim k : ℕ) (c r : Cursor) → c.bad ≡ 0 → c.at ≤ len → n ≤ len - c.at → lim ≤ v → r ≡ refuse k c → r ≡ number v n len lim k c
-unfolding number refuse when◌then◌else◌
+unfolding number refuse
 number_out v n len lim k c r h l m b e = simp (eq-eqb c.bad 0 h, le-leb (c.at + n) len (omega arith), le-ltb v lim b) (e ∙ simp (eq-eqb c.bad 0 h))
 
 -- a number that was read and not refused
@@ -55,7 +55,7 @@ pub record Read (v n len lim : ℕ) (c r : Cursor) : Type 0 where
   pub next : r.at ≡ c.at + n
 
 number_read : (v n len lim k : ℕ) (c : Cursor) → 0 < k → (number v n len lim k c).bad ≡ 0 → Read v n len lim c (number v n len lim k c)
-unfolding number when◌then◌else◌
+unfolding number
 number_read v n len lim k c l e = go (eqb c.bad 0) (leb (c.at + n) len) (ltb v lim) refl refl refl e
   where
     go : (a b d : Bool) → eqb c.bad 0 ≡ a → leb (c.at + n) len ≡ b → ltb v lim ≡ d →
@@ -79,11 +79,11 @@ unfolding u8
 u8_law s lim k v c r h e = e ∙ rw (h.0, add-zero)
 
 pub u16_none : (s : List ℕ) (lim k v : ℕ) (c r : Cursor) → v ≡ le16 s c.at → v ≡ 65535 → r ≡ u16 s 65536 k c → r ≡ u16or s lim k c
-unfolding u16 u16or when◌then◌else◌
+unfolding u16 u16or
 u16_none s lim k v c r h z e = e ∙ rw (eq-eqb (le16 s c.at) 65535 (sym h ∙ z))
 
 pub u16-some : (s : List ℕ) (lim k v : ℕ) (c r : Cursor) → v ≡ le16 s c.at → (v ≡ 65535 → ⊥) → r ≡ u16 s lim k c → r ≡ u16or s lim k c
-unfolding u16 u16or when◌then◌else◌
+unfolding u16 u16or
 u16-some s lim k v c r h z e = e ∙ rw (ne_eqb (le16 s c.at) 65535 (λ q. z (h ∙ q)))
 
 pub skip_law : (s : List ℕ) (n : ℕ) (c r : Cursor) → r ≡ number 0 n (length s) 1 0 c → r ≡ skip s n c
@@ -118,7 +118,7 @@ u16_out s lim k v c t h e l =
 
 -- of a cursor that is refused, or stands at the end, the number is not asked
 number_any : (v w n len lim k : ℕ) (c : Cursor) → 0 < n → (ltb c.at len && eqb c.bad 0) ≡ false → number v n len lim k c ≡ number w n len lim k c
-unfolding number when◌then◌else◌
+unfolding number
 number_any v w n len lim k c z e = go (eqb c.bad 0) (ltb c.at len) refl e
   where
     go : (a b : Bool) → ltb c.at len ≡ b → (b && a) ≡ false →

@@ -86,7 +86,7 @@ first_from {A} {B} f P h (x ∷ xs) b e = go (λ p. first_from f P h xs b p) (f 
     go rest (some c) p e = h x b (p ∙ e)
 
 operation_number_lem : (n : ℕ) (o : Operation) → operation_numbered n ≡ some o → operation_number o ≡ n
-unfolding operation_numbered when◌then◌else◌
+unfolding operation_numbered
 operation_number_lem n o e =
     first_from _ (λ o. operation_number o ≡ n) (λ row b p. first_from _ (λ o. operation_number o ≡ n) (λ x b p. go x b (eqb n (operation_number x)) refl p) row.operations b p) shapes o e
   where
@@ -114,7 +114,7 @@ unfolding below operation_numbered shapes operations_opens row_of
 none_below n = at_below (λ n. when is_some (operation_numbered n) then unknown else row_of n) (λ n. unknown) 66 n refl
 
 operation_none : (n : ℕ) → operation_numbered n ≡ none → row_of n ≡ unknown
-unfolding when◌then◌else◌ is_some
+unfolding is_some
 operation_none n e = go (ltb n 66) refl
   where
     go : (b : Bool) → ltb n 66 ≡ b → row_of n ≡ unknown
@@ -132,14 +132,14 @@ pub record KindIs (k op : ℕ) (kind : ActionKind) : Type 0 where
   pub right : eqb op (operation_word (operation_of kind)) ≡ operation_right k op
 
 op_is : (op : ℕ) (x : Option Operation) → operation_numbered op ≡ x → (kind : ActionKind) → and_then x (λ o. some (ActionKind.Op o)) ≡ some kind → KindIs 0 op kind
-unfolding and_then action_kind_number operation_of operation_word operation_right when◌then◌else◌
+unfolding and_then action_kind_number operation_of operation_word operation_right
 op_is op none p kind e = absurd (let z : ◌≡◌ {A = ℕ} 0 1 = cc in omega arith)
 op_is op (some o) p kind e =
     let z : ActionKind.Op o ≡ kind = cc in
     rw (← z) (record { number = refl; right = eq-eqb op (operation_number o) (sym (operation_number_lem op o p)) })
 
 pub kind_is : (k op : ℕ) (kind : ActionKind) → action_kind_numbered k op ≡ some kind → KindIs k op kind
-unfolding action_kind_numbered op_numbered or_else action_kind_number operation_of operation_word operation_right when◌then◌else◌
+unfolding action_kind_numbered op_numbered or_else action_kind_number operation_of operation_word operation_right
 kind_is zero op kind e = op_is op (operation_numbered op) refl kind e
 kind_is (suc zero) op kind e = let z : ActionKind.AddressOf ≡ kind = cc in rw (← z) (record { number = refl; right = refl })
 kind_is (suc (suc zero)) op kind e = let z : ActionKind.LoadRegister ≡ kind = cc in rw (← z) (record { number = refl; right = refl })
@@ -171,7 +171,7 @@ kind_none (suc (suc (suc (suc (suc (suc k)))))) op e = no_kind {k = suc (suc (su
 -- Counts and shapes.
 
 pub one-count : (n m : ℕ) (b o : Bool) → any (same_count (n, b)) ((m, o) ∷ []) ≡ same_count (n, b) (m, o)
-unfolding any when◌then◌else◌
+unfolding any
 one-count n m b o = go (same_count (n, b) (m, o))
   where
     go : (x : Bool) → (when x then true else false) ≡ x
@@ -179,7 +179,7 @@ one-count n m b o = go (same_count (n, b) (m, o))
     go false = refl
 
 no_outputs : (n : ℕ) (xs : List ℕ) (ys : List (ℕ × Bool)) → any (same_count (n, true)) (map no_output xs ++ ys) ≡ any (same_count (n, true)) ys
-unfolding any when◌then◌else◌ same_count
+unfolding any same_count
 no_outputs n [] ys = refl
 no_outputs n (x ∷ xs) ys = go (eqb n x) (no_outputs n xs ys)
   where
@@ -188,7 +188,7 @@ no_outputs n (x ∷ xs) ys = go (eqb n x) (no_outputs n xs ys)
     go false e = e
 
 few_outputs : (n : ℕ) → any (same_count (n, true)) (map with_output (0 ∷ 1 ∷ 2 ∷ [])) ≡ leb n 2
-unfolding any when◌then◌else◌ same_count
+unfolding any same_count
 few_outputs zero = refl
 few_outputs (suc zero) = refl
 few_outputs (suc (suc zero)) = refl
@@ -198,7 +198,7 @@ few_outputs (suc (suc (suc n))) = go (suc (suc (suc n))) (omega arith)
     go m h = rw (ne_eqb m 0 (λ z. omega arith), ne_eqb m 1 (λ z. omega arith), ne_eqb m 2 (λ z. omega arith), lt-leb m 2 (omega arith))
 
 to_eight : (n : ℕ) → any (same_count (n, false)) pcode_op_pairs ≡ leb n 8
-unfolding any when◌then◌else◌ same_count
+unfolding any same_count
 to_eight zero = refl
 to_eight (suc zero) = refl
 to_eight (suc (suc zero)) = refl
@@ -214,7 +214,6 @@ to_eight (suc (suc (suc (suc (suc (suc (suc (suc (suc n))))))))) = go (suc (suc 
     go m h = rw (ne_eqb m 0 (λ z. omega arith), ne_eqb m 1 (λ z. omega arith), ne_eqb m 2 (λ z. omega arith), ne_eqb m 3 (λ z. omega arith), ne_eqb m 4 (λ z. omega arith), ne_eqb m 5 (λ z. omega arith), ne_eqb m 6 (λ z. omega arith), ne_eqb m 7 (λ z. omega arith), ne_eqb m 8 (λ z. omega arith), lt-leb m 8 (omega arith))
 
 pub pcode_op-counts : (n : ℕ) (b : Bool) → any (same_count (n, b)) pcode_op_pairs ≡ (when b then leb n 2 else leb n 8)
-unfolding when◌then◌else◌
 pcode_op-counts n true = no_outputs n (0 ∷ 1 ∷ 2 ∷ 3 ∷ 4 ∷ 5 ∷ 6 ∷ 7 ∷ 8 ∷ []) (map with_output (0 ∷ 1 ∷ 2 ∷ [])) ∙ few_outputs n
 pcode_op-counts n false = to_eight n
 

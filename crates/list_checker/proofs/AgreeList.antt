@@ -45,7 +45,7 @@ pub record Marked (ws : List ℕ) (a : SemanticAction) : Type 0 where
   pub built : (i : ℕ) → builds i a ≡ builds_it i ws
 
 marked_kind : (ws : List ℕ) (kind : ActionKind) (inputs : List Value) (output : Option Value) → KindIs (get_or ws 0 0) (get_or ws 1 0) kind → Marked ws (record { kind = kind; number = get_or ws 2 0; inputs = inputs; output = output })
-unfolding places_label w.places_label builds builds_it is_build or_else and_then operation_of action_kind_number operation_word operation_right when◌then◌else◌ operation_number
+unfolding places_label w.places_label builds builds_it is_build or_else and_then operation_of action_kind_number operation_word operation_right operation_number
 marked_kind ws (ActionKind.Op o) inputs output q =
     let e : operation_number o ≡ get_or ws 1 0 = sym (eqb-true _ _ (q.right ∙ rw (← q.number))) in
     record { number = refl; label = rw (← q.number, e) (eqb_comm 62 (get_or ws 1 0)); built = λ i. rw (← q.number) }
@@ -110,7 +110,7 @@ unread t s p (suc n) ws h e =
 -- The same words.
 
 same_append : (u v x y : List ℕ) → length u ≡ length x → same_numbers (u ++ v) (x ++ y) ≡ (same_numbers u x && same_numbers v y)
-unfolding same_numbers when◌then◌else◌
+unfolding same_numbers
 same_append [] v [] y h = refl
 same_append [] v (b ∷ x) y h = absurd (omega arith)
 same_append (a ∷ u) v [] y h = absurd (omega arith)
@@ -188,7 +188,7 @@ swap false true c = refl
 swap false false c = refl
 
 fresh_set : (rest : List SemanticAction) (seen : List ℕ) (m : ℕ) → m < length seen → fresh rest (set seen m 1) ≡ (not (any (places m) rest) && fresh rest seen)
-unfolding fresh any places when◌then◌else◌
+unfolding fresh any places
 fresh_set [] seen m h = refl
 fresh_set (a ∷ rest) seen m h = rw (fresh_set rest seen m h) (go (places_label a) (eqb m a.number) refl)
   where
@@ -208,7 +208,7 @@ zeros_at (suc n) zero = refl
 zeros_at (suc n) (suc m) = zeros_at n m
 
 fresh_zeros : (n : ℕ) (found : List SemanticAction) → fresh found (replicate n 0) ≡ true
-unfolding fresh when◌then◌else◌
+unfolding fresh
 fresh_zeros n [] = refl
 fresh_zeros n (a ∷ rest) = rw (zeros_at n a.number, fresh_zeros n rest) (go (places_label a))
   where
@@ -217,7 +217,7 @@ fresh_zeros n (a ∷ rest) = rw (zeros_at n a.number, fresh_zeros n rest) (go (p
     go false = refl
 
 labels-agree : (n : ℕ) (ws : List ℕ) (found : List SemanticAction) → Reads n ws found → small found ≡ true → (seen : List ℕ) → length seen ≡ 256 → labels_new n ws seen ≡ (labels_once found && fresh found seen)
-unfolding labels_new labels_once fresh small note_label when_new when◌then◌else◌
+unfolding labels_new labels_once fresh small note_label when_new
 labels-agree zero ws (a ∷ rest) x6 q seen h = elim x6 [ ]
 labels-agree (suc n) ws [] x5 q seen h = elim x5 [ ]
 labels-agree zero ws [] end q seen h = refl
@@ -245,7 +245,7 @@ labels-agree (suc n) ws (a ∷ rest) (more e r) q seen h =
 -- a label that fits is below 256
 
 label_head : (s p : ℕ) (b : Bool) (ws : List ℕ) → eqb (get_or ws 0 0) 0 ≡ true → get_or ws 1 0 ≡ 62 → head_fit s p b ws ≡ true → ltb (get_or ws 2 0) 256 ≡ true
-unfolding head_fit operation_fit row_fit row_of when◌then◌else◌
+unfolding head_fit operation_fit row_fit row_of
 label_head s p b ws k o h = and_right (eqb (get_or ws 3 0) 0 && not b) _ (rw (k, o) at h)
 
 label-below : (t s p : ℕ) (ws : List ℕ) → action_fit t s p ws ≡ true → w.places_label ws ≡ true → ltb (get_or ws 2 0) 256 ≡ true
@@ -254,7 +254,7 @@ label-below t s p ws h l =
     label_head s p (output_there ws) ws (and_left (eqb (get_or ws 0 0) 0) _ l) (eqb-true _ _ (and_right (eqb (get_or ws 0 0) 0) _ l)) (and_right ((not (output_there ws) || value_fit t s (eqb (get_or ws 0 0) 0) (get_or ws 4 0) (get_or ws 5 0)) && inputs_fit t s (eqb (get_or ws 0 0) 0) ws) _ h)
 
 labels-small : (t s p n : ℕ) (ws : List ℕ) (found : List SemanticAction) → Reads n ws found → rows_fit t s p n ws ≡ true → small found ≡ true
-unfolding rows_fit small when◌then◌else◌ places_label
+unfolding rows_fit small places_label
 labels-small t s p zero ws (a ∷ rest) x4 h = elim x4 [ ]
 labels-small t s p (suc n) ws [] x4 h = elim x4 [ ]
 labels-small t s p zero ws [] end h = refl
@@ -307,7 +307,7 @@ listed t s p n ws found r h =
 
 -- THE THEOREM: where the actions fit into the list, the definition's checker is the checker of the words.
 pub check_agrees : (ws : List ℕ) (n t s p : ℕ) → 24 * n ≤ length ws → check ws n t s p ≡ (zeros (drop (24 * n) ws) && list_fit t s p n ws)
-unfolding check when◌then◌else◌ or_else and_then list_fit
+unfolding check or_else and_then list_fit
 check_agrees ws n t s p h = rw (le-leb (24 * n) (length ws) h) (go (actions_from n ws) refl)
   where
     go : (x : Option (List SemanticAction)) → actions_from n ws ≡ x → or_else false (and_then {B = Bool} x λ found. some (list_holds ws t s p found)) ≡ (zeros (drop (24 * n) ws) && list_fit t s p n ws)
@@ -316,5 +316,5 @@ check_agrees ws n t s p h = rw (le-leb (24 * n) (length ws) h) (go (actions_from
 
 -- and where they do not, it is false
 pub check-short : (ws : List ℕ) (n t s p : ℕ) → length ws < 24 * n → check ws n t s p ≡ false
-unfolding check when◌then◌else◌
+unfolding check
 check-short ws n t s p h = rw (lt-leb (24 * n) (length ws) h)

@@ -40,7 +40,7 @@ unfoldable output_known : Bool → ℕ → Bool
 output_known output word = when output then known word else true
 
 value_output : (n x : ℕ) → some_value (value_from n x) ≡ (when known x then some (some (value_of n x)) else none)
-unfolding some_value and_then when◌then◌else◌
+unfolding some_value and_then
 value_output n x = rw (value_from_lem n x) (go (known x))
   where
     go : (b : Bool) → and_then (when b then some (value_of n x) else none) (λ v. some (some v)) ≡ (when b then some (some (value_of n x)) else none)
@@ -49,7 +49,7 @@ value_output n x = rw (value_from_lem n x) (go (known x))
 
 output_from_lem : (kind : ActionKind) (n x : ℕ) →
     output_from kind n x ≡ (when output_known (output_read kind n x) x then some (output_of (output_read kind n x) n x) else none)
-unfolding output_from output_read output_known output_of when◌then◌else◌
+unfolding output_from output_read output_known output_of
 output_from_lem (ActionKind.Op o) n x = rw (value_output n x) (go (eqb n 0) (eqb x 255) (known x))
   where
     go : (a b k : Bool) →
@@ -71,7 +71,7 @@ module _ (t s n x m : ℕ) (rest after : List ℕ) where
   with_output_lem :
       (known x && (same_numbers (n ∷ x ∷ rest) (filled (suc (suc m)) (value_words (value_of n x) ++ after)) && value_fits t s (value_of n x)))
       ≡ (value_fit t s false n x && same_numbers rest (filled m after))
-  unfolding same_numbers filled when◌then◌else◌
+  unfolding same_numbers filled
   with_output_lem = rw (← value_fit_lem t s n x) (go (known x) refl (value_fits t s (value_of n x)))
     where
       turn : (b f : Bool) → (b && f) ≡ (f && b)
@@ -91,7 +91,7 @@ module _ (t s n x m : ℕ) (rest after : List ℕ) where
       ≡ (output_fit t s (action_kind_number kind) b n x && same_numbers rest (filled m after))
 
   no_output_lem : (b : Bool) → (same_numbers (n ∷ x ∷ rest) (0 ∷ 0 ∷ filled m after) && true) ≡ (eqb n 0 && eqb x 0 && same_numbers rest (filled m after))
-  unfolding same_numbers when◌then◌else◌
+  unfolding same_numbers
   no_output_lem b = go (eqb n 0) (eqb x 0) (same_numbers rest (filled m after))
     where
       go : (a b c : Bool) → ((when a then (when b then c else false) else false) && true) ≡ (a && b && c)
@@ -101,7 +101,7 @@ module _ (t s n x m : ℕ) (rest after : List ℕ) where
       go false b c = refl
 
   output_fit_lem : (kind : ActionKind) → OutputFits kind (output_read kind n x)
-  unfolding output_read action_kind_number output_known output_of output_words output_fit operation_of option_fits when◌then◌else◌ filled same_numbers
+  unfolding output_read action_kind_number output_known output_of output_words output_fit operation_of option_fits filled same_numbers
   output_fit_lem (ActionKind.Op o) = go (eqb n 0) (eqb x 255) refl refl
     where
       go : (a c : Bool) → eqb n 0 ≡ a → eqb x 255 ≡ c → OutputFits (ActionKind.Op o) (not a || not c)
@@ -117,7 +117,7 @@ module _ (t s n x m : ℕ) (rest after : List ℕ) where
 -- The base of an AddressOf.
 
 plain-base : (n x : ℕ) → plain_base (value_of n x) ≡ (eqb (x / 16777216) 65535 && eqb (x / 256 % 65536) 0)
-unfolding plain_base value_of size_from is_some when◌then◌else◌
+unfolding plain_base value_of size_from is_some
 plain-base n x = go (eqb (x / 16777216) 65535)
   where
     go : (b : Bool) → (not (is_some (when b then none else some (x / 16777216))) && eqb (x / 256 % 65536) 0) ≡ (b && eqb (x / 256 % 65536) 0)
@@ -207,7 +207,6 @@ to_eight n = go (leb n 8) refl
     go false e = let h : 8 < n = leb-false n 8 e in ne_eqb n (min n 8) (λ z. omega arith)
 
 chain : (a b c d x : Bool) → a ≡ true → c ≡ true → (when a then (when b then (when c then (when d then x else false) else false) else false) else false) ≡ (b && (d && x))
-unfolding when◌then◌else◌
 chain true true true true x e f = refl
 chain true true true false x e f = refl
 chain true false c d x e f = refl
@@ -223,7 +222,7 @@ right temporaries subtables pointer ws a = same_numbers ws (action_words a) && (
 taken : (ok ik : Bool) (kind : ActionKind) (number : ℕ) (inputs : List Value) (output : Option Value) (f : SemanticAction → Bool) →
     or_else false (and_then {B = Bool} (and_then {B = SemanticAction} (when ok then some output else none) λ o. and_then {B = SemanticAction} (when ik then some inputs else none) λ vs. some (record { kind = kind; number = number; inputs = vs; output = o })) λ a. some (f a))
     ≡ (ok && (ik && f (record { kind = kind; number = number; inputs = inputs; output = output })))
-unfolding or_else and_then when◌then◌else◌
+unfolding or_else and_then
 taken false ik kind number inputs output f = refl
 taken true false kind number inputs output f = refl
 taken true true kind number inputs output f = refl
@@ -242,7 +241,7 @@ module _ (t s p op num cnt o0 o1 x0 y0 x1 y1 : ℕ) (r : List ℕ) where
   read kind b = record { kind = kind; number = num; inputs = inputs_of (min cnt 8) words; output = output_of b o0 o1 }
 
   there : (b : Bool) → is_some (output_of b o0 o1) ≡ b
-  unfolding output_of is_some when◌then◌else◌
+  unfolding output_of is_some
   there true = refl
   there false = refl
 
@@ -273,12 +272,12 @@ module _ (t s p op num cnt o0 o1 x0 y0 x1 y1 : ℕ) (r : List ℕ) where
       && head_fit s p (has_output (action_kind_number kind) o0 o1) (row (action_kind_number kind)))
 
   op-output : (b : Bool) → (not b || value_fit t s true o0 o1) ≡ ((when b then value_fit t s false o0 o1 else true) && output_sized b o1)
-  unfolding output_sized when◌then◌else◌
+  unfolding output_sized
   op-output true = value_sized t s o0 o1
   op-output false = refl
 
   finish-op : (o : Operation) → leb cnt 8 ≡ true → op ≡ operation_number o → Finished (ActionKind.Op o)
-  unfolding action_kind_number operation_of operation_word output_read has_output output_fit base_fits sizes_hold d.operation_holds head_fit operation_fit sz.steps_of when◌then◌else◌
+  unfolding action_kind_number operation_of operation_word output_read has_output output_fit base_fits sizes_hold d.operation_holds head_fit operation_fit sz.steps_of
   finish-op o l e =
       let b : Bool = not (eqb o0 0) || not (eqb o1 255) in
       let q = tabled t s o in
@@ -287,7 +286,7 @@ module _ (t s p op num cnt o0 o1 x0 y0 x1 y1 : ℕ) (r : List ℕ) where
       (λ h g. row_fit_lem p (ActionKind.Op o) num x0 y0 x1 y1 r o0 o1 (row_of (operation_number o)) cnt b l h g))
 
   finish_address : Finished ActionKind.AddressOf
-  unfolding action_kind_number operation_of operation_word output_read has_output output_fit base_fits sizes_hold d.operation_holds head_fit kind_fit shape_of same_count or_else and_then when◌then◌else◌
+  unfolding action_kind_number operation_of operation_word output_read has_output output_fit base_fits sizes_hold d.operation_holds head_fit kind_fit shape_of same_count or_else and_then
   finish_address =
       plain (eqb op 0 && shape_at ActionKind.AddressOf) (value_fit t s false o0 o1) (values_fit t s false cnt words) (all plain_base (inputs_of cnt words))
       ∙ rw (one-count cnt 1 true true, below_one num) (ap (λ x. value_fit t s false o0 o1 && values_fit t s false cnt words && x) (go (eqb cnt 1) refl))
@@ -297,7 +296,7 @@ module _ (t s p op num cnt o0 o1 x0 y0 x1 y1 : ℕ) (r : List ℕ) where
       go true f = rw (eqb-true cnt 1 f, one-base x0 y0 (x1 ∷ y1 ∷ r), base_word y0, and_true (eqb op 0 && eqb num 0), and_true (eqb op 0 && eqb num 0))
 
   finish-load : Finished ActionKind.LoadRegister
-  unfolding action_kind_number operation_of operation_word output_read has_output output_fit base_fits sizes_hold d.operation_holds head_fit kind_fit shape_of same_count or_else and_then when◌then◌else◌
+  unfolding action_kind_number operation_of operation_word output_read has_output output_fit base_fits sizes_hold d.operation_holds head_fit kind_fit shape_of same_count or_else and_then
   finish-load =
       plain (eqb op 0 && shape_at ActionKind.LoadRegister) (value_fit t s false o0 o1) (values_fit t s false cnt words) true
       ∙ rw (one-count cnt 1 true true) (ap (λ x. value_fit t s false o0 o1 && values_fit t s false cnt words && x) (go (eqb op 0) (eqb cnt 1) (ltb num 1025)))
@@ -310,19 +309,19 @@ module _ (t s p op num cnt o0 o1 x0 y0 x1 y1 : ℕ) (r : List ℕ) where
       go true false false = refl
 
   finish-store : Finished ActionKind.StoreRegister
-  unfolding action_kind_number operation_of operation_word output_read has_output output_fit base_fits sizes_hold d.operation_holds head_fit kind_fit shape_of same_count or_else and_then when◌then◌else◌
+  unfolding action_kind_number operation_of operation_word output_read has_output output_fit base_fits sizes_hold d.operation_holds head_fit kind_fit shape_of same_count or_else and_then
   finish-store = rw (one-count cnt 2 false false) (bare (eqb op 0) (eqb cnt 2) (ltb num 1025) (eqb o0 0) (eqb o1 0) (values_fit t s false cnt words) (value_fit t s false o0 o1))
 
   finish_delay : Finished ActionKind.DelaySlot
-  unfolding action_kind_number operation_of operation_word output_read has_output output_fit base_fits sizes_hold d.operation_holds head_fit kind_fit shape_of same_count or_else and_then when◌then◌else◌
+  unfolding action_kind_number operation_of operation_word output_read has_output output_fit base_fits sizes_hold d.operation_holds head_fit kind_fit shape_of same_count or_else and_then
   finish_delay = rw (one-count cnt 0 false false, below_one num) (bare (eqb op 0) (eqb cnt 0) (eqb num 0) (eqb o0 0) (eqb o1 0) (values_fit t s false cnt words) (value_fit t s false o0 o1))
 
   finish-build : Finished ActionKind.Build
-  unfolding action_kind_number operation_of operation_word output_read has_output output_fit base_fits sizes_hold d.operation_holds head_fit kind_fit shape_of same_count or_else and_then when◌then◌else◌
+  unfolding action_kind_number operation_of operation_word output_read has_output output_fit base_fits sizes_hold d.operation_holds head_fit kind_fit shape_of same_count or_else and_then
   finish-build = rw (one-count cnt 0 false false) (bare (eqb op 0) (eqb cnt 0) (ltb num s) (eqb o0 0) (eqb o1 0) (values_fit t s false cnt words) (value_fit t s false o0 o1))
 
   finished : (kind : ActionKind) → leb cnt 8 ≡ true → eqb op (operation_word (operation_of kind)) ≡ operation_right (action_kind_number kind) op → Finished kind
-  unfolding operation_right action_kind_number operation_of operation_word when◌then◌else◌
+  unfolding operation_right action_kind_number operation_of operation_word
   finished (ActionKind.Op o) l q = finish-op o l (eqb-true op (operation_number o) q)
   finished ActionKind.AddressOf l q = finish_address
   finished ActionKind.LoadRegister l q = finish-load
@@ -376,7 +375,7 @@ module _ (t s p op num cnt o0 o1 x0 y0 x1 y1 : ℕ) (r : List ℕ) where
         (taken (output_known b o1) (inputs_known (min cnt 8) words) kind num (inputs_of (min cnt 8) words) (output_of b o0 o1) (right t s p (row (action_kind_number kind))) ∙ known_row kind q)
 
     no_kind_lem : (k : ℕ) → NoKind k op → false ≡ action_fit t s p (row k)
-    unfolding action_fit head_fit operation_fit row_fit when◌then◌else◌
+    unfolding action_fit head_fit operation_fit row_fit
     no_kind_lem zero (no_operation e) = rw e (sym (and_false ((not (output_there (row 0)) || value_fit t s true o0 o1) && inputs_fit t s true (row 0))))
     no_kind_lem k (no_kind h) = rw (← head_none s p (output_there (row k)) (row k) h) (sym (and_false ((not (output_there (row k)) || value_fit t s (eqb k 0) o0 o1) && inputs_fit t s (eqb k 0) (row k))))
 

@@ -30,7 +30,6 @@ output_of output number word = when output then some (value_of number word) else
 -- Tests.
 
 pub if_and : (a b : Bool) → (when a then b else false) ≡ (a && b)
-unfolding when◌then◌else◌
 if_and true b = refl
 if_and false b = refl
 
@@ -66,7 +65,6 @@ below_one (suc n) = go (suc n) (omega arith)
 
 -- counts of a user operation that has at most 8 inputs
 user-counts : (b few l : Bool) → ((when b then few else true) && l && true) ≡ (l && (not b || few))
-unfolding when◌then◌else◌
 user-counts true true true = refl
 user-counts true true false = refl
 user-counts true false true = refl
@@ -77,11 +75,11 @@ user-counts false few false = refl
 -- sized operands
 
 size_some : (z : ℕ) → not (eqb z 65535) ≡ true → size_from z ≡ some z
-unfolding size_from when◌then◌else◌
+unfolding size_from
 size_some z h = rw (not-true (eqb z 65535) h)
 
 sized_value : (n x : ℕ) → is_sized (value_of n x) ≡ not (eqb (x / 16777216) 65535)
-unfolding is_sized is_some value_of size_from when◌then◌else◌
+unfolding is_sized is_some value_of size_from
 sized_value n x = go (eqb (x / 16777216) 65535)
   where
     go : (b : Bool) → is_some (when b then none else some (x / 16777216)) ≡ not b
@@ -94,7 +92,7 @@ inputs-sized zero r = refl
 inputs-sized (suc n) r = rw (sized_value (get_or r 0 0) (get_or r 1 0), inputs-sized n (drop 2 r)) (if_and _ _)
 
 pub output-sized : (b : Bool) (n x : ℕ) → option_fits is_sized (output_of b n x) ≡ output_sized b x
-unfolding option_fits output_of output_sized when◌then◌else◌
+unfolding option_fits output_of output_sized
 output-sized true n x = sized_value n x
 output-sized false n x = refl
 
@@ -159,7 +157,7 @@ module _ (pointer : ℕ) (kind : ActionKind) (number x0 y0 x1 y1 : ℕ) (r : Lis
   in_1 n h = size_some (y1 / 16777216) (and_left _ _ (and_right (not (eqb (y0 / 16777216) 65535)) _ h))
 
   out_0 : output_sized true o1 ≡ true → (value_of o0 o1).size ≡ some (o1 / 16777216)
-  unfolding output_sized value_of when◌then◌else◌
+  unfolding output_sized value_of
   out_0 h = size_some (o1 / 16777216) h
 
   abbrev steps : Row → ℕ → Bool → Bool
@@ -169,7 +167,7 @@ module _ (pointer : ℕ) (kind : ActionKind) (number x0 y0 x1 y1 : ℕ) (r : Lis
   counted : (row : Row) (n m below : ℕ) (b o q : Bool) → inputs_sized n words ≡ true → output_sized b o1 ≡ true →
       (inputs_sized m words ≡ true → output_sized o o1 ≡ true → steps row m o ≡ q) →
       (any (same_count (n, b)) ((m, o) ∷ []) && ltb number below && steps row n b) ≡ (eqb n m && (when o then b else not b) && ltb number below && q)
-  unfolding same_count when◌then◌else◌
+  unfolding same_count
   counted row n m below b o q h g f = rw (one-count n m b o) (go (eqb n m) refl b o h g f)
     where
       go : (t : Bool) → eqb n m ≡ t → (b o : Bool) → inputs_sized n words ≡ true → output_sized b o1 ≡ true → (inputs_sized m words ≡ true → output_sized o o1 ≡ true → steps row m o ≡ q) →
@@ -183,7 +181,7 @@ module _ (pointer : ℕ) (kind : ActionKind) (number x0 y0 x1 y1 : ℕ) (r : Lis
   -- each row, of the operands that its operations have
   pub row_fit_lem : (row : Row) (n : ℕ) (b : Bool) → leb n 8 ≡ true → inputs_sized n words ≡ true → output_sized b o1 ≡ true →
       (shaped n b number (shape_of_row row) && steps row n b) ≡ row_fit pointer row number n b (y0 / 16777216) (y1 / 16777216) (o1 / 16777216)
-  unfolding shape_of_row or_else and_then when◌then◌else◌ row_fit inputs_of output_of all steps_of
+  unfolding shape_of_row or_else and_then row_fit inputs_of output_of all steps_of
   row_fit_lem w.triple n b l h g =
       counted w.triple n 2 1 b true (eqb (y0 / 16777216) (y1 / 16777216) && eqb (y0 / 16777216) (o1 / 16777216)) h g (λ i j. triple pointer kind number (value_of x0 y0) (value_of x1 y1) (value_of o0 o1) _ _ _ (in_0 1 i) (out_0 j) (in_1 0 i))
       ∙ rw (below_one number) (sym (assoc (eqb n 2 && b && eqb number 0) _ _))

@@ -26,7 +26,7 @@ unfoldable pub known : ℕ → Bool
 known word = ltb (word % 256) 8
 
 kind_from : (m : ℕ) → get_elem? kinds m ≡ (when ltb m 8 then some (kind_of m) else none)
-unfolding kinds kind_of when◌then◌else◌ or_else
+unfolding kinds kind_of or_else
 kind_from zero = refl
 kind_from (suc zero) = refl
 kind_from (suc (suc zero)) = refl
@@ -50,7 +50,7 @@ kind_back (suc (suc (suc (suc (suc (suc (suc zero))))))) h = refl
 kind_back (suc (suc (suc (suc (suc (suc (suc (suc m)))))))) h = absurd (omega arith)
 
 number_fit_lem : (t s m n : ℕ) → (ltb m 8 && number_fits t s (kind_of m) n) ≡ number_fit t s m n
-unfolding kinds kind_of number_fits number_fit when◌then◌else◌ or_else
+unfolding kinds kind_of number_fits number_fit or_else
 number_fit_lem t s zero n = refl
 number_fit_lem t s (suc zero) n = refl
 number_fit_lem t s (suc (suc zero)) n = refl
@@ -65,7 +65,7 @@ number_fit_lem t s (suc (suc (suc (suc (suc (suc (suc (suc m)))))))) n = go (suc
     go k h = rw (le-ltb k 2 (omega arith), le-ltb k 4 (omega arith), le-ltb k 6 (omega arith), ne_eqb k 6 (λ z. omega arith), ne_eqb k 7 (λ z. omega arith), le-ltb k 8 h)
 
 pub value_from_lem : (n x : ℕ) → value_from n x ≡ (when known x then some (value_of n x) else none)
-unfolding value_from value_of known and_then when◌then◌else◌
+unfolding value_from value_of known and_then
 value_from_lem n x = rw (kind_from (x % 256)) (go (ltb (x % 256) 8))
   where
     go : (b : Bool) → and_then {B = Value} (when b then some (kind_of (x % 256)) else none) (λ k. some (record { kind = k; number = n; offset = x / 256 % 65536; size = size_from (x / 2 ^ 24) })) ≡ (when b then some (record { kind = kind_of (x % 256); number = n; offset = x / 256 % 65536; size = size_from (x / 16777216) }) else none)
@@ -73,7 +73,7 @@ value_from_lem n x = rw (kind_from (x % 256)) (go (ltb (x % 256) 8))
     go false = refl
 
 pub size_back : (z : ℕ) → or_none (size_from z) ≡ z
-unfolding or_none size_from or_else when◌then◌else◌
+unfolding or_none size_from or_else
 size_back z = go (eqb z 65535) refl
   where
     go : (b : Bool) → eqb z 65535 ≡ b → or_else 65535 (when b then none else some z) ≡ z
@@ -88,7 +88,7 @@ unfolding value_words value_of known
 value_back n x h = rw (kind_back (x % 256) (ltb-true _ _ h), size_back (x / 16777216), word_back x)
 
 size_fit : (x : ℕ) → ltb (or_else 0 (size_from (x / 16777216))) 65535 ≡ ltb x 1099511627776
-unfolding or_else size_from when◌then◌else◌
+unfolding or_else size_from
 size_fit x = go (eqb (x / 16777216) 65535) (ltb (x / 16777216) 65535) refl refl
   where
     go : (b c : Bool) → eqb (x / 16777216) 65535 ≡ b → ltb (x / 16777216) 65535 ≡ c → ltb (or_else 0 (when b then none else some (x / 16777216))) 65535 ≡ ltb x 1099511627776
@@ -135,7 +135,7 @@ inputs_known zero r = true
 inputs_known (suc n) r = known (get_or r 1 0) && inputs_known n (drop 2 r)
 
 pub inputs_from_lem : (n : ℕ) (r : List ℕ) → inputs_from n r ≡ (when inputs_known n r then some (inputs_of n r) else none)
-unfolding inputs_from inputs_known inputs_of and_then when◌then◌else◌
+unfolding inputs_from inputs_known inputs_of and_then
 inputs_from_lem zero r = refl
 inputs_from_lem (suc n) r = rw (value_from_lem (get_or r 0 0) (get_or r 1 0), inputs_from_lem n (drop 2 r)) (go (known (get_or r 1 0)) (inputs_known n (drop 2 r)))
   where
@@ -150,7 +150,7 @@ inputs_length zero r = refl
 inputs_length (suc n) r = ap suc (inputs_length n (drop 2 r))
 
 pub same-zeros : (r : List ℕ) → same_numbers r (filled (length r) []) ≡ zeros r
-unfolding same_numbers filled zeros when◌then◌else◌
+unfolding same_numbers filled zeros
 same-zeros [] = refl
 same-zeros (x ∷ r) = rw (same-zeros r) (go (eqb x 0))
   where
@@ -165,7 +165,7 @@ and_true false = refl
 -- the inputs are read, written as the same words, and fit
 pub inputs_fit_lem : (t s n : ℕ) (r : List ℕ) → 2 * n ≤ length r →
     (inputs_known n r && (same_numbers r (filled (length r) (input_words (inputs_of n r))) && all (value_fits t s) (inputs_of n r))) ≡ values_fit t s false n r
-unfolding inputs_known inputs_of values_fit input_words all same_numbers filled when◌then◌else◌
+unfolding inputs_known inputs_of values_fit input_words all same_numbers filled
 inputs_fit_lem t s zero r h = rw (same-zeros r) (and_true (zeros r))
 inputs_fit_lem t s (suc n) [] h = absurd (omega arith)
 inputs_fit_lem t s (suc n) (x ∷ []) h = absurd (omega arith)

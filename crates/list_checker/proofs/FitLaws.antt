@@ -38,27 +38,27 @@ value_none t s n x z e = rw (← e) (go (ltb x 1099511627776 && (not z || not (e
     go false = refl
 
 pub number_start : (k n t s : ℕ) → k < 2 → eqb n 0 ≡ number_fit t s k n
-unfolding number_fit when◌then◌else◌
+unfolding number_fit
 number_start k n t s g = rw (lt-ltb k 2 (omega arith))
 
 pub number_free : (k n t s : ℕ) → 2 ≤ k → k < 4 → true ≡ number_fit t s k n
-unfolding number_fit when◌then◌else◌
+unfolding number_fit
 number_free k n t s l g = rw (le-ltb k 2 (omega arith), lt-ltb k 4 (omega arith))
 
 pub number_subtable : (k n t s : ℕ) → 4 ≤ k → k < 6 → ltb n s ≡ number_fit t s k n
-unfolding number_fit when◌then◌else◌
+unfolding number_fit
 number_subtable k n t s l g = rw (le-ltb k 2 (omega arith), le-ltb k 4 (omega arith), lt-ltb k 6 (omega arith))
 
 pub number_temporary : (k n t s : ℕ) → k ≡ 6 → ltb n t ≡ number_fit t s k n
-unfolding number_fit when◌then◌else◌
+unfolding number_fit
 number_temporary k n t s h = rw h
 
 pub number_constant : (k n t s : ℕ) → k ≡ 7 → true ≡ number_fit t s k n
-unfolding number_fit when◌then◌else◌
+unfolding number_fit
 number_constant k n t s h = rw h
 
 pub number_none : (k n t s : ℕ) → 6 ≤ k → (k ≡ 6 → ⊥) → (k ≡ 7 → ⊥) → false ≡ number_fit t s k n
-unfolding number_fit when◌then◌else◌
+unfolding number_fit
 number_none k n t s l n6 n7 = rw (le-ltb k 2 (omega arith), le-ltb k 4 (omega arith), le-ltb k 6 (omega arith), ne_eqb k 6 n6, ne_eqb k 7 n7)
 
 pub ruleset value_laws = (value_by, value_free, value_none, number_start, number_free, number_subtable, number_temporary, number_constant, number_none)
@@ -66,15 +66,15 @@ pub ruleset value_laws = (value_by, value_free, value_none, number_start, number
 -- Whether there is an output.
 
 pub output-op : (k n x : ℕ) → k ≡ 0 → (not (eqb n 0) || not (eqb x 255)) ≡ has_output k n x
-unfolding has_output when◌then◌else◌
+unfolding has_output
 output-op k n x h = rw h
 
 pub output_kind : (k n x : ℕ) → (k ≡ 0 → ⊥) → k < 3 → true ≡ has_output k n x
-unfolding has_output when◌then◌else◌
+unfolding has_output
 output_kind k n x h l = rw (ne_eqb k 0 h, lt-ltb k 3 l)
 
 pub output_other : (k n x : ℕ) → 3 ≤ k → (not (eqb n 0) || not (eqb x 0)) ≡ has_output k n x
-unfolding has_output when◌then◌else◌
+unfolding has_output
 output_other k n x l = rw (ne_eqb k 0 (λ z. omega arith), le-ltb k 3 l)
 
 pub ruleset output_laws = (output-op, output_kind, output_other)
@@ -95,103 +95,103 @@ row_in row from (suc n) op r h l = go (λ i. row_in row (suc from) n op r.1 i (o
     go rest false e = let d : op ≡ from → ⊥ = eqb-false op from e in rest (omega arith)
 
 pub row_not : (op : ℕ) → op ≡ 39 → row_of op ≡ negation
-unfolding row_of when◌then◌else◌
+unfolding row_of
 row_not op h = rw h
 
 pub row_nan : (op : ℕ) → op ≡ 42 → row_of op ≡ tested
-unfolding row_of when◌then◌else◌
+unfolding row_of
 row_nan op h = rw h
 
 pub row_copy : (op : ℕ) → op ≡ 57 → row_of op ≡ same
-unfolding row_of when◌then◌else◌
+unfolding row_of
 row_copy op h = rw h
 
 pub row_load : (op : ℕ) → op ≡ 58 → row_of op ≡ load
-unfolding row_of when◌then◌else◌
+unfolding row_of
 row_load op h = rw h
 
 pub row_store : (op : ℕ) → op ≡ 59 → row_of op ≡ store
-unfolding row_of when◌then◌else◌
+unfolding row_of
 row_store op h = rw h
 
 pub row_branch : (op : ℕ) → op ≡ 60 → row_of op ≡ branch
-unfolding row_of when◌then◌else◌
+unfolding row_of
 row_branch op h = rw h
 
 pub row_pcode_branch : (op : ℕ) → op ≡ 61 → row_of op ≡ condition
-unfolding row_of when◌then◌else◌
+unfolding row_of
 row_pcode_branch op h = rw h
 
 pub row_label : (op : ℕ) → op ≡ 62 → row_of op ≡ label
-unfolding row_of when◌then◌else◌
+unfolding row_of
 row_label op h = rw h
 
 pub row_user : (op : ℕ) → op ≡ 63 → row_of op ≡ user
-unfolding row_of when◌then◌else◌
+unfolding row_of
 row_user op h = rw h
 
 pub row_arg : (op : ℕ) → op ≡ 64 → row_of op ≡ argument
-unfolding row_of when◌then◌else◌
+unfolding row_of
 row_arg op h = rw h
 
 pub row_invalid : (op : ℕ) → op ≡ 65 → row_of op ≡ invalid
-unfolding row_of when◌then◌else◌
+unfolding row_of
 row_invalid op h = rw h
 
 pub row_mul : (op : ℕ) → op < 7 → row_of op ≡ triple
-unfolding Rows row_of when◌then◌else◌
+unfolding Rows row_of
 row_mul op h = row_in triple 0 7 op (refl, (refl, (refl, (refl, (refl, (refl, (refl, tt))))))) (omega arith) h
 
 pub row_left : (op : ℕ) → 7 ≤ op → op < 10 → row_of op ≡ shift
-unfolding Rows row_of when◌then◌else◌
+unfolding Rows row_of
 row_left op h l = row_in shift 7 3 op (refl, (refl, (refl, tt))) h (omega arith)
 
 pub row_less : (op : ℕ) → 10 ≤ op → op < 16 → row_of op ≡ comparison
-unfolding Rows row_of when◌then◌else◌
+unfolding Rows row_of
 row_less op h l = row_in comparison 10 6 op (refl, (refl, (refl, (refl, (refl, (refl, tt)))))) h (omega arith)
 
 pub row_float : (op : ℕ) → 16 ≤ op → op < 20 → row_of op ≡ triple
-unfolding Rows row_of when◌then◌else◌
+unfolding Rows row_of
 row_float op h l = row_in triple 16 4 op (refl, (refl, (refl, (refl, tt)))) h (omega arith)
 
 pub row_floats : (op : ℕ) → 20 ≤ op → op < 24 → row_of op ≡ comparison
-unfolding Rows row_of when◌then◌else◌
+unfolding Rows row_of
 row_floats op h l = row_in comparison 20 4 op (refl, (refl, (refl, (refl, tt)))) h (omega arith)
 
 pub row_and : (op : ℕ) → 24 ≤ op → op < 27 → row_of op ≡ triple
-unfolding Rows row_of when◌then◌else◌
+unfolding Rows row_of
 row_and op h l = row_in triple 24 3 op (refl, (refl, (refl, tt))) h (omega arith)
 
 pub row_bool : (op : ℕ) → 27 ≤ op → op < 30 → row_of op ≡ boolean
-unfolding Rows row_of when◌then◌else◌
+unfolding Rows row_of
 row_bool op h l = row_in boolean 27 3 op (refl, (refl, (refl, tt))) h (omega arith)
 
 pub row_carry : (op : ℕ) → 30 ≤ op → op < 33 → row_of op ≡ comparison
-unfolding Rows row_of when◌then◌else◌
+unfolding Rows row_of
 row_carry op h l = row_in comparison 30 3 op (refl, (refl, (refl, tt))) h (omega arith)
 
 pub row_gap : (op : ℕ) → 33 ≤ op → op < 39 → row_of op ≡ unknown
-unfolding Rows row_of when◌then◌else◌
+unfolding Rows row_of
 row_gap op h l = row_in unknown 33 6 op (refl, (refl, (refl, (refl, (refl, (refl, tt)))))) h (omega arith)
 
 pub row_negate : (op : ℕ) → 39 ≤ op → op < 42 → (op ≡ 39 → ⊥) → row_of op ≡ same
-unfolding Rows row_of when◌then◌else◌
+unfolding Rows row_of
 row_negate op h l d = row_in same 40 2 op (refl, (refl, tt)) (omega arith) (omega arith)
 
 pub row_extend : (op : ℕ) → 42 ≤ op → op < 45 → (op ≡ 42 → ⊥) → row_of op ≡ free
-unfolding Rows row_of when◌then◌else◌
+unfolding Rows row_of
 row_extend op h l d = row_in free 43 2 op (refl, (refl, tt)) (omega arith) (omega arith)
 
 pub row_round : (op : ℕ) → 45 ≤ op → op < 51 → row_of op ≡ same
-unfolding Rows row_of when◌then◌else◌
+unfolding Rows row_of
 row_round op h l = row_in same 45 6 op (refl, (refl, (refl, (refl, (refl, (refl, tt)))))) h (omega arith)
 
 pub row_convert : (op : ℕ) → 51 ≤ op → op < 57 → row_of op ≡ free
-unfolding Rows row_of when◌then◌else◌
+unfolding Rows row_of
 row_convert op h l = row_in free 51 6 op (refl, (refl, (refl, (refl, (refl, (refl, tt)))))) h (omega arith)
 
 pub row_above : (op : ℕ) → 66 ≤ op → row_of op ≡ unknown
-unfolding row_of when◌then◌else◌
+unfolding row_of
 row_above op l =
     rw (le-ltb op 7 (omega arith), le-ltb op 10 (omega arith), le-ltb op 16 (omega arith), le-ltb op 20 (omega arith), le-ltb op 24 (omega arith), le-ltb op 27 (omega arith), le-ltb op 30 (omega arith), le-ltb op 33 (omega arith), le-ltb op 39 (omega arith), ne_eqb op 39 (λ z. omega arith), le-ltb op 42 (omega arith), ne_eqb op 42 (λ z. omega arith), le-ltb op 45 (omega arith), le-ltb op 51 (omega arith), le-ltb op 57 (omega arith), ne_eqb op 57 (λ z. omega arith), ne_eqb op 58 (λ z. omega arith), ne_eqb op 59 (λ z. omega arith), ne_eqb op 60 (λ z. omega arith), ne_eqb op 61 (λ z. omega arith), ne_eqb op 62 (λ z. omega arith), ne_eqb op 63 (λ z. omega arith), ne_eqb op 64 (λ z. omega arith), ne_eqb op 65 (λ z. omega arith))
 
@@ -210,16 +210,16 @@ by_row p b w row e = rw e
 -- The other kinds, and an action.
 
 pub head_op : (s p : ℕ) (b r : Bool) (w : List ℕ) → get_or w 0 0 ≡ 0 → r ≡ operation_fit p b w → r ≡ head_fit s p b w
-unfolding head_fit when◌then◌else◌
+unfolding head_fit
 head_op s p b r w h e = rw h e
 
 pub head_kind : (s p : ℕ) (b : Bool) (w : List ℕ) (k : ℕ) → get_or w 0 0 ≡ k → (k ≡ 0 → ⊥) →
     kind_fit s k (get_or w 1 0) (get_or w 2 0) (get_or w 3 0) b (get_or w 7 0) ≡ head_fit s p b w
-unfolding head_fit when◌then◌else◌
+unfolding head_fit
 head_kind s p b w k h n = rw (h, ne_eqb k 0 n)
 
 pub head_none : (s p : ℕ) (b : Bool) (w : List ℕ) → 6 ≤ get_or w 0 0 → false ≡ head_fit s p b w
-unfolding head_fit kind_fit when◌then◌else◌
+unfolding head_fit kind_fit
 head_none s p b w h =
     rw (ne_eqb (get_or w 0 0) 0 (λ z. omega arith), ne_eqb (get_or w 0 0) 1 (λ z. omega arith), ne_eqb (get_or w 0 0) 2 (λ z. omega arith), ne_eqb (get_or w 0 0) 3 (λ z. omega arith), ne_eqb (get_or w 0 0) 4 (λ z. omega arith), ne_eqb (get_or w 0 0) 5 (λ z. omega arith))
 
@@ -240,7 +240,7 @@ both_right true b e = e
 both_right false b e = absurd (let z : ◌≡◌ {A = ℕ} 0 1 = cc in omega arith)
 
 pub label_none : (w seen : List ℕ) → (not (eqb (get_or w 0 0) 0) || not (eqb (get_or w 1 0) 62)) ≡ true → noted true seen ≡ note_label w seen
-unfolding note_label places_label when◌then◌else◌
+unfolding note_label places_label
 label_none w seen h = go (eqb (get_or w 0 0) 0) (eqb (get_or w 1 0) 62) h
   where
     go : (a b : Bool) → (not a || not b) ≡ true → noted true seen ≡ (when a && b then noted (eqb (get_or seen (get_or w 2 0) 0) 0) (set seen (get_or w 2 0) 1) else noted true seen)
@@ -250,7 +250,7 @@ label_none w seen h = go (eqb (get_or w 0 0) 0) (eqb (get_or w 1 0) 62) h
 
 pub label-placed : (w seen next : List ℕ) (g : ℕ) → (not (eqb (get_or w 0 0) 0) || not (eqb (get_or w 1 0) 62)) ≡ false → g ≡ get_or seen (get_or w 2 0) 0 → next ≡ set seen (get_or w 2 0) 1 →
     noted (eqb g 0) next ≡ note_label w seen
-unfolding note_label places_label when◌then◌else◌
+unfolding note_label places_label
 label-placed w seen next g h e f = rw (e, f) (go (eqb (get_or w 0 0) 0) (eqb (get_or w 1 0) 62) h)
   where
     go : (a b : Bool) → (not a || not b) ≡ false → noted (eqb (get_or seen (get_or w 2 0) 0) 0) (set seen (get_or w 2 0) 1) ≡ (when a && b then noted (eqb (get_or seen (get_or w 2 0) 0) 0) (set seen (get_or w 2 0) 1) else noted true seen)
@@ -262,11 +262,11 @@ pub build_from : (base k n : ℕ) → (eqb k 5 && leb base n) ≡ true → base 
 build_from base k n h = leb-true base n (both_right (eqb k 5) (leb base n) h)
 
 pub build_other : (base : ℕ) (w built : List ℕ) → (eqb (get_or w 0 0) 5 && leb base (get_or w 2 0)) ≡ false → built ≡ note_build base w built
-unfolding note_build when◌then◌else◌
+unfolding note_build
 build_other base w built h = rw h
 
 pub build_marked : (base : ℕ) (w built next : List ℕ) → (eqb (get_or w 0 0) 5 && leb base (get_or w 2 0)) ≡ true → next ≡ set built (get_or w 2 0 - base) 1 → next ≡ note_build base w built
-unfolding note_build when◌then◌else◌
+unfolding note_build
 build_marked base w built next h f = rw h f
 
 pub set_kept : (x y : List ℕ) (i v : ℕ) → x ≡ set y i v → length x ≡ length y

@@ -37,7 +37,7 @@ sweep_parts t s p base (suc n) ws seen built =
 
 -- what a table of subtables holds after the actions
 note_at : (base : ℕ) (w built : List ℕ) (j : ℕ) → j < length built → eqb (get_or (note_build base w built) j 0) 0 ≡ (eqb (get_or built j 0) 0 && not (builds_it (base + j) w))
-unfolding note_build builds_it when◌then◌else◌
+unfolding note_build builds_it
 note_at base w built j h = go (eqb (get_or w 0 0) 5) (leb base (get_or w 2 0)) refl (eqb (base + j) (get_or w 2 0)) refl
   where
     none_false : (x : Bool) → false ≡ (x && false)
@@ -63,7 +63,7 @@ note_at base w built j h = go (eqb (get_or w 0 0) 5) (leb base (get_or w 2 0)) r
         rw (get_or-set_other built (get_or w 2 0 - base) j 1 0 (λ z. y (omega arith))) (sym (and_true (eqb (get_or built j 0) 0)))
 
 note_length : (base : ℕ) (w built : List ℕ) → length (note_build base w built) ≡ length built
-unfolding note_build when◌then◌else◌
+unfolding note_build
 note_length base w built = go (eqb (get_or w 0 0) 5 && leb base (get_or w 2 0))
   where
     go : (k : Bool) → length (when k then set built (get_or w 2 0 - base) 1 else built) ≡ length built
@@ -76,7 +76,7 @@ after_length base zero ws built = refl
 after_length base (suc n) ws built = after_length base n (drop 24 ws) (note_build base (take 24 ws) built) ∙ note_length base (take 24 ws) built
 
 marks_at : (base n : ℕ) (ws built : List ℕ) (j : ℕ) → j < length built → eqb (get_or (built_after base n ws built) j 0) 0 ≡ (eqb (get_or built j 0) 0 && not (any_builds (base + j) n ws))
-unfolding built_after any_builds when◌then◌else◌
+unfolding built_after any_builds
 marks_at base zero ws built j h = sym (and_true _)
 marks_at base (suc n) ws built j h =
     let l : length (note_build base (take 24 ws) built) ≡ length built = note_length base (take 24 ws) built in

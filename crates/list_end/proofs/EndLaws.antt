@@ -16,16 +16,16 @@ use Rattle.access.proofs.LoopLaws.{run_end}
 
 module _ (s t m : List ℕ) (v : Value) (ptr : ℕ) (z : Sizing) (known : ℕ) (p : known ≡ size_of s t m v) where
   pub fix_known : (w : Value) → (known ≡ 65535 → ⊥) → w ≡ with_size known v → fixed w z ≡ fix_size s t m v ptr z
-  unfolding fix_size when◌then◌else◌
+  unfolding fix_size
   fix_known w h e = rw (← p, ne_eqb known 65535 h, e)
 
   module _ (f : Bool) (h : known ≡ 65535) (q : f ≡ falls_back v) where
     pub fix_fallback : (w : Value) → f ≡ true → w ≡ with_size ptr v → fixed w z ≡ fix_size s t m v ptr z
-    unfolding fix_size when◌then◌else◌
+    unfolding fix_size
     fix_fallback w k e = rw (← p, eq-eqb known 65535 h, ← q, k, e)
 
     pub fix_error : (y : Sizing) → f ≡ false → y ≡ recorded 1 z → fixed v y ≡ fix_size s t m v ptr z
-    unfolding fix_size error when◌then◌else◌
+    unfolding fix_size error
     fix_error y k e = rw (← p, eq-eqb known 65535 h, ← q, k, e)
 
 pub fix_operand_law : (s t a m a1 : List ℕ) (at i ptr : ℕ) (z : Sizing) (v : Value) (f : Fixed) → v ≡ value_at a at i → f ≡ fix_size s t m v ptr z → a1 ≡ put_value a at i f.v → listed f.z a1 ≡ fix_operand s t a m at i ptr z
@@ -57,7 +57,7 @@ fix_sized s t a m at i ptr w z e h = sym (rw (← fix_known s t m (value_at a at
     other k = unfold value_at value_of in absurd (omega (arith, k, e, h))
 
     own : (value_at a at i).size ≡ size_of s t m (value_at a at i)
-    own = unfold size_of when◌then◌else◌ in rw (ne_eqb (value_at a at i).size 65535 other)
+    own = unfold size_of in rw (ne_eqb (value_at a at i).size 65535 other)
 
 pub fix_input_law : (s t a m a1 : List ℕ) (at i ptr : ℕ) (z y : Sizing) → listed y a1 ≡ fix_operand s t a m at (6 + i % 8 * 2) ptr z → listed y a1 ≡ fix_input s t m at ptr i (listed z a)
 unfolding fix_input then_l
@@ -69,11 +69,11 @@ fix_inputs_law s t a₀ a m at n ptr i z₀ z h e = run_end n i (fix_input s t m
 
 module _ (s t a m : List ℕ) (at ptr : ℕ) (z : Sizing) (w : ℕ) (p : w ≡ get_or a (at + 5) 0) where
   pub fix_no_output : w ≡ 255 → listed z a ≡ fix_output s t a m at ptr z
-  unfolding fix_output when◌then◌else◌
+  unfolding fix_output
   fix_no_output h = rw (← p, eq-eqb w 255 h)
 
   pub fix_some-output : (y : Sizing) (a1 : List ℕ) → (w ≡ 255 → ⊥) → listed y a1 ≡ fix_operand s t a m at 4 ptr z → listed y a1 ≡ fix_output s t a m at ptr z
-  unfolding fix_output when◌then◌else◌
+  unfolding fix_output
   fix_some-output y a1 h e = rw (← p, ne_eqb w 255 h) e
 
 pub fix_operands_law : (s t a m a1 a2 : List ℕ) (at ptr n : ℕ) (z y x : Sizing) → n ≡ get_or a (at + 3) 0 → listed y a1 ≡ fix_inputs s t a m at (n % 16) ptr z → listed x a2 ≡ fix_output s t a1 m at ptr y → listed x a2 ≡ fix_operands s t a m at ptr z
@@ -86,30 +86,30 @@ write_copy_law a a1 a2 a3 at v p q e = rw (← p, ← q) e
 
 module _ (a : List ℕ) (at : ℕ) (u : Value) (p : u ≡ value_at a at 4) where
   pub copy_unsized : u.size ≡ 65535 → listed 50 a ≡ subpiece_copy a at
-  unfolding subpiece_copy when◌then◌else◌
+  unfolding subpiece_copy
   copy_unsized h = rw (← p, eq-eqb u.size 65535 h)
 
   module _ (v : Value) (n : ℕ) (h : u.size ≡ 65535 → ⊥) (q : v ≡ value_at a at 6) (o : n ≡ get_or a (at + 2) 0) (x : Slice) (f : x ≡ slice_bytes v (n % 65536) u.size) where
     pub copy_refused : (k : ℕ) → x ≡ Slice.No k → listed k a ≡ subpiece_copy a at
-    unfolding subpiece_copy copy_of when◌then◌else◌
+    unfolding subpiece_copy copy_of
     copy_refused k e = rw (← p, ← q, ← o, ne_eqb u.size 65535 h, ← f, e)
 
     pub copy_written : (part : Value) (a1 : List ℕ) → x ≡ Slice.Is part → a1 ≡ write_copy a at part → listed 0 a1 ≡ subpiece_copy a at
-    unfolding subpiece_copy copy_of when◌then◌else◌
+    unfolding subpiece_copy copy_of
     copy_written part a1 e k = rw (← p, ← q, ← o, ne_eqb u.size 65535 h, ← f, e, k)
 
 module _ (s t a m : List ℕ) (at ptr : ℕ) (z : Sizing) (k : ℕ) (p : k ≡ get_or a (at + 0) 0) where
   pub finish_other : (k ≡ 0 → ⊥) → listed (finished 0 z) a ≡ finish_op s t a m at ptr z
-  unfolding finish_op when◌then◌else◌
+  unfolding finish_op
   finish_other h = rw (← p, ne_eqb k 0 h)
 
   module _ (y : Sizing) (a1 : List ℕ) (o : ℕ) (h : k ≡ 0) (q : listed y a1 ≡ fix_operands s t a m at ptr z) (r : o ≡ get_or a1 (at + 1) 0) where
     pub finish-fixed : (o ≡ 66 → ⊥) → listed (finished 0 y) a1 ≡ finish_op s t a m at ptr z
-    unfolding finish_op finish_fixed then_l when◌then◌else◌
+    unfolding finish_op finish_fixed then_l
     finish-fixed n = rw (← p, eq-eqb k 0 h, ← q, ← r, ne_eqb o 66 n)
 
     pub finish_copy : (c : ℕ) (a2 : List ℕ) → o ≡ 66 → listed c a2 ≡ subpiece_copy a1 at → listed (finished c y) a2 ≡ finish_op s t a m at ptr z
-    unfolding finish_op finish_fixed then_l when◌then◌else◌
+    unfolding finish_op finish_fixed then_l
     finish_copy c a2 n e = rw (← p, eq-eqb k 0 h, ← q, ← r, eq-eqb o 66 n, ← e)
 
 module _ (s t a m : List ℕ) (base n ptr i : ℕ) (z : Sizing) (w : Listed Finished) (inv : finish_from (n - i) i s t a m base ptr z ≡ w) where
@@ -126,11 +126,11 @@ module _ (s t a m : List ℕ) (base n ptr i : ℕ) (z : Sizing) (w : Listed Fini
         rw (e, q, o) (rw (k, o) at inv)
 
     pub finish-stop : (f.refusal ≡ 0 → ⊥) → listed f a1 ≡ w
-    unfolding then_f when◌then◌else◌
+    unfolding then_f
     finish-stop k = rw (ne_eqb f.refusal 0 k) at turn
 
     pub finish_more : f.refusal ≡ 0 → finish_from (n - (i + 1)) (i + 1) s t a1 m base ptr f.z ≡ w
-    unfolding then_f when◌then◌else◌
+    unfolding then_f
     finish_more k = rw (eq-eqb f.refusal 0 k) at turn
 
 pub finish_start : (s t a m : List ℕ) (base n ptr : ℕ) (z : Sizing) → finish_from (n - 0) 0 s t a m base ptr z ≡ finish_actions s t a m base n ptr z
@@ -138,11 +138,11 @@ unfolding finish_actions
 finish_start s t a m base n ptr z = let k : n - 0 ≡ n = omega arith in rw k
 
 pub mark_other : (kind number : ℕ) (b : List ℕ) → (kind ≡ 5 → ⊥) → b ≡ mark_build kind number b
-unfolding mark_build when◌then◌else◌
+unfolding mark_build
 mark_other kind number b h = rw (ne_eqb kind 5 h)
 
 pub mark-one : (kind number : ℕ) (b b1 : List ℕ) → kind ≡ 5 → b1 ≡ set b number 1 → b1 ≡ mark_build kind number b
-unfolding mark_build when◌then◌else◌
+unfolding mark_build
 mark-one kind number b b1 h e = rw (eq-eqb kind 5 h) e
 
 pub mark-action_law : (a b b1 : List ℕ) (base i p kind number : ℕ) → p ≡ place base i → kind ≡ get_or a (p + 0) 0 → number ≡ get_or a (p + 2) 0 → b1 ≡ mark_build kind number b → b1 ≡ mark_action a base i b
@@ -163,11 +163,11 @@ write-build_law a a1 a2 a3 at number p q e = rw (← p, ← q) e
 
 module _ (built a : List ℕ) (i k w : ℕ) (p : w ≡ get_or built i 0) where
   pub implicit_built : (w ≡ 0 → ⊥) → listed k a ≡ implicit_build built i (listed k a)
-  unfolding implicit_build then_l when◌then◌else◌
+  unfolding implicit_build then_l
   implicit_built h = rw (← p, ne_eqb w 0 h)
 
   pub implicit_new : (at r : ℕ) (a1 : List ℕ) → w ≡ 0 → at ≡ place 0 k → a1 ≡ write_build a at i → r ≡ (k + 1) % 2 ^ 64 → listed r a1 ≡ implicit_build built i (listed k a)
-  unfolding implicit_build then_l when◌then◌else◌
+  unfolding implicit_build then_l
   implicit_new at r a1 h q e o = rw (← p, eq-eqb w 0 h, ← q, ← e, o)
 
 pub implicit_builds_law : (built a₀ a : List ℕ) (n i k : ℕ) → n ≤ i → run (n - i) i (implicit_build built) (listed k a) ≡ run n 0 (implicit_build built) (listed 0 a₀) → listed k a ≡ implicit_builds a₀ built n
@@ -187,11 +187,11 @@ unfolding move_to
 move_to_law a a1 base k i p o q h l j e = rw (← l, ← h, ← j) e
 
 pub move_not : (a : List ℕ) (base k n p : ℕ) → p ≡ place 0 k → base ≡ p → a ≡ move_down a base k n
-unfolding move_down when◌then◌else◌
+unfolding move_down
 move_not a base k n p h e = rw (← h, eq-eqb base p e)
 
 pub move_down_law : (a₀ a : List ℕ) (base k n i p : ℕ) → p ≡ place 0 k → (base ≡ p → ⊥) → n ≤ i → run (n - i) i (move_to base (place 0 k)) a ≡ run n 0 (move_to base (place 0 k)) a₀ → a ≡ move_down a₀ base k n
-unfolding move_down when◌then◌else◌
+unfolding move_down
 move_down_law a₀ a base k n i p h d l e = let f = rw (← h) at e in rw (← h, ne_eqb base p d) (run_end n i (move_to base p) a _ l f)
 
 pub assemble_law : (a a1 a2 a3 built : List ℕ) (subtables n base k count at : ℕ) → base ≡ place 0 subtables → built ≡ mark_built a base n (replicate 32 0) → listed k a1 ≡ implicit_builds a built subtables → a2 ≡ move_down a1 base k n → count ≡ (k + n) % 2 ^ 64 → at ≡ place 0 count → a3 ≡ take at a2 ++ replicate (length a2 - at) 0 → listed count a3 ≡ assemble a subtables n

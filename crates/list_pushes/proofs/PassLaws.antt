@@ -16,19 +16,19 @@ use Rattle.list_pushes.specs.Rules.{update_operand_sizes}
 use Rattle.list_pushes.specs.Passes.{action_place, update_action, turn, turns, pass}
 
 pub place_first : (base i : ℕ) → i ≡ 0 → base ≡ action_place base i
-unfolding action_place when◌then◌else◌
+unfolding action_place
 place_first base i h = rw (eq-eqb i 0 h)
 
 pub place-later : (base i r : ℕ) → (i ≡ 0 → ⊥) → r ≡ place base i → r ≡ action_place base i
-unfolding action_place when◌then◌else◌
+unfolding action_place
 place-later base i r h e = rw (ne_eqb i 0 h) e
 
 pub turn-forward : (b : Bool) (n i : ℕ) → b ≡ true → i ≡ turn b n i
-unfolding turn when◌then◌else◌
+unfolding turn
 turn-forward b n i h = rw h
 
 pub turn_backward : (b : Bool) (n i : ℕ) → b ≡ false → n - 1 - i ≡ turn b n i
-unfolding turn when◌then◌else◌
+unfolding turn
 turn_backward b n i h = rw h
 
 pub ruleset place_laws = (place_first, place-later, turn-forward, turn_backward)
@@ -39,11 +39,11 @@ update_action_law s t a m a1 m1 fallback base ptr i p k x y z h e g = rw (g, rec
 
 -- a pass that begins
 pub pass_start : (s t a m : List ℕ) (fallback : Bool) (base n ptr : ℕ) (z : Sizing) → turns fallback n 0 (update_action s t fallback base ptr) (sized (recorded 0 z) a m) ≡ pass s t fallback a m base n ptr z
-unfolding pass recorded when◌then◌else◌
+unfolding pass recorded
 pass_start s t a m fallback base n ptr z = refl
 
 pub turns_again : {A : Type 0} (b : Bool) (n i k : ℕ) (f : ℕ → A → A) (x y w : A) → i < n → k ≡ turn b n i → turns b n i f x ≡ w → y ≡ f k x → turns b n (i + 1) f y ≡ w
-unfolding turn turns when◌then◌else◌
+unfolding turn turns
 turns_again true n i k f x y w h p e g = run_again n i f x y w h e (rw p at g)
 turns_again false n i k f x y w h p e g =
     let c : n - 1 - i ≡ n - i - 1 = omega arith in
@@ -51,7 +51,7 @@ turns_again false n i k f x y w h p e g =
     rw d (down_again (n - i) f x y w (omega arith) e (rw (p, c) at g))
 
 pub turns-end : {A : Type 0} (b : Bool) (n i : ℕ) (f : ℕ → A → A) (x w : A) → n ≤ i → turns b n i f x ≡ w → x ≡ w
-unfolding turns when◌then◌else◌
+unfolding turns
 turns-end true n i f x w h e = run_end n i f x w h e
 turns-end false n i f x w h e = down_end (n - i) f x w (omega arith) e
 
@@ -60,7 +60,7 @@ pub pass-recorded : (s t a m a1 m1 : List ℕ) (fallback : Bool) (base n ptr k :
 pass-recorded s t a m a1 m1 fallback base n ptr k z y h e = rw e (h.counted z)
 
 pub pass-one : (s t a m a1 m1 : List ℕ) (at ptr k : ℕ) (z y : Sizing) → Counted k a1 m1 (pass s t false a m at 1 ptr) → y ≡ recorded k z → sized y a1 m1 ≡ update_operand_sizes s t false a m at ptr z
-unfolding pass turns run_down update_action action_place then_s when◌then◌else◌
+unfolding pass turns run_down update_action action_place then_s
 pass-one s t a m a1 m1 at ptr k z y h e = pass-recorded s t a m a1 m1 false at 1 ptr k z y h e
 
 module _ (s t a m : List ℕ) (base n ptr : ℕ) (z : Sizing) where
@@ -68,9 +68,9 @@ module _ (s t a m : List ℕ) (base n ptr : ℕ) (z : Sizing) where
   none = omega arith
 
   pub pass-forward : pass s t true a m base n ptr z ≡ run n 0 (update_action s t true base ptr) (sized z a m)
-  unfolding pass turns when◌then◌else◌
+  unfolding pass turns
   pass-forward = rw none
 
   pub pass_backward : pass s t false a m base n ptr z ≡ run_down n (update_action s t false base ptr) (sized z a m)
-  unfolding pass turns when◌then◌else◌
+  unfolding pass turns
   pass_backward = rw none

@@ -25,23 +25,23 @@ use Rattle.access.proofs.LoopLaws.{run_end}
 
 module _ (m : List ℕ) (name size : ℕ) (st : State) where
   pub tmp_added : (v : Value) → st.temporaries < length m → st.temporaries < 512 → v ≡ local 6 st.temporaries → listed (Read.Value v (with_temporaries (st.temporaries + 1) st)) (set m st.temporaries (name % 65536 + size % 65536 * 65536)) ≡ add_tmp m name size st
-  unfolding add_tmp tmp_word when◌then◌else◌
+  unfolding add_tmp tmp_word
   tmp_added v h k e = rw (lt-ltb st.temporaries (length m) h, lt-ltb st.temporaries 512 k, e)
 
   pub tmp_many : st.temporaries < length m → 512 ≤ st.temporaries → listed (Read.No 13) m ≡ add_tmp m name size st
-  unfolding add_tmp when◌then◌else◌
+  unfolding add_tmp
   tmp_many h k = rw (lt-ltb st.temporaries (length m) h, le-ltb st.temporaries 512 k)
 
   pub tmp_full : length m ≤ st.temporaries → listed (Read.No 13) m ≡ add_tmp m name size st
-  unfolding add_tmp when◌then◌else◌
+  unfolding add_tmp
   tmp_full h = rw (le-ltb st.temporaries (length m) h)
 
 pub output_given : (m : List ℕ) (given : Bool) (to : Value) (size : ℕ) (st : State) → given ≡ true → listed (Read.Value to st) m ≡ output_or m given to size st
-unfolding output_or when◌then◌else◌
+unfolding output_or
 output_given m given to size st h = rw h
 
 pub output_fresh : (m m1 : List ℕ) (given : Bool) (to : Value) (size : ℕ) (st : State) (r : Read) → given ≡ false → listed r m1 ≡ add_tmp m 65535 size st → listed r m1 ≡ output_or m given to size st
-unfolding output_or when◌then◌else◌
+unfolding output_or
 output_fresh m m1 given to size st r h e = rw h e
 
 pub write-operands_law : (a a1 a2 a3 : List ℕ) (at : ℕ) (out x y : Value) → a1 ≡ put_value a at 4 out → a2 ≡ put_value a1 at 6 x → a3 ≡ put_value a2 at 8 y → a3 ≡ write_operands a at out x y
@@ -75,11 +75,11 @@ room_true len end b p h = leb-true (end + 24) len (sym p ∙ h)
 
 module _ (a : List ℕ) (kind op number count : ℕ) (out x y : Value) (st : State) (b : Bool) (p : b ≡ leb (st.end + 24) (length a)) where
   pub push-done : (a1 : List ℕ) → b ≡ true → a1 ≡ write a st.end kind op number count out x y → listed (Pushed.Done (with_end (st.end + 24) st)) a1 ≡ push a kind op number count out x y st
-  unfolding push when◌then◌else◌
+  unfolding push
   push-done a1 h e = rw (← p, h, e)
 
   pub push_full : b ≡ false → listed (Pushed.No 12) a ≡ push a kind op number count out x y st
-  unfolding push when◌then◌else◌
+  unfolding push
   push_full h = rw (← p, h)
 
 pub update_last_law : (s t a m a1 m1 : List ℕ) (at ptr k : ℕ) (st : State) (z : Sizing) → Counted k a1 m1 (pass s t false a m at 1 ptr) → z ≡ recorded k st.sizing → state (with_sizing z st) a1 m1 ≡ update_last s t a m at ptr st

@@ -40,11 +40,10 @@ unfolding mark_build
 mark_length k n b = go (eqb k 5)
   where
     go : (c : Bool) → length (when c then set b n 1 else b) ≡ length b
-    go true = unfold when◌then◌else◌ in length-set b n 1
-    go false = unfold when◌then◌else◌ in refl
+    go true =  length-set b n 1
+    go false =  refl
 
 set_get : (b : List ℕ) (n i : ℕ) → i < length b → get_or (set b n 1) i 0 ≡ (when eqb i n then 1 else get_or b i 0)
-unfolding when◌then◌else◌
 set_get b n i h = go (eqb i n) refl
   where
     go : (c : Bool) → eqb i n ≡ c → get_or (set b n 1) i 0 ≡ (when c then 1 else get_or b i 0)
@@ -53,7 +52,7 @@ set_get b n i h = go (eqb i n) refl
 
 kind_get : (k : ActionKind) (n : ℕ) (b : List ℕ) (i : ℕ) → i < length b → get_or (mark_build (action_kind_number k) n b) i 0
     ≡ (when (when is_build k then eqb i n else false) then 1 else get_or b i 0)
-unfolding mark_build action_kind_number is_build when◌then◌else◌
+unfolding mark_build action_kind_number is_build
 kind_get (ActionKind.Op op) n b i h = refl
 kind_get ActionKind.AddressOf n b i h = refl
 kind_get ActionKind.LoadRegister n b i h = refl
@@ -62,24 +61,24 @@ kind_get ActionKind.DelaySlot n b i h = refl
 kind_get ActionKind.Build n b i h = set_get b n i h
 
 same_if : (a b : Bool) → (when a then b else false) ≡ definition.when◌then◌else◌ a b false
-unfolding when◌then◌else◌ base_opens
+unfolding base_opens
 same_if true b = refl
 same_if false b = refl
 
 all_get : (xs : List SemanticAction) (b : List ℕ) (i : ℕ) → i < length b → get_or (mark_all xs b) i 0
     ≡ (when any (builds i) xs then 1 else get_or b i 0)
 unfolding mark_all any
-all_get [] b i h = unfold when◌then◌else◌ in refl
+all_get [] b i h =  refl
 all_get (x ∷ xs) b i h =
     all_get xs (mark_build (action_kind_number x.kind) x.number b) i (rw (mark_length (action_kind_number x.kind) x.number b) h)
     ∙ rw (kind_get x.kind x.number b i h) (unfold builds in rw (← same_if (is_build x.kind) (eqb i x.number))
     (go (when is_build x.kind then eqb i x.number else false) (any (builds i) xs)))
   where
     go : (p q : Bool) → (when q then 1 else (when p then 1 else get_or b i 0)) ≡ (when definition.when◌then◌else◌ p true q then 1 else get_or b i 0)
-    go true true = unfold when◌then◌else◌ base_opens in refl
-    go true false = unfold when◌then◌else◌ base_opens in refl
-    go false true = unfold when◌then◌else◌ base_opens in refl
-    go false false = unfold when◌then◌else◌ base_opens in refl
+    go true true = unfold base_opens in refl
+    go true false = unfold base_opens in refl
+    go false true = unfold base_opens in refl
+    go false false = unfold base_opens in refl
 
 module _ (front tail : List ℕ) (base : ℕ) (begins : length front ≡ base) (low : base < 4096) where
   mark-one : (ps : List SemanticAction) (x : SemanticAction) (xs : List SemanticAction) (b : List ℕ) → length ps < 700000000000000000
@@ -146,7 +145,7 @@ module _ (ys : List SemanticAction) (l marks : List ℕ) (subtables : ℕ) (few 
       → implicit_build marks i (listed (length bs) (actions_in [] l bs))
       ≡ (when b then listed (length bs) (actions_in [] l bs) else listed (length (bs ++ (built i ∷ [])))
       (actions_in [] l (bs ++ (built i ∷ []))))
-  unfolding implicit_build then_l when◌then◌else◌
+  unfolding implicit_build then_l
   build-one bs i h j true e = let q : get_or marks i 0 ≡ 1 = marked i j ∙ rw e in rw q
   build-one bs i h j false e =
       let q : get_or marks i 0 ≡ 0 = marked i j ∙ rw e in
@@ -176,8 +175,8 @@ module _ (ys : List SemanticAction) (l marks : List ℕ) (subtables : ℕ) (few 
           → run n (suc i) (implicit_build marks) (Held (bs ++ (built i ∷ []))) ≡ Held ((bs ++ (built i ∷ [])) ++ rest)
           → run n (suc i) (implicit_build marks) (when b then Held bs else Held (bs ++ (built i ∷ [])))
           ≡ Held (bs ++ definition.when◌then◌else◌ b rest (built i ∷ rest))
-      go true p q = unfold when◌then◌else◌ base_opens in p
-      go false p q = unfold when◌then◌else◌ base_opens in (rw (append_assoc bs (built i ∷ []) rest) at q)
+      go true p q = unfold base_opens in p
+      go false p q = unfold base_opens in (rw (append_assoc bs (built i ∷ []) rest) at q)
 
 -- moving down
 
@@ -326,7 +325,6 @@ module _ (front tail : List ℕ) (subtables : ℕ) (few : subtables ≤ 32) (beg
       → (g : List ℕ) × (length g ≡ length gap)
       × ((when b then actions_in [] whole before else run (length ys) 0 (move_to (24 * subtables) (24 * length before))
       (actions_in [] whole before)) ≡ (list_words before ++ list_words ys) ++ (g ++ drop (24 * length ys) tail))
-  unfolding when◌then◌else◌
   moved_is true e =
       let k : 24 * subtables ≡ 24 * length before = eqb-true (24 * subtables) (24 * length before) e in
       let q : gap ≡ [] = drop_of_length-le front {i = 24 * length before} (omega arith) in

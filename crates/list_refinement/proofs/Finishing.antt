@@ -60,20 +60,20 @@ bind_end {A} {B} e words more (listed f a) o g k h i = go (eqb f.refusal 0) refl
     go : (b : Bool) → eqb f.refusal 0 ≡ b → (o : Outcome A) → (when b then ended f.z a else refused_end f.refusal) ≡ ending words o
         → ((y : A) (s : State) → o ≡ done y s → seen_end (g (enc_z s.sizing) (words y)) ≡ ending more (k y e s))
         → seen_end (when b then g f.z a else listed f a) ≡ ending more (on e o k)
-    go true p (done y s) h i = unfold when◌then◌else◌ on in
+    go true p (done y s) h i = unfold on in
         (let q : ended f.z a ≡ ended (enc_z s.sizing) (words y) = unfold ending in h in
         let u : f.z ≡ enc_z s.sizing = cc in
         let v : a ≡ words y = cc in
         rw (u, v) (i y s refl))
     go true p (stopped r ordinal errors) h i =
-        let q : ended f.z a ≡ refused_end (refusal_number r) = unfold when◌then◌else◌ ending in h in
+        let q : ended f.z a ≡ refused_end (refusal_number r) = unfold ending in h in
         let z : ◌≡◌ {A = ℕ} 0 1 = cc in
         absurd (omega arith)
     go false p (done y s) h i =
-        let q : refused_end f.refusal ≡ ended (enc_z s.sizing) (words y) = unfold when◌then◌else◌ ending in h in
+        let q : refused_end f.refusal ≡ ended (enc_z s.sizing) (words y) = unfold ending in h in
         let z : ◌≡◌ {A = ℕ} 0 1 = cc in
         absurd (omega arith)
-    go false p (stopped r ordinal errors) h i = unfold when◌then◌else◌ on seen_end ending in rw p (unfold when◌then◌else◌ ending in h)
+    go false p (stopped r ordinal errors) h i = unfold on seen_end ending in rw p (unfold ending in h)
 
 -- a subpiece
 
@@ -142,7 +142,7 @@ module _ (pre post : List ℕ) (at0 : ℕ) (begins : length pre ≡ at0) where
         ≡ ending (words_of pre post) (on e (on e (on e (require b offset_too_far e u) λ _. λ e s. done (slice_bytes number n v) s) λ part. λ e
         s. done (part ∷ []) s) λ inputs. λ e s. done
         (record { kind = ActionKind.Op Operation.Copy; number = 0; inputs = inputs; output = some o }) s)
-    unfolding when◌then◌else◌ copy_of on require seen_end then_l ending refusal_number
+    unfolding copy_of on require seen_end then_l ending refusal_number
     sliced_is n h true p = rw (copy_is op number n v o (leb-true (v.offset + number) 65535 p) h)
     sliced_is n h false p = refl
 
@@ -151,9 +151,9 @@ module _ (pre post : List ℕ) (at0 : ℕ) (begins : length pre ≡ at0) where
         ≡ ending (words_of pre post) (on e (expect subpiece_size z e u) λ size. λ e s. on e (sliced_inputs number size (v ∷ []) e s) λ inputs.
         λ e s. done (record { kind = ActionKind.Op Operation.Copy; number = 0; inputs = inputs; output = some o }) s)
     unfolding words.slice_bytes or_none or_else expect on sliced_inputs sliced
-    copied_is none h = unfold when◌then◌else◌ seen_end then_l ending refusal_number in refl
+    copied_is none h = unfold seen_end then_l ending refusal_number in refl
     copied_is (some n) h = rw (ne_eqb n 65535 (λ q. omega arith))
-        (unfold when◌then◌else◌ in sliced_is n h (leb (v.offset + number) 65535) refl)
+        ( sliced_is n h (leb (v.offset + number) 65535) refl)
 
     piece_is : ends (subpiece_copy (words_of pre post piece) at0) ≡ ending (words_of pre post) (d.subpiece_copy piece e u)
     unfolding subpiece_copy d.subpiece_copy and_then
@@ -176,7 +176,7 @@ module _ (pre post : List ℕ) (at0 : ℕ) (begins : length pre ≡ at0) where
         → seen_end (when b then then_l (subpiece_copy (words_of pre post (X vs y)) at0) (λ r c. listed (finished r (enc_z u.sizing)) c) else
         listed (finished 0 (enc_z u.sizing)) (words_of pre post (X vs y)))
         ≡ ending (words_of pre post) (definition.when◌then◌else◌ b (d.subpiece_copy (X vs y)) (λ e s. done (X vs y) s) e u)
-    unfolding when◌then◌else◌ base_opens seen_end ending
+    unfolding base_opens seen_end ending
     tested_is true vs y g p =
         let q = p refl in
         let h : Sound sec n q.input = (subst (Each (Sound sec n)) q.one_input g.inputs).0 in
@@ -321,7 +321,7 @@ module _ (e : Env) (s t : List ℕ) (holds : SizesHold s t e.section) (rest : Li
             (fix_operands s t (words_of pre post x) (temporaries_in rest ts) at0 (pointer_size e.section) (enc_z u.sizing))
             (λ y b. finish_fixed b at0 y) else listed (finished 0 (enc_z u.sizing)) (words_of pre post x))
             ≡ ending (words_of pre post) (d.finish_op (operation_of k) x e u)
-        unfolding when◌then◌else◌ action_kind_number operation_of
+        unfolding action_kind_number operation_of
         by_kind (ActionKind.Op op) k = rw (operands-fixed s t e.section holds rest ts fit pre post at0 begins x op u.sizing k
             f.few same f.sound room) (op-finished op k)
         by_kind ActionKind.AddressOf k = unfold seen_end ending d.finish_op in refl
@@ -387,7 +387,7 @@ module _ (e : Env) (s t : List ℕ) (holds : SizesHold s t e.section) (rest : Li
           → seen_end (finish_from (length xs) (length ps) s t (actions_in front tail (ps ++ xs)) (temporaries_in rest ts) base
           (pointer_size e.section) (enc_z u.sizing)) ≡ ending (λ ys. actions_in front tail (ps ++ ys)) (d.finish_actions xs e u)
       unfolding finish_from d.finish_actions
-      finish_from_lem [] ps u h same f r = unfold seen_end ending when◌then◌else◌ in refl
+      finish_from_lem [] ps u h same f r = unfold seen_end ending in refl
       finish_from_lem (x ∷ xs) ps u h same f r =
           bind_end e (λ y. actions_in front tail (ps ++ (y ∷ xs))) (λ ys. actions_in front tail (ps ++ ys))
           (finish_op s t (actions_in front tail (ps ++ (x ∷ xs))) (temporaries_in rest ts) (place base (length ps))

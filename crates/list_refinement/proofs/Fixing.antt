@@ -52,7 +52,7 @@ module _ (s t : List ℕ) (sec : Section) (holds : SizesHold s t sec) (rest : Li
           → (when eqb (or_none a) 65535 then (when b then fixed (with_size (pointer_size sec) (enc_v v)) (enc_z z) else fixed (enc_v v)
           (error (enc_z z))) else fixed (with_size (or_none a) (enc_v v)) (enc_z z))
           ≡ fixed_as (d.fix_to sec v (a or definition.when◌then◌else◌ b (some (pointer_size sec)) none) z)
-      unfolding when◌then◌else◌ or_none or_else d.fix_to base_opens
+      unfolding or_none or_else d.fix_to base_opens
       by_size none true h r = refl
       by_size none false h r = rw (error_is z r)
       by_size (some n) b h r = rw (ne_eqb n 65535 (λ e. omega arith))
@@ -279,12 +279,12 @@ module _ (s t : List ℕ) (sec : Section) (holds : SizesHold s t sec) (rest : Li
       output-fixed x op none z k same f r =
           let e : get_or (words_of pre post (with_output none x)) (place + 5) 0 ≡ 255 = word_at (with_output none x) 5 (omega arith)
           ∙ rw (words_of_lem (with_output none x)) (rw k (unfold operation_of out_word in refl)) in
-          rw e (unfold when◌then◌else◌ in refl)
+          rw e ( refl)
       output-fixed x op (some v) z k same f r =
           let e : get_or (words_of pre post (with_output (some v) x)) (place + 5) 0 ≡ packed v = word_at (with_output (some v) x) 5 (omega arith)
           ∙ rw (words_of_lem (with_output (some v) x)) (unfold out_word in refl) in
           rw (e, not_absent v)
-          (unfold when◌then◌else◌ in rw (output_focus x v, output_focus x (d.fix_size sec v z).0)
+          ( rw (output_focus x v, output_focus x (d.fix_size sec v z).0)
           (operand-fixed (action_kind_number x.kind ∷ operation_word (operation_of x.kind) ∷ x.number ∷ length x.inputs ∷ [])
           (filled 18 (input_words x.inputs)) 4 v z refl same f r))
 

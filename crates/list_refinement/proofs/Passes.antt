@@ -24,11 +24,11 @@ use Rattle.list_refinement.proofs.Lists.{list_between, focus_at}
 
 -- where an action stands
 pub place_is : (base i : ℕ) → base < 4096 → i < 700000000000000000 → place base i ≡ base + 24 * i
-unfolding place when◌then◌else◌
+unfolding place
 place_is base i h j = rw (lt-ltb base 4096 h, lt-ltb i 700000000000000000 j) (omega arith)
 
 action-place_is : (base i : ℕ) → base < 4096 → i < 700000000000000000 → action_place base i ≡ base + 24 * i
-unfolding action_place when◌then◌else◌
+unfolding action_place
 action-place_is base zero h j = omega arith
 action-place_is base (suc i) h j = rw (ne_eqb (suc i) 0 (λ e. omega arith)) (place_is base (suc i) h j)
 

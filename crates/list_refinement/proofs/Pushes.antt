@@ -81,7 +81,6 @@ IsGiven none v = Unit {0}
 IsGiven (some u) v = v ≡ enc_v u
 
 tmp_test : (n k : ℕ) → leb (n + 1) (min k 512) ≡ (when ltb n k then ltb n 512 else false)
-unfolding when◌then◌else◌
 tmp_test n k = go (ltb n k) (ltb n 512) refl refl
   where
     go : (b c : Bool) → ltb n k ≡ b → ltb n 512 ≡ c → leb (n + 1) (min k 512) ≡ (when b then c else false)
@@ -120,13 +119,13 @@ module _ (e : Env) (s : State) (front tail rest : List ℕ) (lent : Lent e front
             ≡ outcome front tail rest enc_v (on e (require (when b then c else false) too_many_temporaries e s) λ _. λ e s0. on e
             (done (tt {0}) (with_sizing (with_temporaries (ts ++ (made ∷ [])) s.sizing) s0)) λ _. λ e s1. done
             (local Kind.PcodeTmp (length ts)) s1)
-        go true true p = unfold when◌then◌else◌ require seen_tmp outcome kind_number or_none or_else in (λ i.
+        go true true p = unfold require seen_tmp outcome kind_number or_none or_else in (λ i.
             yes (record { kind = 6; number = length ts; offset = 0; size = 65535 })
             (record { end = length front + 24 * length s.actions; temporaries = count i; sizing = enc_z s.sizing })
             (actions_in front tail s.actions)
             (tmp_written rest ts made (ltb-true (length ts) (length rest) p) i))
-        go true false p = unfold when◌then◌else◌ require seen_tmp outcome refusal_number in refl
-        go false c p = unfold when◌then◌else◌ require seen_tmp outcome refusal_number in refl
+        go true false p = unfold require seen_tmp outcome refusal_number in refl
+        go false c p = unfold require seen_tmp outcome refusal_number in refl
 
   pub named_is : (name : ℕ) (size : Option ℕ) → name ≤ 65535 → or_else 0 size < 65535
       → seen_tmp (actions_in front tail s.actions) (add_tmp (temporaries_in rest ts) name (or_none size) (enc_s (length front) s))
@@ -144,7 +143,7 @@ module _ (e : Env) (s : State) (front tail rest : List ℕ) (lent : Lent e front
   pub output_is : (size : Option ℕ) (to : Option Value) (v : WordValue) → or_else 0 size < 65535 → IsGiven to v
       → seen_tmp (actions_in front tail s.actions) (output_or (temporaries_in rest ts) (is_some to) v (or_none size)
       (enc_s (length front) s)) ≡ outcome front tail rest enc_v (d.output_or size to e s)
-  unfolding output_or when◌then◌else◌ d.output_or is_some
+  unfolding output_or d.output_or is_some
   output_is size (some u) v j g = unfold seen_tmp outcome in rw g
   output_is size none v j g = unnamed_is size j
 
@@ -202,11 +201,11 @@ module _ (e : Env) (s : State) (front tail rest : List ℕ) (lent : Lent e front
           (first_of x.inputs) (second_of x.inputs))
           else listed (Pushed.No 12) (actions_in front tail s.actions))
           ≡ outcome front tail rest (λ _. tt) (on e (require b list_full e s) λ _. λ e s0. done (tt {0}) (with_action x s0))
-      go true p = unfold when◌then◌else◌ require seen_push outcome in (λ i.
+      go true p = unfold require seen_push outcome in (λ i.
           yes tt (record { end = end_more x i; temporaries = length ts; sizing = enc_z s.sizing })
           (write-action e.section n front tail s.actions x (length front) refl (push_room p) few f i)
           (temporaries_in rest ts))
-      go false p = unfold when◌then◌else◌ require seen_push outcome refusal_number in refl
+      go false p = unfold require seen_push outcome refusal_number in refl
 
   pub push-done : (x : SemanticAction) (u : State) → d.push x e s ≡ done tt u → (u ≡ with_action x s) × Stands tail rest u
   unfolding d.push on
@@ -299,11 +298,11 @@ module _ (e : Env) (s : State) (front tail rest : List ℕ) (lent : Lent e front
                 ≡ outcome front tail rest (λ _. tt)
                 (on e (on e (require b list_full e (with_sizing updated.1 s)) λ _. λ e s0. done (tt {0}) (with_action updated.0 s0))
                 λ _. λ e s0. done updated.0 s0)
-            go true p = unfold when◌then◌else◌ on_push update_last on_state then_s require seen_pushed outcome in
+            go true p = unfold on_push update_last on_state then_s require seen_pushed outcome in
                 rw (written p, last_is) (λ i. yes tt (record
                 { end = end_more updated.0 i; temporaries = count i; sizing = enc_z updated.1 })
                 (actions_in front tail (s.actions ++ (updated.0 ∷ []))) (temporaries_in rest updated.1.temporaries))
-            go false p = unfold when◌then◌else◌ on_push require seen_pushed outcome refusal_number in refl
+            go false p = unfold on_push require seen_pushed outcome refusal_number in refl
 
         pub op_no_output_is : output ≡ none
             → seen_pushed (push_op stream table (actions_in front tail s.actions) (temporaries_in rest ts) we (operation_number operation) number

@@ -160,7 +160,7 @@ module _ (s t : List ℕ) (sec : Section) (holds : SizesHold s t sec) (tail : Li
 
     rule_is : (k : RuleKind) → Operands k x → apply_rule s t (rule_number k) late (words_of pre post x) (temporaries_of tail z) place
         (pointer_size sec) (enc_z z) ≡ held pre post tail (apply_steps sec late (rule_steps k) x z)
-    unfolding apply_rule few_operands when◌then◌else◌ rule_number rule_steps apply_steps apply_step fixed_size set_operands
+    unfolding apply_rule few_operands rule_number rule_steps apply_steps apply_step fixed_size set_operands
     rule_is RuleKind.unruled h = refl
     rule_is RuleKind.pair h = pair_is s t sec holds tail pre post place begins x z room r in0 out h.0 h.1 late
     rule_is RuleKind.shift h = shift_is h
@@ -184,7 +184,7 @@ module _ (s t : List ℕ) (sec : Section) (holds : SizesHold s t sec) (tail : Li
         → (when eqb (action_kind_number k) 0 then apply_rule s t (rule_of (operation_word (operation_of k))) late (words_of pre post x)
         (temporaries_of tail z) place (pointer_size sec) (enc_z z) else held pre post tail (x, z))
         ≡ held pre post tail (apply_steps sec late (steps_of (operation_of k)) x z)
-    unfolding when◌then◌else◌ action_kind_number operation_word operation_of steps_of apply_steps
+    unfolding action_kind_number operation_word operation_of steps_of apply_steps
     by_kind (ActionKind.Op op) h = rw ((ruled op).words, (ruled op).steps) (rule_is (kind_of op) h)
     by_kind ActionKind.AddressOf h = refl
     by_kind ActionKind.LoadRegister h = refl

@@ -72,7 +72,7 @@ each_at P (y ∷ xs) (suc i) x h e = each_at P xs i x h.1 e
 -- errors
 
 pub error_is : (z : Sizing) → length z.errors + 1 < 2 ^ 64 → error (enc_z z) ≡ enc_z (d.error z)
-unfolding error recorded when◌then◌else◌ first_error
+unfolding error recorded first_error
 error_is z h = go z.errors h
   where
     go : (es : List (Option ℕ)) → length es + 1 < 2 ^ 64
@@ -95,7 +95,7 @@ module _ (s t : List ℕ) (sec : Section) (holds : SizesHold s t sec) (tail : Li
   module _ (ts : List Temporary) (fit : Each SoundTmp ts) where
     local_is : (k : Kind) (n : ℕ) → Within sec (length ts) k n → size_of_local s t (temporaries_in tail ts) (kind_number k) n
         ≡ or_none (d.size_of_local sec ts k n)
-    unfolding listed_size size_of_local when◌then◌else◌ kind_number d.size_of_local or_none or_else
+    unfolding listed_size size_of_local kind_number d.size_of_local or_none or_else
     local_is Kind.InstStart n h = refl
     local_is Kind.InstNext n h = refl
     local_is Kind.Register n h = holds.registers n h
@@ -124,7 +124,7 @@ module _ (s t : List ℕ) (sec : Section) (holds : SizesHold s t sec) (tail : Li
 
     -- the known size
     pub size_is : (v : Value) → Sound sec (length ts) v → size_of s t (temporaries_in tail ts) (enc_v v) ≡ or_none (d.size_of sec ts v)
-    unfolding size_of when◌then◌else◌ d.size_of ◌or◌ or_none or_else
+    unfolding size_of d.size_of ◌or◌ or_none or_else
     size_is v f = go v.size f.size
       where
         go : (z : Option ℕ) → or_else 0 z < 65535
@@ -159,7 +159,7 @@ module _ (s t : List ℕ) (sec : Section) (holds : SizesHold s t sec) (tail : Li
         → listed (enc_z z) (size_temporary (temporaries_in tail z.temporaries)
         (enc_v (record { kind = k; number = number; offset = offset; size = own })) n)
         ≡ done (d.size_temporary sec n (record { kind = k; number = number; offset = offset; size = own }) z)
-    unfolding size_temporary when◌then◌else◌ kind_number d.size_temporary is_kind base_opens
+    unfolding size_temporary kind_number d.size_temporary is_kind base_opens
     unknown_is Kind.InstStart number offset own n h j = refl
     unknown_is Kind.InstNext number offset own n h j = refl
     unknown_is Kind.Register number offset own n h j = refl
@@ -174,7 +174,7 @@ module _ (s t : List ℕ) (sec : Section) (holds : SizesHold s t sec) (tail : Li
           (when eqb (kind_number k) 4 then done z else listed (error (enc_z z)) (temporaries_in tail z.temporaries))
           ≡ done (definition.when◌then◌else◌ (is_kind Kind.Subtable (record { kind = k; number = number; offset = offset; size = own })) z
           (d.error z))
-      unfolding when◌then◌else◌ kind_number is_kind base_opens
+      unfolding kind_number is_kind base_opens
       differ_is Kind.InstStart number offset own = rw (error_is z room)
       differ_is Kind.InstNext number offset own = rw (error_is z room)
       differ_is Kind.Register number offset own = rw (error_is z room)
@@ -186,7 +186,7 @@ module _ (s t : List ℕ) (sec : Section) (holds : SizesHold s t sec) (tail : Li
 
       pub settled_is : (known : Option ℕ) (v : Value) (n : ℕ) → or_else 0 known < 65535 → Sound sec (length z.temporaries) v → n < 65535
           → settled (temporaries_in tail z.temporaries) (enc_v v) (or_none known) n (enc_z z) ≡ done (d.settled sec known n v z)
-      unfolding settled when◌then◌else◌ d.settled or_none or_else
+      unfolding settled d.settled or_none or_else
       settled_is none v n h f j = unknown_is v.kind v.number v.offset v.size n f.number j
       settled_is (some m) v n h f j = rw (ne_eqb m 65535 (λ e. omega arith)) (go (eqb m n))
         where

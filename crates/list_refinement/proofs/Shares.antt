@@ -29,7 +29,7 @@ falls_kind : (sec : Section) (k : Kind) (number offset : ℕ) (own : Option ℕ)
     → fallback_size sec (record { kind = k; number = number; offset = offset; size = own })
     ≡ definition.when◌then◌else◌ (falls_back (enc_v (record { kind = k; number = number; offset = offset; size = own })))
     (some (pointer_size sec)) none
-unfolding fallback_size falls_back when◌then◌else◌ base_opens value_opens
+unfolding fallback_size falls_back base_opens value_opens
 falls_kind sec Kind.InstStart number offset own = refl
 falls_kind sec Kind.InstNext number offset own = refl
 falls_kind sec Kind.Register number offset own = refl
@@ -54,7 +54,7 @@ same_test n = eq-eqb n n refl
 
 equal_test : (n : ℕ) (b c : Option ℕ) → n < 65535 → or_else 0 b < 65535 → or_else 0 c < 65535
     → (when eqb n (or_none b) then eqb (or_none b) (or_none c) else false) ≡ (when contains n b then contains n c else false)
-unfolding when◌then◌else◌ or_none or_else contains
+unfolding or_none or_else contains
 equal_test n none c l lb lc = rw (small_test n l)
 equal_test n (some m) none l lb lc = rw (small_test m lb)
 equal_test n (some m) (some k) l lb lc = go (eqb n m) refl
@@ -117,7 +117,7 @@ module _ (s t : List ℕ) (sec : Section) (holds : SizesHold s t sec) (tail : Li
           ≡ held pre post tail (d.share_size sec none
           (definition.when◌then◌else◌ late (definition.when◌then◌else◌ b (some (pointer_size sec)) none or
           (definition.when◌then◌else◌ c (some (pointer_size sec)) none or none)) none) (p ∷ q ∷ []) x z)
-      unfolding when◌then◌else◌ base_opens d.share_size set_both
+      unfolding base_opens d.share_size set_both
       neither_is false b c = refl
       neither_is true true c = two_is (pointer_size sec) holds.pointer_small p q x z (suc room) r h j
       neither_is true false true = two_is (pointer_size sec) holds.pointer_small p q x z (suc room) r h j
@@ -136,7 +136,7 @@ module _ (s t : List ℕ) (sec : Section) (holds : SizesHold s t sec) (tail : Li
           (pointer_size sec) (enc_z z)
           ≡ held pre post tail (d.share_size sec (a or (b or none))
           (definition.when◌then◌else◌ late (first (λ y. and_then (at y x) (fallback_size sec)) (p ∷ q ∷ [])) none) (p ∷ q ∷ []) x z)
-      unfolding share_pair when◌then◌else◌ or_none or_else ◌or◌
+      unfolding share_pair or_none or_else ◌or◌
       pair_shares late none none e f k l = pair_none late
       pair_shares late none (some n) e f k l = rw (small_test n l) (part e f)
         where
@@ -190,7 +190,7 @@ module _ (s t : List ℕ) (sec : Section) (holds : SizesHold s t sec) (tail : Li
           (definition.when◌then◌else◌ late (definition.when◌then◌else◌ b (some (pointer_size sec)) none or
           (definition.when◌then◌else◌ c (some (pointer_size sec)) none or
           (definition.when◌then◌else◌ e (some (pointer_size sec)) none or none))) none) (in0 ∷ in1 ∷ out ∷ []) x z)
-      unfolding when◌then◌else◌ base_opens d.share_size
+      unfolding base_opens d.share_size
       none_three false b c e = refl
       none_three true true c e = three_is (pointer_size sec) holds.pointer_small x z room r h j k
       none_three true false true e = three_is (pointer_size sec) holds.pointer_small x z room r h j k
@@ -222,7 +222,7 @@ module _ (s t : List ℕ) (sec : Section) (holds : SizesHold s t sec) (tail : Li
         by_first : (n : ℕ) (b c : Option ℕ) (u v : Bool) → n < 65535 → Known (some n) b c → contains n b ≡ u → contains n c ≡ v
             → (when (when u then v else false) then held pre post tail (x, z) else set_two s t (words_of pre post x)
             (temporaries_of tail z) place 8 4 n (enc_z z)) ≡ Shared (some n) late
-        unfolding when◌then◌else◌ base_opens d.share_size but_first
+        unfolding base_opens d.share_size but_first
         by_first n b c true true l e f g = let i : contains n (some n) ≡ true = unfold contains in same_test n in rw (e.0, i, e.1, f, e.2, g)
         by_first n b c true false l e f g = let i : contains n (some n)
             ≡ true = unfold contains in same_test n in rw (e.0, i, e.1, f, e.2, g) (two_is n l in1 out x z (suc room) r j k)
@@ -232,7 +232,7 @@ module _ (s t : List ℕ) (sec : Section) (holds : SizesHold s t sec) (tail : Li
         triple_shares : (a b c : Option ℕ) → or_else 0 a < 65535 → or_else 0 b < 65535 → or_else 0 c < 65535 → Known a b c
             → share_triple s t late (words_of pre post x) (temporaries_of tail z) place (or_none a) (or_none b) (or_none c)
             (pointer_size sec) (enc_z z) ≡ Shared (a or (b or (c or none))) late
-        unfolding share_triple share_size all_equal when◌then◌else◌ or_none or_else ◌or◌
+        unfolding share_triple share_size all_equal or_none or_else ◌or◌
         triple_shares none none none la lb lc e = triple_none late
         triple_shares none none (some n) la lb lc e = rw (test_small n lc) (by_out n lc e)
         triple_shares none (some n) c la lb lc e = rw (test_small n lb, small_test n lb) (by_second n c lb e)
@@ -266,6 +266,6 @@ module _ (s t : List ℕ) (sec : Section) (holds : SizesHold s t sec) (tail : Li
       go : (a : Option ℕ) → or_else 0 a < 65535 → (when eqb (or_none a) 65535 then set_operand s t (words_of pre post x)
           (temporaries_of tail z) place (operand_at p) n (enc_z z) else held pre post tail (x, z))
           ≡ held pre post tail (d.set_unsized sec a n p x z)
-      go none l = unfold when◌then◌else◌ or_none or_else d.set_unsized in set_is s t sec holds tail pre post place begins n small p x z
+      go none l = unfold or_none or_else d.set_unsized in set_is s t sec holds tail pre post place begins n small p x z
           room r h
-      go (some m) l = unfold when◌then◌else◌ or_none or_else d.set_unsized in rw (small_test m l)
+      go (some m) l = unfold or_none or_else d.set_unsized in rw (small_test m l)

@@ -43,7 +43,7 @@ rule_kinds =
     ∷ RuleKind.negation ∷ RuleKind.nan ∷ RuleKind.address ∷ RuleKind.branch ∷ RuleKind.condition ∷ []
 
 unfoldable pub kind_of : Operation → RuleKind
-unfolding rule_kinds rule_of rule_of_operator rule_of_one_input rule_of_other when◌then◌else◌ operation_number
+unfolding rule_kinds rule_of rule_of_operator rule_of_one_input rule_of_other operation_number
 kind_of op = get_or rule_kinds (rule_of (operation_number op)) RuleKind.unruled
 
 -- whether an action has an operand

@@ -16,15 +16,15 @@ value_at_law l at i w n p q = rw (p, q)
 
 module _ (v : Value) (more size : ℕ) where
   pub slice_is : v.offset ≤ 65535 → more ≤ 65535 - v.offset → Slice.Is (record { kind = v.kind; number = v.number; offset = v.offset + more; size = size }) ≡ slice_bytes v more size
-  unfolding slice_bytes when◌then◌else◌
+  unfolding slice_bytes
   slice_is h k = rw (le-leb (v.offset + more) 65535 (omega arith))
 
   pub slice_more : v.offset ≤ 65535 → 65535 - v.offset < more → Slice.No 42 ≡ slice_bytes v more size
-  unfolding slice_bytes when◌then◌else◌
+  unfolding slice_bytes
   slice_more h k = rw (lt-leb (v.offset + more) 65535 (omega arith))
 
   pub slice_far : 65535 < v.offset → Slice.No 42 ≡ slice_bytes v more size
-  unfolding slice_bytes when◌then◌else◌
+  unfolding slice_bytes
   slice_far h = rw (lt-leb (v.offset + more) 65535 (omega arith))
 
 pub put_value_law : (l l1 l2 : List ℕ) (at i k : ℕ) (v : Value) → l1 ≡ set l (at + i) v.number → k ≡ word v → l2 ≡ set l1 (at + (i + 1)) k → l2 ≡ put_value l at i v
@@ -36,15 +36,15 @@ unfolding put_size
 put_size_law l l1 at i w size p e = rw (← p) e
 
 pub place_at : (base i : ℕ) → base < 4096 → i < 700000000000000000 → base + i * 24 ≡ place base i
-unfolding place when◌then◌else◌
+unfolding place
 place_at base i h k = rw (lt-ltb base 4096 h, lt-ltb i 700000000000000000 k)
 
 pub place_far : (base i : ℕ) → base < 4096 → 700000000000000000 ≤ i → 0 ≡ place base i
-unfolding place when◌then◌else◌
+unfolding place
 place_far base i h k = rw (lt-ltb base 4096 h, le-ltb i 700000000000000000 k)
 
 pub place_off : (base i : ℕ) → 4096 ≤ base → 0 ≡ place base i
-unfolding place when◌then◌else◌
+unfolding place
 place_off base i h = rw (le-ltb base 4096 h)
 
 pub ruleset value_laws = (slice_is, slice_more, slice_far, value_at_law, put_value_law, put_size_law)

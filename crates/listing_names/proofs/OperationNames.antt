@@ -10,5 +10,5 @@ use Rattle.listing_names.specs.Operations.{operation_name, operation_names, oper
 
 -- a number's text is the name of its operation
 pub text_is_name : (op : Operation) → operation_text (operation_number op) ≡ bytes_of (operation_name op)
-unfolding operation_text operation_names operation_name operations_opens bytes_of word rest first when◌then◌else◌
+unfolding operation_text operation_names operation_name operations_opens bytes_of word rest first
 text_is_name = alike (λ op. operation_text (operation_number op)) (λ op. bytes_of (operation_name op)) refl

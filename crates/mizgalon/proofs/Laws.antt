@@ -43,7 +43,7 @@ module _ (file : List ℕ) (la lt : ℕ) (r : Numbers) (b u : List ℕ) (h : ans
 
   -- a refused section's list does not pass
   pub not_checked : (r.refusal ≡ 0 → ⊥) → false ≡ checked file la lt
-  unfolding checked when◌then◌else◌
+  unfolding checked
   not_checked k = rw (ne_eqb (resolve file la lt).result.refusal 0 (λ z. k (refusal_is ∙ z)))
 
   pub vacuous : (r.refusal ≡ 0 → ⊥) → premise file la lt ≡ true → r.refusal ≡ 0 → false ≡ true
@@ -55,7 +55,7 @@ module _ (file : List ℕ) (la lt : ℕ) (r : Numbers) (b u : List ℕ) (h : ans
         ∙ ap (λ (a : Answer). check a.actions a.result.actions a.result.temporaries (subtable_count (read file)) (pointer_size_in (read file))) h
 
     pub is_checked : r.refusal ≡ 0 → x ≡ checked file la lt
-    unfolding checked when◌then◌else◌
+    unfolding checked
     is_checked z = rw (eq-eqb (resolve file la lt).result.refusal 0 (sym refusal_is ∙ z)) passes_is
 
     pub held : r.refusal ≡ 0 → premise file la lt ≡ true → r.refusal ≡ 0 → x ≡ true

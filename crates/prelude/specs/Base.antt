@@ -1,11 +1,10 @@
 -- What antt's libraries lack: a test that chooses, a few functions on options and lists.
-use Rattle.std.specs.Prelude.{ℕ, suc, ◌+◌, Bool, true, false, List, [], ◌∷◌, eqb}
+use Rattle.std.specs.Prelude.{ℕ, suc, ◌+◌, Bool, true, false, cond, List, [], ◌∷◌, eqb}
 use Rattle.std.proofs.Math.Option.{Option, none, some}
 
 infix 1 when◌then◌else◌
-unfoldable pub when◌then◌else◌ : {A : Type 0} → Bool → A → A → A
-when◌then◌else◌ true a b = a
-when◌then◌else◌ false a b = b
+abbrev pub when◌then◌else◌ : {A : Type 0} → Bool → A → A → A
+when◌then◌else◌ b x y = cond b x y
 
 infixr 20 ◌or◌
 unfoldable pub ◌or◌ : {A : Type 0} → Option A → Option A → Option A

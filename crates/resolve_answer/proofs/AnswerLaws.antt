@@ -18,23 +18,23 @@ unfolding refused zero_from
 refused_law a m a1 m1 refusal ordinal errors p q = rw (p, q)
 
 pub points-small : (k n : ℕ) → k < 4611686018427387904 → n < 4611686018427387904 → (2 * k + n + 5) / 10 ≡ points_of k n
-unfolding points_of when◌then◌else◌
+unfolding points_of
 points-small k n p q = rw (lt-ltb k 4611686018427387904 p, lt-ltb n 4611686018427387904 q)
 
 pub points_many : (k n : ℕ) → 4611686018427387904 ≤ k → 0 ≡ points_of k n
-unfolding points_of when◌then◌else◌
+unfolding points_of
 points_many k n p = rw (le-ltb k 4611686018427387904 p)
 
 pub points_wide : (k n : ℕ) → k < 4611686018427387904 → 4611686018427387904 ≤ n → 0 ≡ points_of k n
-unfolding points_of when◌then◌else◌
+unfolding points_of
 points_wide k n p q = rw (lt-ltb k 4611686018427387904 p, le-ltb n 4611686018427387904 q)
 
 pub words_none : (x : Export) → x.kind ≡ 0 → words 0 0 ≡ export_words x
-unfolding export_words when◌then◌else◌
+unfolding export_words
 words_none x h = rw (eq-eqb x.kind 0 h)
 
 pub words-some : (x : Export) (k : ℕ) → (x.kind ≡ 0 → ⊥) → k ≡ word x.v → words x.v.number k ≡ export_words x
-unfolding export_words when◌then◌else◌
+unfolding export_words
 words-some x k h e = rw (ne_eqb x.kind 0 h, e)
 
 pub accepted_law : (a m a1 m1 : List ℕ) (subtables n k p : ℕ) (w : Walk) (x : Export) (e : Words) → listed k a1 ≡ assemble a subtables n → m1 ≡ take w.st.temporaries m ++ replicate (length m - w.st.temporaries) 0 →

@@ -22,11 +22,11 @@ table_law s t subtables pointer p q = rw (p.0, q)
 
 module _ (s t : List ℕ) (bad : ℕ) (f : answer bad t ≡ read_stream s (replicate 3344 0)) where
   pub stream_refused : (bad ≡ 0 → ⊥) → counts 0 0 ≡ stream_counts s
-  unfolding stream_counts read_counts when◌then◌else◌
+  unfolding stream_counts read_counts
   stream_refused h = rw (← f, ne_eqb bad 0 h)
 
   pub stream_read : (r : Counts) → bad ≡ 0 → r ≡ table_counts s t → r ≡ stream_counts s
-  unfolding stream_counts read_counts when◌then◌else◌
+  unfolding stream_counts read_counts
   stream_read r h e = rw (← f, eq-eqb bad 0 h) e
 
 pub blocks_law : (file rest buf : List ℕ) (r : Counts) → buf ≡ joined (length file / 512) file ++ rest → r ≡ stream_counts (take (length file / 512 * 510) buf) → r ≡ stream_counts (joined (length file / 512) file)

@@ -21,7 +21,7 @@ use Rattle.resolve_refinement.proofs.Start.{pointer_is}
 use Rattle.resolve_counts.specs.Counts.{counts, table_counts, read_counts, stream_counts}
 
 stream_counts_lem : (x : List ℕ) → length x ≤ 65280 → (y : Parsed Section) → read_section x ≡ y → stream_counts x ≡ counts (subtable_count y) (pointer_size_in y)
-unfolding stream_counts read_counts table_counts refusal_of no_table subtable_count pointer_size_in when_read when◌then◌else◌
+unfolding stream_counts read_counts table_counts refusal_of no_table subtable_count pointer_size_in when_read
 stream_counts_lem x few (refused r) q =
     let n : (read_stream x (replicate 3344 0)).refusal ≡ refusal_number r = stream_refusal x (omega arith) ∙ rw q in
     rw (n, refusal_bad r)

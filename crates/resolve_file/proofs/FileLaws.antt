@@ -25,11 +25,11 @@ use Rattle.resolve_file.specs.Files.{pointer_size, at_start, start_env, walk_sec
 
 module _ (s t : List ℕ) (i : ℕ) (p : (i ≡ le16 s 24) × (i < 65536)) where
   pub pointer_none : i ≡ 65535 → 8 ≡ pointer_size s t
-  unfolding pointer_size when◌then◌else◌
+  unfolding pointer_size
   pointer_none h = rw (← p.0, eq-eqb i 65535 h)
 
   pub pointer-some : (at r : ℕ) → (i ≡ 65535 → ⊥) → at ≡ entry t 0 (i * 5 + 3) → (r ≡ le16 s at) × (r < 65536) → r ≡ pointer_size s t
-  unfolding pointer_size when◌then◌else◌
+  unfolding pointer_size
   pointer-some at r h q e = rw (← p.0, ne_eqb i 65535 h, ← q) e.0
 
 pub start_law : (subtables end : ℕ) (v : Value) → end ≡ place 0 subtables → v ≡ absent →
@@ -43,25 +43,25 @@ walk_law s t a m p1 a1 m1 subtables ptr pos n ordinal e w r h i j k l f = rw (�
 
 module _ (s t a m : List ℕ) (subtables : ℕ) (p : (subtables ≡ le16 s 20) × (subtables < 65536)) (r : Answer) (a2 m2 : List ℕ) where
   pub section_small : length a / 24 < subtables → resolved_to r a2 m2 ≡ refused a m 12 65535 0 → resolved_to r a2 m2 ≡ resolve_section s t a m
-  unfolding resolve_section when◌then◌else◌
+  unfolding resolve_section
   section_small h e = rw (← p.0, lt-ltb (length a / 24) subtables h) e
 
   module _ (ptr : ℕ) (g : Step) (a1 m1 : List ℕ) (h : subtables ≤ length a / 24) (q : ptr ≡ pointer_size s t) (f : stepped g a1 m1 ≡ walk_section s t a m subtables ptr) where
     pub section_stop : (refusal ordinal : ℕ) → g ≡ Step.Stop refusal ordinal → resolved_to r a2 m2 ≡ refused a1 m1 refusal ordinal 0 → resolved_to r a2 m2 ≡ resolve_section s t a m
-    unfolding resolve_section resolve_walked when◌then◌else◌
+    unfolding resolve_section resolve_walked
     section_stop refusal ordinal k e = rw (← p.0, le-ltb (length a / 24) subtables h, ← q, ← f, k) e
 
     pub section_next : (next : ℕ) (w : Walk) → g ≡ Step.Next next w → resolved_to r a2 m2 ≡ finish s t a1 m1 ptr w → resolved_to r a2 m2 ≡ resolve_section s t a m
-    unfolding resolve_section resolve_walked when◌then◌else◌
+    unfolding resolve_section resolve_walked
     section_next next w k e = rw (← p.0, le-ltb (length a / 24) subtables h, ← q, ← f, k) e
 
 module _ (s a m t : List ℕ) (bad : ℕ) (r : Answer) (a1 m1 : List ℕ) (f : answer bad t ≡ read_stream s (replicate 3344 0)) where
   pub stream_refused : (bad ≡ 0 → ⊥) → resolved_to r a1 m1 ≡ refused a m bad 65535 0 → resolved_to r a1 m1 ≡ resolve_stream s a m
-  unfolding resolve_stream resolve_read when◌then◌else◌
+  unfolding resolve_stream resolve_read
   stream_refused h e = rw (← f, ne_eqb bad 0 h) e
 
   pub stream_read : bad ≡ 0 → resolved_to r a1 m1 ≡ resolve_section s t a m → resolved_to r a1 m1 ≡ resolve_stream s a m
-  unfolding resolve_stream resolve_read when◌then◌else◌
+  unfolding resolve_stream resolve_read
   stream_read h e = rw (← f, eq-eqb bad 0 h) e
 
 pub blocks_law : (file rest buf a m a1 m1 : List ℕ) (r : Answer) → buf ≡ joined (length file / 512) file ++ rest → resolved_to r a1 m1 ≡ resolve_stream (take (length file / 512 * 510) buf) a m → resolved_to r a1 m1 ≡ resolve_stream (joined (length file / 512) file) a m
@@ -69,15 +69,15 @@ blocks_law file rest buf a m a1 m1 r e f = rw (e, front file rest) at f
 
 module _ (file a m : List ℕ) (bad : ℕ) (r : Answer) (a1 m1 : List ℕ) (p : bad ≡ refusal_of (stream_of file)) where
   pub file-refused : (bad ≡ 0 → ⊥) → resolved_to r a1 m1 ≡ refused a m bad 65535 0 → resolved_to r a1 m1 ≡ resolve_file file a m
-  unfolding resolve_file when◌then◌else◌
+  unfolding resolve_file
   file-refused h e = rw (← p, ne_eqb bad 0 h) e
 
   pub file-one : bad ≡ 0 → length file ≡ 512 → resolved_to r a1 m1 ≡ resolve_stream (take 510 file) a m → resolved_to r a1 m1 ≡ resolve_file file a m
-  unfolding resolve_file when◌then◌else◌
+  unfolding resolve_file
   file-one h l e = rw (← p, eq-eqb bad 0 h, one_block file l) e
 
   pub file_blocks : bad ≡ 0 → resolved_to r a1 m1 ≡ resolve_stream (joined (length file / 512) file) a m → resolved_to r a1 m1 ≡ resolve_file file a m
-  unfolding resolve_file when◌then◌else◌
+  unfolding resolve_file
   file_blocks h e = rw (← p, eq-eqb bad 0 h) e
 
   pub room : bad ≡ 0 → length file / 512 * 510 ≤ 65280

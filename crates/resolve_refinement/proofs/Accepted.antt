@@ -33,11 +33,10 @@ abbrev pub ExportHeld : Section → ℕ → Option Export → WordExport → Typ
 ExportHeld sec n x y = ExportIs x y × EachOption (SoundExport sec n) x
 
 none_words : (k : ℕ) (w : Words) → k ≡ 0 → (when eqb k 0 then words 0 0 else w) ≡ words 0 0
-unfolding when◌then◌else◌
 none_words k w h = rw (eq-eqb k 0 h)
 
 kind_words : (k : ExportKind) (w : Words) → (when eqb (export_kind_number k) 0 then words 0 0 else w) ≡ w
-unfolding when◌then◌else◌ export_kind_number
+unfolding export_kind_number
 kind_words ExportKind.PlainValue w = refl
 kind_words ExportKind.RamRef w = refl
 kind_words ExportKind.RegisterRef w = refl
@@ -57,7 +56,7 @@ export_is sec n (some x) y h = (
 )
 
 points_are : (k n : ℕ) → k < 2 ^ 62 → n < 2 ^ 62 → points_of k n ≡ points k n
-unfolding points_of points when◌then◌else◌
+unfolding points_of points
 points_are k n p q = rw (lt-ltb k 4611686018427387904 p, lt-ltb n 4611686018427387904 q)
 
 -- the twelve numbers of an accepted section, and two lists

@@ -166,8 +166,8 @@ module _ (s t : List ℕ) (e : Env) (front tail rest : List ℕ) (holds : SizesH
       where
         go : (l : List (Option ℕ)) → r.sizing.errors ≡ l
             → as_answer (when eqb (length l) 0 then accepted (actions_in front tail ys) M sub (length st.actions) w y else refused (actions_in front tail ys) M 51 (first_error l) (length l)) ≡ answered la (length rest) (on e (d.no_errors l e r) λ _. λ e u. done (made ys r x) u)
-        go [] i = unfold when◌then◌else◌ d.no_errors on in accepts r i same x y export
-        go (o ∷ more) i = rw (ne_eqb (suc (length more)) 0 (λ z. omega arith)) (unfold when◌then◌else◌ d.no_errors on answered refusal_number first_error in refused_is (actions_in front tail ys) M la (length rest) errors_recorded o (suc (length more)) (actions_length front tail ys fits) M_length)
+        go [] i = unfold d.no_errors on in accepts r i same x y export
+        go (o ∷ more) i = rw (ne_eqb (suc (length more)) 0 (λ z. omega arith)) (unfold d.no_errors on answered refusal_number first_error in refused_is (actions_in front tail ys) M la (length rest) errors_recorded o (suc (length more)) (actions_length front tail ys fits) M_length)
 
     -- the export's size fixed
 
@@ -197,12 +197,12 @@ module _ (s t : List ℕ) (e : Env) (front tail rest : List ℕ) (holds : SizesH
     some_kind ExportKind.RegisterRef = refl
 
     exports : (x : Option Export) (y : WordExport) → ExportHeld e.section (count from) x y → Concludes x y
-    exports none y h = rw (eq-eqb y.kind 0 h.0.0) (unfold when◌then◌else◌ d.finish_export on in judgement q (λ _. refl) none y h)
+    exports none y h = rw (eq-eqb y.kind 0 h.0.0) (unfold d.finish_export on in judgement q (λ _. refl) none y h)
     exports (some x) y h =
         ap (λ (y : WordExport). as_answer (when eqb y.kind 0 then judged (actions_in front tail ys) M sub (length st.actions) w y (enc_z q.sizing)
         else judged (actions_in front tail ys) M sub (length st.actions) w (export_fixed y (fix_size s t M y.v (pointer_size e.section) (enc_z q.sizing))) (fix_size s t M y.v (pointer_size e.section) (enc_z q.sizing)).z)) h.0
         ∙ rw (some_kind x.kind, fix_is s t e.section holds rest (tmps from) inferred_is.temporaries q.sizing after.sizing.temporaries x.value h.1.value errors)
-        (unfold when◌then◌else◌ d.finish_export on in judgement (with_sizing (sizes.fix_size e.section x.value q.sizing).1 q) (size_same x.value) (some fixed_export) (enc_e fixed_export) (refl, record { value = fix_sound s t e.section holds rest (tmps from) inferred_is.temporaries q.sizing after.sizing.temporaries x.value h.1.value; size = h.1.size }))
+        (unfold d.finish_export on in judgement (with_sizing (sizes.fix_size e.section x.value q.sizing).1 q) (size_same x.value) (some fixed_export) (enc_e fixed_export) (refl, record { value = fix_sound s t e.section holds rest (tmps from) inferred_is.temporaries q.sizing after.sizing.temporaries x.value h.1.value; size = h.1.size }))
       where
         fixed_export : Export
         fixed_export = record { kind = x.kind; value = (sizes.fix_size e.section x.value q.sizing).0; access_size = x.access_size }
@@ -220,12 +220,12 @@ module _ (s t : List ℕ) (e : Env) (front tail rest : List ℕ) (holds : SizesH
 
   refuses : (x : Resolved) (a : List ℕ) (r : Refusal) (ordinal : Option ℕ) (errors n m : ℕ) → n ≡ refusal_number r → m ≡ or_none ordinal → errors ≡ 0 → length a ≡ la
       → as_answer (when false then x else refused a M n m 0) ≡ answered la (length rest) (on e (stopped r ordinal errors) concluded)
-  unfolding when◌then◌else◌ on answered
+  unfolding on answered
   refuses x a r ordinal errors n m h i j k = (λ c. as_answer (refused a M (h c) (i c) 0)) ∙ refused_is a M la (length rest) r ordinal 0 k M_length ∙ ap (refusal la (length rest) r ordinal) (sym j)
 
   goes_on : (x : Resolved) (ys : List SemanticAction) (q : State) → d.finish_actions inferred.0 e from ≡ done ys q → (a : List ℕ) (z : WordSizing) → a ≡ actions_in front tail ys → z ≡ enc_z q.sizing
       → as_answer (when true then finish_export s t a M sub (length st.actions) (pointer_size e.section) w z else x) ≡ answered la (length rest) (on e (done ys q) concluded)
-  unfolding when◌then◌else◌ finish_export judged_fixed on
+  unfolding finish_export judged_fixed on
   goes_on x ys q p a z h k = (λ i. as_answer (finish_export s t (h i) M sub (length st.actions) (pointer_size e.section) w (k i))) ∙ exports ys q p st.export b.export export_held
 
   finishes : (x : Listed Finished) (o : Outcome (List SemanticAction)) → d.finish_actions inferred.0 e from ≡ o → seen_end x ≡ ending (actions_in front tail) o
@@ -237,20 +237,20 @@ module _ (s t : List ℕ) (e : Env) (front tail rest : List ℕ) (holds : SizesH
       go : (c : Bool) (o : Outcome (List SemanticAction)) → d.finish_actions inferred.0 e from ≡ o → (when c then ended f.z a else refused_end f.refusal) ≡ ending (actions_in front tail) o → Begun st.sizing.begun o
           → as_answer (when c then finish_export s t a M sub (length st.actions) (pointer_size e.section) w f.z else refused a M f.refusal f.z.begun 0) ≡ answered la (length rest) (on e o concluded)
       go true (done ys q) p h g =
-          let k : ended f.z a ≡ ended (enc_z q.sizing) (actions_in front tail ys) = unfold when◌then◌else◌ ending in h in
+          let k : ended f.z a ≡ ended (enc_z q.sizing) (actions_in front tail ys) = unfold ending in h in
           let z : f.z ≡ enc_z q.sizing = cc in
           let v : a ≡ actions_in front tail ys = cc in
           goes_on (refused a M f.refusal f.z.begun 0) ys q p a f.z v z
       go true (stopped r ordinal errors) p h g =
-          let k : ended f.z a ≡ refused_end (refusal_number r) = unfold when◌then◌else◌ ending in h in
+          let k : ended f.z a ≡ refused_end (refusal_number r) = unfold ending in h in
           let z : ◌≡◌ {A = ℕ} 0 1 = cc in
           absurd (omega arith)
       go false (done ys q) p h g =
-          let k : refused_end f.refusal ≡ ended (enc_z q.sizing) (actions_in front tail ys) = unfold when◌then◌else◌ ending in h in
+          let k : refused_end f.refusal ≡ ended (enc_z q.sizing) (actions_in front tail ys) = unfold ending in h in
           let z : ◌≡◌ {A = ℕ} 0 1 = cc in
           absurd (omega arith)
       go false (stopped r ordinal errors) p h g =
-          let k : refused_end f.refusal ≡ refused_end (refusal_number r) = unfold when◌then◌else◌ ending in h in
+          let k : refused_end f.refusal ≡ refused_end (refusal_number r) = unfold ending in h in
           let n : f.refusal ≡ refusal_number r = cc in
           refuses (finish_export s t a M sub (length st.actions) (pointer_size e.section) w f.z) a r ordinal errors f.refusal f.z.begun n (l.1 ∙ ap or_none (sym g.0)) g.1 l.0
 
@@ -258,7 +258,7 @@ module _ (s t : List ℕ) (e : Env) (front tail rest : List ℕ) (holds : SizesH
   base_is = place_is 0 sub (omega arith) (omega arith) ∙ omega arith
 
   between : actions_between (24 * sub) (length front + 24 * length st.actions) ≡ length st.actions
-  unfolding actions_between when◌then◌else◌
+  unfolding actions_between
   between = rw (le-ltb (length front + 24 * length st.actions) (24 * sub) (omega arith)) (omega arith)
 
   few-actions : length st.actions < 600000000000000000

@@ -33,11 +33,11 @@ abbrev begun_in : WordSizing → ℕ
 begun_in z = z.begun
 
 error-begun : (z : WordSizing) → (error z).begun ≡ z.begun
-unfolding error recorded when◌then◌else◌
+unfolding error recorded
 error-begun z = refl
 
 fix_begun : (s t m : List ℕ) (v : WordValue) (ptr : ℕ) (z : WordSizing) → (fix_size s t m v ptr z).z.begun ≡ z.begun
-unfolding fix_size when◌then◌else◌
+unfolding fix_size
 fix_begun s t m v ptr z = go (eqb (size_of s t m v) 65535) (falls_back v)
   where
     begun_of : Fixed → ℕ
@@ -70,7 +70,7 @@ module _ (s t m : List ℕ) (n begun : ℕ) where
   inputs_left (suc k) i at ptr (listed z a) h = inputs_left k (suc i) at ptr (fix_operand s t a m at (6 + i % 8 * 2) ptr z) (operand_left a at (6 + i % 8 * 2) ptr z h)
 
   output_left : (a : List ℕ) (at ptr : ℕ) (z : WordSizing) → Left n begun (listed z a) → Left n begun (fix_output s t a m at ptr z)
-  unfolding fix_output when◌then◌else◌
+  unfolding fix_output
   output_left a at ptr z h = go (eqb (get_or a (at + 5) 0) 255)
     where
       go : (b : Bool) → Left n begun (when b then listed z a else fix_operand s t a m at 4 ptr z)
@@ -90,7 +90,7 @@ module _ (s t m : List ℕ) (n begun : ℕ) where
   copy_left a at (Slice.No k) z h = h
 
   subpiece_left : (a : List ℕ) (at : ℕ) (z : WordSizing) → Left n begun (listed z a) → LeftAs n begun (then_l (subpiece_copy a at) λ r b. listed (finished r z) b)
-  unfolding subpiece_copy then_l when◌then◌else◌
+  unfolding subpiece_copy then_l
   subpiece_left a at z h = go (eqb (value_at a at 4).size 65535)
     where
       part : Slice
@@ -101,7 +101,7 @@ module _ (s t m : List ℕ) (n begun : ℕ) where
       go false = copy_left a at part z h
 
   fixed_left : (a : List ℕ) (at : ℕ) (z : WordSizing) → Left n begun (listed z a) → LeftAs n begun (finish_fixed a at z)
-  unfolding finish_fixed when◌then◌else◌
+  unfolding finish_fixed
   fixed_left a at z h = go (eqb (get_or a (at + 1) 0) 66)
     where
       go : (b : Bool) → LeftAs n begun (when b then then_l (subpiece_copy a at) (λ r b. listed (finished r z) b) else listed (finished 0 z) a)
@@ -109,7 +109,7 @@ module _ (s t m : List ℕ) (n begun : ℕ) where
       go false = h
 
   op_left : (a : List ℕ) (at ptr : ℕ) (z : WordSizing) → Left n begun (listed z a) → LeftAs n begun (finish_op s t a m at ptr z)
-  unfolding finish_op then_l when◌then◌else◌
+  unfolding finish_op then_l
   op_left a at ptr z h = go (eqb (get_or a (at + 0) 0) 0)
     where
       on_fixed : (x : Listed WordSizing) → Left n begun x → LeftAs n begun (then_l x λ y b. finish_fixed b at y)
@@ -129,8 +129,8 @@ module _ (s t m : List ℕ) (n begun : ℕ) where
       go (listed f b) h rec = unfold then_f in test (eqb f.refusal 0)
         where
           test : (c : Bool) → LeftAs n begun (when c then finish_from k (suc i) s t b m base ptr f.z else listed f b)
-          test true = unfold when◌then◌else◌ in rec b f.z h
-          test false = unfold when◌then◌else◌ in h
+          test true =  rec b f.z h
+          test false =  h
 
   pub actions_left : (k : ℕ) (a : List ℕ) (base ptr : ℕ) (z : WordSizing) → length a ≡ n → z.begun ≡ begun → LeftAs n begun (finish_actions s t a m base k ptr z)
   unfolding finish_actions

@@ -117,7 +117,7 @@ module _ (s t : List ℕ) (sec : Section) (holds : Holds s t sec) (within : With
 
   tested : (length sec.subtables ≤ length a / 24 → Walks s t sec a m) → (b : Bool) → ltb (length a / 24) (length sec.subtables) ≡ b → Lengths (length a) (length m) (chosen b)
       → as_answer (chosen b) ≡ answered (length a) (length m) (on e (on e (require (leb (length sec.subtables) (length a / 24)) list_full e (at_start sec)) (λ _. body)) (λ _. d.finish))
-  unfolding when◌then◌else◌ on require answered at_start or_none or_else refusal_number
+  unfolding on require answered at_start or_none or_else refusal_number
   tested walks true h l = rw (lt-leb (length sec.subtables) (length a / 24) (ltb-true _ _ h)) (refused_is a m (length a) (length m) list_full none 0 refl refl)
   tested walks false h l =
       let room : length sec.subtables ≤ length a / 24 = ltb-false (length a / 24) (length sec.subtables) h in

@@ -35,7 +35,7 @@ use Rattle.stmt_refinement.specs.Standing.{Beside, beside, Given, label_number, 
 -- the pointer size that the words read
 module _ (s t : List ℕ) (sec : Section) (holds : Holds s t sec) where
   pub pointer_is : w.pointer_size s t ≡ d.pointer_size sec
-  unfolding w.pointer_size d.pointer_size when◌then◌else◌ base_opens entry space_at
+  unfolding w.pointer_size d.pointer_size base_opens entry space_at
   pointer_is = rw holds.default_space (go (eqb (le16 s 24) 65535) refl)
     where
       go : (b : Bool) → eqb (le16 s 24) 65535 ≡ b

@@ -35,7 +35,7 @@ use Rattle.resolve_refinement.proofs.Walking.{section_walks}
 
 module _ (file a m : List ℕ) (short : length a < 2 ^ 60) (shorter : length m < 2 ^ 60) where
   refuses : (x : Resolved) (r : Refusal) (n : ℕ) → n ≡ refusal_number r → as_answer (when eqb n 0 then x else answers.refused a m n 65535 0) ≡ d.refusal (length a) (length m) r none 0
-  unfolding or_none or_else when◌then◌else◌
+  unfolding or_none or_else
   refuses x r n h = rw (h, refusal_bad r) (refused_is a m (length a) (length m) r none 0 refl refl)
 
   stream_is : (x rest : List ℕ) → stream_of file ≡ parsed x rest → length x ≤ 65280 → (y : Parsed Section) → read_section x ≡ y → Lengths (length a) (length m) (resolve_stream x a m)
@@ -56,12 +56,12 @@ module _ (file a m : List ℕ) (short : length a < 2 ^ 60) (shorter : length m <
       go : (b : Bool) → b ≡ true → (Lengths (length a) (length m) (w.resolve_section x t a m) → as_answer (w.resolve_section x t a m) ≡ d.resolve_read (length a) (length m) (parsed sec left))
           → Lengths (length a) (length m) (when b then w.resolve_section x t a m else answers.refused a m (read_stream x (replicate 3344 0)).refusal 65535 0)
           → as_answer (when b then w.resolve_section x t a m else answers.refused a m (read_stream x (replicate 3344 0)).refusal 65535 0) ≡ d.resolve_read (length a) (length m) (parsed sec left)
-      go true h f l = unfold when◌then◌else◌ in f l
+      go true h f l =  f l
       go false h f l = let z : ◌≡◌ {A = ℕ} 0 1 = cc in absurd (omega arith)
 
   joined_is : (x rest : List ℕ) → stream_of file ≡ parsed x rest → Lengths (length a) (length m) (when eqb (refusal_of (parsed x rest)) 0 then resolve_stream (joined (length file / 512) file) a m else answers.refused a m (refusal_of (parsed x rest)) 65535 0)
       → as_answer (when eqb (refusal_of (parsed x rest)) 0 then resolve_stream (joined (length file / 512) file) a m else answers.refused a m (refusal_of (parsed x rest)) 65535 0) ≡ d.resolve_read (length a) (length m) (read_section x)
-  unfolding refusal_of when◌then◌else◌
+  unfolding refusal_of
   joined_is x rest e l =
       let f = file_stream file x rest e in
       subst (λ (z : List ℕ). Lengths (length a) (length m) (resolve_stream z a m) → as_answer (resolve_stream z a m) ≡ d.resolve_read (length a) (length m) (read_section x)) f.0 (stream_is x rest e f.1 (read_section x) refl) l

@@ -91,16 +91,16 @@ module _ (s t a m : List ℕ) (e : Env) (v to prev : Value) (from bits : ℕ) (s
 
 module _ (s t a m : List ℕ) (e : Env) (v to : Value) (from bits : ℕ) (st : State) where
   pub write_far : 64 ≤ from → read (Read.No 41) a m ≡ write_bits s t a m e v to from bits st
-  unfolding write_bits when◌then◌else◌
+  unfolding write_bits
   write_far h = rw (le-leb 64 from h)
 
   module _ (h : from < 64) (size : ℕ) (es : size ≡ size_of s t m to) (r : Read) (m1 : List ℕ) (f : listed r m1 ≡ add_tmp m 65535 size st) where
     pub write_none : (n : ℕ) → r ≡ Read.No n → read (Read.No n) a m1 ≡ write_bits s t a m e v to from bits st
-    unfolding write_bits when◌then◌else◌ on_tmp
+    unfolding write_bits on_tmp
     write_none n q = rw (lt-leb 64 from h, ← es, ← f, q)
 
     pub write_kept : (prev : Value) (st1 : State) (r2 : Read) (a2 m2 : List ℕ) → r ≡ Read.Value prev st1 → read r2 a2 m2 ≡ keep_bits s t a m1 e v to prev from bits st1 → read r2 a2 m2 ≡ write_bits s t a m e v to from bits st
-    unfolding write_bits when◌then◌else◌ on_tmp
+    unfolding write_bits on_tmp
     write_kept prev st1 r2 a2 m2 q k = rw (lt-leb 64 from h, ← es, ← f, q) k
 
 module _ (s t a m : List ℕ) (e : Env) (x : ExprValue) (st : State) (r : Read) (a1 m1 : List ℕ) (f : read r a1 m1 ≡ read_operand s t a m e x st) where
@@ -132,11 +132,11 @@ module _ (s t a m : List ℕ) (e : Env) (x : ExprValue) (to : Value) (from bits 
 
 module _ (s t a m : List ℕ) (e : Env) (x : ExprValue) (to : Value) (from bits : ℕ) (st : State) (b : Bool) (f : b ≡ byte_aligned from bits) (r : Read) (a1 m1 : List ℕ) where
   pub range_bytes : b ≡ true → read r a1 m1 ≡ copy_bytes s t a m e x to from bits st → read r a1 m1 ≡ copy_range s t a m e x to from bits st
-  unfolding copy_range when◌then◌else◌
+  unfolding copy_range
   range_bytes q h = rw (← f, q) h
 
   pub range_bits : b ≡ false → read r a1 m1 ≡ copy_bits s t a m e x to from bits st → read r a1 m1 ≡ copy_range s t a m e x to from bits st
-  unfolding copy_range when◌then◌else◌
+  unfolding copy_range
   range_bits q h = rw (← f, q) h
 
 -- ---- targets
@@ -167,35 +167,35 @@ into_other s t a m e x (ExprValue.AddressOf v k) next st w z o h = rw h
 
 module _ (s : List ℕ) (pos code : ℕ) (ec : (code ≡ get_or s (pos + 0) 0) × (code < 256)) where
   pub name_bare : (r : ℕ) → code ≡ 0 → (r ≡ le16 s (pos + 1)) × (r < 65536) → r ≡ target_name s pos
-  unfolding target_name when◌then◌else◌
+  unfolding target_name
   name_bare r z h = rw (← ec.0, eq-eqb code 0 z) h.0
 
   pub name_cut : (r k : ℕ) → (code ≡ 0 → ⊥) → code ≡ 3 → (k ≡ get_or s (pos + 1) 0) × (k < 256) → k ≡ 0 → (r ≡ le16 s (pos + 2)) × (r < 65536) → r ≡ target_name s pos
-  unfolding target_name when◌then◌else◌
+  unfolding target_name
   name_cut r k z y ek q h = rw (← ec.0, ne_eqb code 0 z, eq-eqb code 3 y, ← ek.0, eq-eqb k 0 q) h.0
 
   pub name_part : (k : ℕ) → (code ≡ 0 → ⊥) → code ≡ 3 → (k ≡ get_or s (pos + 1) 0) × (k < 256) → (k ≡ 0 → ⊥) → 65535 ≡ target_name s pos
-  unfolding target_name when◌then◌else◌
+  unfolding target_name
   name_part k z y ek q = rw (← ec.0, ne_eqb code 0 z, eq-eqb code 3 y, ← ek.0, ne_eqb k 0 q)
 
   pub name_none : (code ≡ 0 → ⊥) → (code ≡ 3 → ⊥) → 65535 ≡ target_name s pos
-  unfolding target_name when◌then◌else◌
+  unfolding target_name
   name_none z y = rw (← ec.0, ne_eqb code 0 z, ne_eqb code 3 y)
 
   pub size_bare : code ≡ 0 → 65535 ≡ target_size s pos
-  unfolding target_size when◌then◌else◌
+  unfolding target_size
   size_bare z = rw (← ec.0, eq-eqb code 0 z)
 
   pub size_cut : (r : ℕ) → (code ≡ 0 → ⊥) → (r ≡ le16 s (pos + 4)) × (r < 65536) → r ≡ target_size s pos
-  unfolding target_size when◌then◌else◌
+  unfolding target_size
   size_cut r z h = rw (← ec.0, ne_eqb code 0 z) h.0
 
   pub after_bare : (r : ℕ) → code ≡ 0 → r ≡ after pos 3 → r ≡ after_target s pos
-  unfolding after_target when◌then◌else◌
+  unfolding after_target
   after_bare r z h = rw (← ec.0, eq-eqb code 0 z) h
 
   pub after_cut : (r : ℕ) → (code ≡ 0 → ⊥) → r ≡ after pos 6 → r ≡ after_target s pos
-  unfolding after_target when◌then◌else◌
+  unfolding after_target
   after_cut r z h = rw (← ec.0, ne_eqb code 0 z) h
 
 module _ (s t p m : List ℕ) (e : Env) (pos name : ℕ) (st : State) (size next : ℕ) (es : size ≡ target_size s pos) (en : next ≡ after_target s pos) (r : Read) (p1 m1 : List ℕ) (f : read r p1 m1 ≡ named_tmp t p m e name size st) where
@@ -216,34 +216,34 @@ unfolding is_wrong
 wrong_no r x q = rw q
 
 pub new_none : (s t p : List ℕ) (e : Env) (name : ℕ) → name ≡ 65535 → false ≡ is_new s t p e name
-unfolding is_new when◌then◌else◌
+unfolding is_new
 new_none s t p e name h = rw (eq-eqb name 65535 h)
 
 pub new_named : (s t p : List ℕ) (e : Env) (name : ℕ) (r : Meaning) (b : Bool) → (name ≡ 65535 → ⊥) → r ≡ resolve_ident s t p e name → b ≡ is_wrong r → b ≡ is_new s t p e name
-unfolding is_new when◌then◌else◌
+unfolding is_new
 new_named s t p e name r b h q k = rw (ne_eqb name 65535 h, ← q) k
 
 module _ (s t p a m : List ℕ) (e : Env) (pos : ℕ) (st : State) (name : ℕ) (b : Bool) (en : name ≡ target_name s pos) (f : b ≡ is_new s t p e name) (r : Expr) where
   pub dst_new : (p1 m1 : List ℕ) → b ≡ true → resolved r p1 m1 ≡ new_target s t p m e pos name st → targeted r p1 a m1 ≡ resolve_dst s t p a m e pos st
-  unfolding resolve_dst when◌then◌else◌ beside_a
+  unfolding resolve_dst beside_a
   dst_new p1 m1 q h = rw (← en, ← f, q, ← h)
 
   pub dst_known : (a1 m1 : List ℕ) → b ≡ false → resolved r a1 m1 ≡ resolve_expr 32 s t p e pos a m st → targeted r p a1 m1 ≡ resolve_dst s t p a m e pos st
-  unfolding resolve_dst when◌then◌else◌ in_scope
+  unfolding resolve_dst in_scope
   dst_known a1 m1 q h = rw (← en, ← f, q, ← h)
 
 -- ---- a bare name as target, by its number
 module _ (s t p : List ℕ) (e : Env) (pos name : ℕ) (code : ℕ) (ec : code ≡ get_or s (pos + 0) 0) where
   pub plain-part : (code ≡ 0 → ⊥) → 0 ≡ plain_target s t p e pos name
-  unfolding plain_target when◌then◌else◌
+  unfolding plain_target
   plain-part z = rw (← ec, ne_eqb code 0 z)
 
   pub plain_unnamed : code ≡ 0 → name ≡ 65535 → 0 ≡ plain_target s t p e pos name
-  unfolding plain_target when◌then◌else◌
+  unfolding plain_target
   plain_unnamed z h = rw (← ec, eq-eqb code 0 z, eq-eqb name 65535 h)
 
   pub plain_bare : (q : ℕ) → code ≡ 0 → (name ≡ 65535 → ⊥) → q ≡ plain_local s t p e name → q ≡ plain_target s t p e pos name
-  unfolding plain_target when◌then◌else◌
+  unfolding plain_target
   plain_bare q z h f = rw (← ec, eq-eqb code 0 z, ne_eqb name 65535 h) f
 
 -- what a number that is not 0 tells
@@ -253,7 +253,7 @@ record Bare (s t p : List ℕ) (e : Env) (pos name : ℕ) (q : ℕ) : Type 0 whe
   same : q ≡ plain_local s t p e name
 
 bare_target : (s t p : List ℕ) (e : Env) (pos name : ℕ) (q : ℕ) → q ≡ plain_target s t p e pos name → 1 ≤ q → Bare s t p e pos name q
-unfolding plain_target when◌then◌else◌
+unfolding plain_target
 bare_target s t p e pos name q f h = go (eqb (get_or s (pos + 0) 0) 0) refl (eqb name 65535) refl f
   where
     go : (x : Bool) → eqb (get_or s (pos + 0) 0) 0 ≡ x → (y : Bool) → eqb name 65535 ≡ y → q ≡ (when x then (when y then 0 else plain_local s t p e name) else 0) →
@@ -264,7 +264,7 @@ bare_target s t p e pos name q f h = go (eqb (get_or s (pos + 0) 0) 0) refl (eqb
 
 module _ (s t p a m : List ℕ) (e : Env) (pos : ℕ) (st : State) (name q : ℕ) (en : name ≡ target_name s pos) (f : q ≡ plain_target s t p e pos name) where
   pub dst_plain : (v : Value) (next : ℕ) → 8 ≤ q → v ≡ local (q % 8) (q / 8 - 1) → next ≡ after pos 3 → targeted (Expr.Value next (ExprValue.Local v) st) p a m ≡ resolve_dst s t p a m e pos st
-  unfolding target_name when◌then◌else◌
+  unfolding target_name
   dst_plain v next h ev ex =
       let b = bare_target s t p e pos name q f (omega arith) in
       let i = plain-means s t p e name q b.same h in

@@ -21,62 +21,62 @@ use Rattle.stmt_bodies.specs.Statements.{beside_a, simple, other_statement, begu
 
 module _ (code : ℕ) (s t p a m : List ℕ) (e : Env) (pos : ℕ) (w : Walk) (z : Step) where
   pub code-unimplemented : (a1 m1 : List ℕ) → code ≡ 0 → stepped z a1 m1 ≡ unimplemented s t a m e pos w → walked z p a1 m1 ≡ simple code s t p a m e pos w
-  unfolding simple when◌then◌else◌ beside_p
+  unfolding simple beside_p
   code-unimplemented a1 m1 q h = rw (q, ← h)
 
   pub code-export : (a1 m1 : List ℕ) → code ≡ 1 → stepped z a1 m1 ≡ export_statement s t p a m e pos w → walked z p a1 m1 ≡ simple code s t p a m e pos w
-  unfolding simple when◌then◌else◌ beside_p
+  unfolding simple beside_p
   code-export a1 m1 q h = rw (q, ← h)
 
   pub code_local : (p1 m1 : List ℕ) → code ≡ 2 → stepped z p1 m1 ≡ local_statement s t p m e pos w → walked z p1 a m1 ≡ simple code s t p a m e pos w
-  unfolding simple when◌then◌else◌ beside_a
+  unfolding simple beside_a
   code_local p1 m1 q h = rw (q, ← h)
 
   pub code_assignment : (p1 a1 m1 : List ℕ) → code ≡ 3 → walked z p1 a1 m1 ≡ local_assignment s t p a m e pos w → walked z p1 a1 m1 ≡ simple code s t p a m e pos w
-  unfolding simple when◌then◌else◌
+  unfolding simple
   code_assignment p1 a1 m1 q h = rw q h
 
   pub code-build : (a1 : List ℕ) → code ≡ 4 → listed z a1 ≡ build s t a pos w → walked z p a1 m ≡ simple code s t p a m e pos w
-  unfolding simple when◌then◌else◌ then_l
+  unfolding simple then_l
   code-build a1 q h = rw (q, ← h)
 
   pub code_copy : (p1 a1 m1 : List ℕ) → code ≡ 5 → walked z p1 a1 m1 ≡ copy_statement s t p a m e pos w → walked z p1 a1 m1 ≡ simple code s t p a m e pos w
-  unfolding simple when◌then◌else◌
+  unfolding simple
   code_copy p1 a1 m1 q h = rw q h
 
   pub code-store : (a1 m1 : List ℕ) → (code ≡ 0 → ⊥) → (code ≡ 1 → ⊥) → (code ≡ 2 → ⊥) → (code ≡ 3 → ⊥) → (code ≡ 4 → ⊥) → (code ≡ 5 → ⊥) → stepped z a1 m1 ≡ store_statement s t p a m e pos w →
       walked z p a1 m1 ≡ simple code s t p a m e pos w
-  unfolding simple when◌then◌else◌ beside_p
+  unfolding simple beside_p
   code-store a1 m1 n0 n1 n2 n3 n4 n5 h = rw (ne_eqb code 0 n0, ne_eqb code 1 n1, ne_eqb code 2 n2, ne_eqb code 3 n3, ne_eqb code 4 n4, ne_eqb code 5 n5, ← h)
 
 module _ (code : ℕ) (s t p a m : List ℕ) (e : Env) (pos : ℕ) (w : Walk) (z : Step) (p1 a1 m1 : List ℕ) where
   pub code-branch : code ≡ 8 → walked z p1 a1 m1 ≡ branch s t p a m e pos w → walked z p1 a1 m1 ≡ other_statement code s t p a m e pos w
-  unfolding other_statement when◌then◌else◌
+  unfolding other_statement
   code-branch q h = rw q h
 
   pub code_cond : code ≡ 9 → walked z p1 a1 m1 ≡ cond_branch s t p a m e pos w → walked z p1 a1 m1 ≡ other_statement code s t p a m e pos w
-  unfolding other_statement when◌then◌else◌
+  unfolding other_statement
   code_cond q h = rw q h
 
   pub code-label : code ≡ 10 → walked z p1 a1 m1 ≡ label_statement s t p a m e pos w → walked z p1 a1 m1 ≡ other_statement code s t p a m e pos w
-  unfolding other_statement when◌then◌else◌
+  unfolding other_statement
   code-label q h = rw q h
 
   pub code-simple : (code ≡ 8 → ⊥) → (code ≡ 9 → ⊥) → (code ≡ 10 → ⊥) → walked z p1 a1 m1 ≡ simple code s t p a m e pos w → walked z p1 a1 m1 ≡ other_statement code s t p a m e pos w
-  unfolding other_statement when◌then◌else◌
+  unfolding other_statement
   code-simple n8 n9 n10 h = rw (ne_eqb code 8 n8, ne_eqb code 9 n9, ne_eqb code 10 n10) h
 
 -- ---- a statement begins
 pub begin-exported : (ordinal : ℕ) (w : Walk) → (w.export.kind ≡ 0 → ⊥) → Step.Stop 20 ordinal ≡ begin ordinal w
-unfolding begin when◌then◌else◌
+unfolding begin
 begin-exported ordinal w h = rw (ne_eqb w.export.kind 0 h)
 
 pub begin_many : (ordinal : ℕ) (w : Walk) → w.export.kind ≡ 0 → 4096 ≤ w.statements → Step.Stop 10 ordinal ≡ begin ordinal w
-unfolding begin when◌then◌else◌
+unfolding begin
 begin_many ordinal w h k = rw (eq-eqb w.export.kind 0 h, le-leb 4096 w.statements k)
 
 pub begin-next : (ordinal : ℕ) (w u : Walk) → w.export.kind ≡ 0 → w.statements < 4096 → u ≡ begun ordinal (w.statements + 1) w → Step.Next 0 u ≡ begin ordinal w
-unfolding begin when◌then◌else◌
+unfolding begin
 begin-next ordinal w u h k q = rw (eq-eqb w.export.kind 0 h, lt-leb 4096 w.statements k, q)
 
 pub returned-stop : (next : ℕ) (r : Step) (refusal ordinal : ℕ) → r ≡ Step.Stop refusal ordinal → Step.Stop refusal ordinal ≡ returned next r
@@ -149,11 +149,11 @@ module _ (enter : Enter) (s t : List ℕ) (e : Env) (pos ordinal : ℕ) (p a m :
 
   module _ (next : ℕ) (b : Walk) (q : r ≡ Step.Next next b) (code : ℕ) (ec : (code ≡ get_or s (pos + 0) 0) × (code < 256)) (z : Step) where
     pub statement-call : (a1 m1 : List ℕ) → code ≡ 7 → stepped z a1 m1 ≡ call_statement enter s t p a m e pos b → walked z p a1 m1 ≡ resolve_statement enter s t e pos ordinal p a m w
-    unfolding resolve_statement statement_begun statement_by when◌then◌else◌ beside_p
+    unfolding resolve_statement statement_begun statement_by beside_p
     statement-call a1 m1 k h = rw (← f, q, ← ec.0, eq-eqb code 7 k, ← h)
 
     pub statement_other : (p1 a1 m1 : List ℕ) → (code ≡ 7 → ⊥) → walked z p1 a1 m1 ≡ other_statement code s t p a m e pos b → walked z p1 a1 m1 ≡ resolve_statement enter s t e pos ordinal p a m w
-    unfolding resolve_statement statement_begun statement_by when◌then◌else◌
+    unfolding resolve_statement statement_begun statement_by
     statement_other p1 a1 m1 k h = rw (← f, q, ← ec.0, ne_eqb code 7 k) h
 
 -- ---- bodies; what is left to resolve gives the whole, B
@@ -199,11 +199,11 @@ module _ (resolve : Statement) (len n i ordinal pos : ℕ) (p a m : List ℕ) (w
 
     module _ (next : ℕ) (w1 : Walk) (q : r ≡ Step.Next next w1) (x : Bool) (ex : x ≡ forward pos next len) where
       pub body_cut : (z : Step) → not x ≡ true → z ≡ stop 3 w1 → walked z p1 a1 m1 ≡ B
-      unfolding on_step when◌then◌else◌
+      unfolding on_step
       body_cut z c y = rw y (rw (q, ← ex, failed_test x c) at turn)
 
       pub body-next : not x ≡ false → resolve_all resolve len (n - (i + 1)) (i + 1) ordinal next p1 a1 m1 w1 ≡ B
-      unfolding on_step when◌then◌else◌
+      unfolding on_step
       body-next c = let o1 : i + 1 ≡ suc i = omega arith in rw o1 (rw (q, ← ex, passed_test x c, o1) at turn)
 
 pub ruleset code_laws = (code-unimplemented, code-export, code_local, code_assignment, code-build, code_copy, code-store, code-branch, code_cond, code-label, code-simple)

@@ -71,28 +71,28 @@ module _ (s t p a m : List ℕ) (e : Env) (pos : ℕ) (cond : Value) (st : State
 
 module _ (s t p : List ℕ) (pos : ℕ) (e : Env) (code : ℕ) (ec : (code ≡ get_or s (pos + 0) 0) × (code < 256)) where
   pub jump_name : (name : ℕ) (r : Meaning) → code ≡ 0 → (name ≡ le16 s (pos + 1)) × (name < 65536) → r ≡ resolve_ident s t p e name → r ≡ jump_value s t p pos e
-  unfolding jump_value when◌then◌else◌
+  unfolding jump_value
   jump_name name r z en h = rw (← ec.0, eq-eqb code 0 z, ← en.0) h
 
   pub jump_integer : (at value size : ℕ) → (code ≡ 0 → ⊥) → at ≡ after pos 1 → value ≡ le64 s at → (size ≡ le16 s (pos + 9)) × (size < 65536) → Meaning.Means (ExprValue.Const value size) ≡ jump_value s t p pos e
-  unfolding jump_value when◌then◌else◌
+  unfolding jump_value
   jump_integer at value size z ea ev es = rw (← ec.0, ne_eqb code 0 z, ← ea, ← ev, ← es.0)
 
 module _ (s : List ℕ) (pos code : ℕ) (ec : (code ≡ get_or s (pos + 0) 0) × (code < 256)) where
   pub after_name_lem : (r : ℕ) → code ≡ 0 → r ≡ after pos 3 → r ≡ after_jump s pos
-  unfolding after_jump when◌then◌else◌
+  unfolding after_jump
   after_name_lem r z h = rw (← ec.0, eq-eqb code 0 z) h
 
   pub after_integer : (r : ℕ) → (code ≡ 0 → ⊥) → r ≡ after pos 11 → r ≡ after_jump s pos
-  unfolding after_jump when◌then◌else◌
+  unfolding after_jump
   after_integer r z h = rw (← ec.0, ne_eqb code 0 z) h
 
 pub address_subtable : (pointer : ℕ) (v : Value) → v.kind ≡ 4 → record { kind = 5; number = v.number; offset = v.offset; size = pointer } ≡ direct_address pointer v
-unfolding direct_address when◌then◌else◌
+unfolding direct_address
 address_subtable pointer v h = rw (eq-eqb v.kind 4 h)
 
 pub address_other : (pointer : ℕ) (v : Value) → (v.kind ≡ 4 → ⊥) → v ≡ direct_address pointer v
-unfolding direct_address when◌then◌else◌
+unfolding direct_address
 address_other pointer v h = rw (ne_eqb v.kind 4 h)
 
 pub direct-local : (s t a m : List ℕ) (e : Env) (x : ExprValue) (cond : Value) (hint : ℕ) (st : State) (w : Walk) (v u : Value) (r : Step) (a1 m1 : List ℕ) → x ≡ ExprValue.Local v →
@@ -123,11 +123,11 @@ module _ (s t a m : List ℕ) (e : Env) (x : ExprValue) (cond : Value) (hint : �
 
 module _ (code : ℕ) (s t a m : List ℕ) (e : Env) (x : ExprValue) (cond : Value) (hint : ℕ) (st : State) (w : Walk) (r : Step) (a1 m1 : List ℕ) where
   pub to_direct : code ≡ 0 → stepped r a1 m1 ≡ direct s t a m e x cond hint st w → stepped r a1 m1 ≡ jump_to code s t a m e x cond hint st w
-  unfolding jump_to when◌then◌else◌
+  unfolding jump_to
   to_direct z h = rw (eq-eqb code 0 z) h
 
   pub to_indirect : (code ≡ 0 → ⊥) → stepped r a1 m1 ≡ indirect s t a m e x cond hint st w → stepped r a1 m1 ≡ jump_to code s t a m e x cond hint st w
-  unfolding jump_to when◌then◌else◌
+  unfolding jump_to
   to_indirect z h = rw (ne_eqb code 0 z) h
 
 module _ (s t p a m : List ℕ) (e : Env) (pos : ℕ) (cond : Value) (st : State) (w : Walk) (target : ℕ) (et : target ≡ after pos 1) (r : Meaning) (f : r ≡ jump_value s t p target e) where
@@ -141,11 +141,11 @@ module _ (s t p a m : List ℕ) (e : Env) (pos : ℕ) (cond : Value) (st : State
 
 module _ (s t p a m : List ℕ) (e : Env) (pos : ℕ) (cond : Value) (st : State) (w : Walk) (code : ℕ) (ec : (code ≡ get_or s (pos + 0) 0) × (code < 256)) (x : Step) where
   pub to_label : (p1 a1 m1 : List ℕ) → code ≡ 2 → walked x p1 a1 m1 ≡ label_branch s t p a m e pos cond st w → walked x p1 a1 m1 ≡ resolve_branch s t p a m e pos cond st w
-  unfolding resolve_branch when◌then◌else◌
+  unfolding resolve_branch
   to_label p1 a1 m1 z h = rw (← ec.0, eq-eqb code 2 z) h
 
   pub to_jump : (a1 m1 : List ℕ) → (code ≡ 2 → ⊥) → stepped x a1 m1 ≡ jump s t p a m e pos cond st w → walked x p a1 m1 ≡ resolve_branch s t p a m e pos cond st w
-  unfolding resolve_branch when◌then◌else◌ beside_p
+  unfolding resolve_branch beside_p
   to_jump a1 m1 z h = rw (← ec.0, ne_eqb code 2 z, ← h)
 
 pub branch_law : (s t p a m : List ℕ) (e : Env) (pos : ℕ) (w : Walk) (at : ℕ) (c : Value) (x : Step) (p1 a1 m1 : List ℕ) → at ≡ after pos 1 → c ≡ constant 1 →

@@ -15,23 +15,23 @@ label-place_law name = refl
 
 module _ (p : List ℕ) (name n at k : ℕ) (ea : at ≡ label_place name) (ek : (k ≡ small p at) × (k < 1024)) where
   pub label_found : (k % 512 ≡ 0 → ⊥) → listed (Label.Is (k % 512 - 1)) p ≡ get_or_insert_label p name n
-  unfolding get_or_insert_label label_or when◌then◌else◌
+  unfolding get_or_insert_label label_or
   label_found h = rw (← ea, ← ek.0, ne_eqb (k % 512) 0 h)
 
   pub label_many : k % 512 ≡ 0 → 256 ≤ n → listed (Label.No 14) p ≡ get_or_insert_label p name n
-  unfolding get_or_insert_label label_or when◌then◌else◌
+  unfolding get_or_insert_label label_or
   label_many h f = rw (← ea, ← ek.0, eq-eqb (k % 512) 0 h, le-leb 256 n f)
 
   pub label_new : (q : List ℕ) → k % 512 ≡ 0 → n < 256 → q ≡ put_small p at (n + 1) → listed (Label.Is n) q ≡ get_or_insert_label p name n
-  unfolding get_or_insert_label label_or when◌then◌else◌
+  unfolding get_or_insert_label label_or
   label_new q h f e = rw (← ea, ← ek.0, eq-eqb (k % 512) 0 h, lt-leb 256 n f, e)
 
   pub place_twice : (id : ℕ) → 512 ≤ k → listed (Label.No 27) p ≡ place_label p id name
-  unfolding place_label when◌then◌else◌
+  unfolding place_label
   place_twice id h = rw (← ea, ← ek.0, le-leb 512 k h)
 
   pub place_once : (id : ℕ) (q : List ℕ) → k < 512 → q ≡ put_small p at (k + 512) → listed (Label.Is id) q ≡ place_label p id name
-  unfolding place_label when◌then◌else◌
+  unfolding place_label
   place_once id q h f = rw (← ea, ← ek.0, lt-leb 512 k h, f)
 
 module _ (p : List ℕ) (name n : ℕ) (r : Label) (q : List ℕ) (f : listed r q ≡ get_or_insert_label p name n) where
@@ -44,11 +44,11 @@ module _ (p : List ℕ) (name n : ℕ) (r : Label) (q : List ℕ) (f : listed r 
   resolve_is id x q1 h g = rw (← f, h) g
 
 pub after-known : (id labels : ℕ) → id < labels → labels ≡ labels_after id labels
-unfolding labels_after when◌then◌else◌
+unfolding labels_after
 after-known id labels h = rw (lt-ltb id labels h)
 
 pub after_new : (id labels r : ℕ) → labels ≤ id → r ≡ (id + 1) % 2 ^ 64 → r ≡ labels_after id labels
-unfolding labels_after when◌then◌else◌
+unfolding labels_after
 after_new id labels r h e = rw (le-ltb id labels h) e
 
 pub labelled_law : (id more : ℕ) (st : State) (w : Walk) (labels placed : ℕ) → labels ≡ labels_after id w.labels → placed ≡ (w.placed + more) % 2 ^ 64 →

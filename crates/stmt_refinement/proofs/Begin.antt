@@ -41,14 +41,14 @@ module _ (e : Env) (base ordinal : ℕ) (b : Beside) (st : State) (same : b.stat
       go ExportKind.RegisterRef = unfold export_kind_number in refl
 
   pub begin_is : Begins base ordinal b st (begin ordinal (walk_of b (enc_s base st))) (d.begin ordinal e st)
-  unfolding begin d.begin d.begin_at d.counted on when◌then◌else◌
+  unfolding begin d.begin d.begin_at d.counted on
   begin_is = rw (exported st.export export) (go st.export refl (leb 4096 b.statements) refl (leb (st.statements + 1) 4096) refl)
     where
       go : (x : Option Export) → st.export ≡ x → (c : Bool) → leb 4096 b.statements ≡ c → (l : Bool) → leb (st.statements + 1) 4096 ≡ l
           → Begins base ordinal b st (when not (is_some x) then (when c then Step.Stop 10 ordinal else Step.Next 0 (begun ordinal (b.statements + 1) (walk_of b (enc_s base st)))) else Step.Stop 20 ordinal)
           (on e (require (not (is_some x)) after_export e (d.begin_at ordinal st)) λ _ e1 st1. on e1 (require l too_many_statements e1 st1) λ _ e2 st2. done tt (d.counted st2))
-      go (some y) q c p l r = unfold is_some when◌then◌else◌ require on d.begin_at in refuses after_export (unfold refusal_number in refl) refl
+      go (some y) q c p l r = unfold is_some require on d.begin_at in refuses after_export (unfold refusal_number in refl) refl
       go none q true p true r = let k = leb-true 4096 b.statements p in let j = leb-true (st.statements + 1) 4096 r in absurd (omega (arith, same))
-      go none q true p false r = unfold is_some when◌then◌else◌ require on d.begin_at in refuses too_many_statements (unfold refusal_number in refl) refl
-      go none q false p true r = unfold is_some when◌then◌else◌ require on d.begin_at d.counted or_none or_else in begins refl refl (let j = leb-true (st.statements + 1) 4096 r in omega arith) q
+      go none q true p false r = unfold is_some require on d.begin_at in refuses too_many_statements (unfold refusal_number in refl) refl
+      go none q false p true r = unfold is_some require on d.begin_at d.counted or_none or_else in begins refl refl (let j = leb-true (st.statements + 1) 4096 r in omega arith) q
       go none q false p false r = let k = leb-false 4096 b.statements p in let j = leb-false (st.statements + 1) 4096 r in absurd (omega (arith, same))

@@ -155,7 +155,7 @@ module _ (s t : List ℕ) (e : Env) (front tail rest : List ℕ) (spare : ℕ) w
 
     one_more_lem : (k i first pos : ℕ) (x : Statement) (xs : List Statement) (next : ℕ) → statement (le16 s 2) (drop pos s) ≡ parsed x (drop next s) → pos ≤ length s → next ≤ length s → StatementWithin x → first + i < 2 ^ 64
         → All k (suc i) first next xs → All (suc k) i first pos (x ∷ xs)
-    unfolding resolve_all d.resolve_all resolve_statement when◌then◌else◌
+    unfolding resolve_all d.resolve_all resolve_statement
     one_more_lem k i first pos x xs next reads inside ends within few more p b st h =
         let z : (first + i) % 2 ^ 64 ≡ first + i = omega arith in
         let y : first + suc i ≡ suc (first + i) = omega arith in

@@ -226,10 +226,10 @@ module _ (s t : List ℕ) (e : Env) (front tail rest : List ℕ) (we : WordEnv) 
         known h = omega (arith, given.holds.limits.names)
 
         name_words : get_or s pos 0 ≡ 0 → le16 s (pos + 1) < 1024 → jump_value s t p pos we ≡ enc_m (meaning_of e.section (inner_meaning e.section st.scope (le16 s (pos + 1))) (le16 s (pos + 1)))
-        name_words c known = unfold jump_value when◌then◌else◌ in rw (start, c) (ident_is s t e p we given.holds st stand.scoped (le16 s (pos + 1)) known)
+        name_words c known = unfold jump_value in rw (start, c) (ident_is s t e p we given.holds st stand.scoped (le16 s (pos + 1)) known)
 
         integer_words : get_or s pos 0 ≡ 1 → jump_value s t p pos we ≡ enc_m (means (ExprValue.Const (le64 s (pos + 1)) (some (le16 s (pos + 9)))))
-        integer_words c = unfold jump_value when◌then◌else◌ enc_m enc_x or_none or_else in rw (start, c, after_is pos 1 short (omega arith))
+        integer_words c = unfold jump_value enc_m enc_x or_none or_else in rw (start, c, after_is pos 1 short (omega arith))
 
         small : le16 s (pos + 9) < 1025 → SoundX e.section (count st) (ExprValue.Const (le64 s (pos + 1)) (some (le16 s (pos + 9))))
         small h = unfold or_else in omega arith
@@ -242,7 +242,7 @@ module _ (s t : List ℕ) (e : Env) (front tail rest : List ℕ) (we : WordEnv) 
               words = name_words c (known i.name_below);
               is = rw i.is (unfold d.jump_value scope.resolve_ident scope.meaning on in refl);
               sound = sound_in (le16 s (pos + 1)) (known i.name_below) _ (meaning-sound e.section tail rest spare st (le16 s (pos + 1)) given.ranges stand.stood);
-              behind = unfold after_jump when◌then◌else◌ in rw (start, c) (after_is pos 3 short (omega arith) ∙ sym (jump_name_ends s (le16 s 2) pos l end reads inside c));
+              behind = unfold after_jump in rw (start, c) (after_is pos 3 short (omega arith) ∙ sym (jump_name_ends s (le16 s 2) pos l end reads inside c));
             }
         go (suc zero) c h =
             let i = jump_integer_at s (le16 s 2) pos l (drop end s) c reads in
@@ -251,7 +251,7 @@ module _ (s t : List ℕ) (e : Env) (front tail rest : List ℕ) (we : WordEnv) 
               words = integer_words c;
               is = rw i.is (unfold d.jump_value scope.meant in refl);
               sound = λ x z. let k : ExprValue.Const (le64 s (pos + 1)) (some (le16 s (pos + 9))) ≡ x = cc in subst (SoundX e.section (count st)) k (small i.size_below);
-              behind = unfold after_jump when◌then◌else◌ in rw (start, c) (after_is pos 11 short (omega arith) ∙ sym (jump_integer_ends s (le16 s 2) pos l end reads inside c));
+              behind = unfold after_jump in rw (start, c) (after_is pos 11 short (omega arith) ∙ sym (jump_integer_ends s (le16 s 2) pos l end reads inside c));
             }
         go (suc (suc n)) c h = absurd (omega arith)
 
@@ -270,20 +270,20 @@ module _ (s t : List ℕ) (e : Env) (front tail rest : List ℕ) (we : WordEnv) 
       jump-steps code c k l h j f = rw (c, after_is pos 1 h (omega arith), j.words, j.is, j.behind) (jump_to_lem code k j.meaning j.sound f)
 
       direct-steps : get_or s (pos + 0) 0 ≡ 0 → (l : JumpLabel) → pos < 65536 → Jumps (pos + 1) l at-hint → Stepping 0 (after at-hint 1) (beside_p p (jump s t p (A st) (M st) we pos (enc_v cond) (W st) (walk_of b z))) (d.resolve_branch cond (BranchDst.Direct l) hint e st)
-      unfolding d.resolve_branch jump_to when◌then◌else◌
+      unfolding d.resolve_branch jump_to
       direct-steps c l h j =
           jump-steps 0 c (λ x e1 st1. on e1 (d.direct_address x e1 st1) λ address. walks.op_no_output Operation.Branch (d.hint_number hint) (cond ∷ address ∷ [])) l h j
           (λ x k. direct_is s t e front tail rest we given spare room (walk_of b z) at-hint hint is-hint st stand.stood x cond k cond-sound)
 
       indirect-steps : get_or s (pos + 0) 0 ≡ 1 → (l : JumpLabel) → pos < 65536 → Jumps (pos + 1) l at-hint → Stepping 0 (after at-hint 1) (beside_p p (jump s t p (A st) (M st) we pos (enc_v cond) (W st) (walk_of b z))) (d.resolve_branch cond (BranchDst.Indirect l) hint e st)
-      unfolding d.resolve_branch jump_to when◌then◌else◌
+      unfolding d.resolve_branch jump_to
       indirect-steps c l h j =
           jump-steps 1 c (λ x e1 st1. on e1 (expressions.read_value x none e1 st1) λ address. walks.op_no_output Operation.Branch (d.hint_number hint) (cond ∷ address ∷ [])) l h j
           (λ x k. indirect_is s t e front tail rest we given spare room (walk_of b z) at-hint hint is-hint st stand.stood x cond k cond-sound)
 
       -- a branch that stands at a position
       branch-steps : (dst : BranchDst) → branch_dst (le16 s 2) (drop pos s) ≡ parsed dst (drop at-hint s) → Stepping 0 (after at-hint 1) (resolve_branch s t p (A st) (M st) we pos (enc_v cond) (W st) (walk_of b z)) (d.resolve_branch cond dst hint e st)
-      unfolding resolve_branch d.resolve_branch when◌then◌else◌
+      unfolding resolve_branch d.resolve_branch
       branch-steps dst reads = go (get_or s pos 0) refl begins.known
         where
           begins : Begun s pos 3

@@ -53,7 +53,7 @@ position-below {A} q i (x ∷ xs) j h = go (q x) (position-below q (suc i) xs j)
 
 subtable_found : (s t : List ℕ) (table i : ℕ) (xs : List Subtable) → ((j : ℕ) (x : Subtable) → get_elem? xs j ≡ some x → le16 s (entry t 8 ((i + j) % 65536 * 4) + 2) ≡ x.table)
     → find_subtable (length xs) i s t table ≡ or_else (i + length xs) (position (λ (x : Subtable). eqb table x.table) i xs)
-unfolding find_subtable position base_opens when◌then◌else◌
+unfolding find_subtable position base_opens
 subtable_found s t table i [] h = omega arith
 subtable_found s t table i (x ∷ xs) h =
     let z : i + 0 ≡ i = omega arith in
@@ -88,7 +88,7 @@ module _ (s t : List ℕ) (e : Env) (front tail rest : List ℕ) (we : WordEnv) 
 
   build_found : (o : Option ℕ) → ((j : ℕ) → o ≡ some j → j < length e.section.subtables)
       → Builds (build_subtable (or_else (length e.section.subtables) o) (length e.section.subtables) A pos w) (on e (expect absent_table o e st) λ i. walks.push (building i))
-  unfolding build_subtable when◌then◌else◌ expect on or_else
+  unfolding build_subtable expect on or_else
   build_found none h = rw (le-ltb (length e.section.subtables) (length e.section.subtables) (omega arith)) (stops 24 absent_table (unfold refusal_number in refl))
   build_found (some i) h =
       rw (lt-ltb i (length e.section.subtables) (h i refl))

@@ -97,13 +97,13 @@ module _ (s t : List ℕ) (e : Env) (p front tail rest : List ℕ) (we : WordEnv
   delay_pushed = (below s t e front tail rest we given).pushes spare from room (stood_more (4 + spare) (omega arith) stand.stood) delaying (omega arith) (record { inputs = tt; output = tt }) (no_operation_lem _ refl)
 
   delayed : (c : Bool) → Delays (delay_or c next) (on e (require c delay_slot_argument e from) λ _. walks.push delaying)
-  unfolding when◌then◌else◌ require on
+  unfolding require on
   delayed true = goes _ _ (step_push e.section front tail rest spare from _ M _ next w delay_pushed)
   delayed false = unfold then_l in stops 25 delay_slot_argument (unfold refusal_number in refl)
 
   delay_by : (o : Option ℕ) (offset end : ℕ) → Only o offset end next → Delays (delay_or (eqb offset 1) end) (d.delay_slot o e from)
   unfolding d.delay_slot expect on
-  delay_by none offset end h = rw (ne_eqb offset 1 (λ q. omega arith)) (unfold when◌then◌else◌ then_l in stops 25 delay_slot_argument (unfold refusal_number in refl))
+  delay_by none offset end h = rw (ne_eqb offset 1 (λ q. omega arith)) (unfold then_l in stops 25 delay_slot_argument (unfold refusal_number in refl))
   delay_by (some k) offset end h = rw (h.0, h.1) (delayed (eqb k 1))
 
   module _ (args : Args) (reads : args_of (expr_within (le16 s 2) 32) (get_or s (pos + 3) 0) (drop (pos + 4) s) ≡ parsed args (drop next s)) (known : le16 s (pos + 1) < le16 s 2) (few : get_or s (pos + 3) 0 < 9) (starts : pos + 4 ≤ length s) (inside : next ≤ length s) where
@@ -141,7 +141,7 @@ module _ (s t : List ℕ) (e : Env) (p front tail rest : List ℕ) (we : WordEnv
       by_name : (a : Bool) → is_macro (when a then Called.DelaySlot else symbol_called (enc_symbol (find name (globals e.section)))) ≡ false
           → Called_as (when a then Called.DelaySlot else symbol_called (enc_symbol (find name (globals e.section))))
           ((definition.when◌then◌else◌ a (d.delay_slot (expressions.only_integer args)) (λ e1 st1. on e1 (lookup name e1 st1) (d.symbol_statement enter args))) e from)
-      unfolding when◌then◌else◌ lookup on
+      unfolding lookup on
       by_name true c = unfold call_named in delay_steps
       by_name false c = by_symbol (find name (globals e.section)) c
 

@@ -193,13 +193,13 @@ module _ (s t : List ℕ) (e : Env) (front tail rest : List ℕ) (we : WordEnv) 
       go : (c : Bool) → leb (to.offset + from / 8) 65535 ≡ c
           → Void st (read_sliced (slice_read (when c then Slice.Is (record { kind = kind_number to.kind; number = to.number; offset = to.offset + from / 8; size = bits / 8 }) else Slice.No 42) (W st)) s t (A st) (M st) we (enc_x x))
           (on e (on e (require c offset_too_far e st) λ _ e1 st1. done (slice_bytes (from / 8) (bits / 8) to) st1) (d.read_to x))
-      go true q = unfold read_sliced slice_read when◌then◌else◌ require on d.read_to in
+      go true q = unfold read_sliced slice_read require on d.read_to in
           let k = leb-true (to.offset + from / 8) 65535 q in
           void st (read_value s t (A st) (M st) we (enc_x x) true (record { kind = kind_number to.kind; number = to.number; offset = to.offset + from / 8; size = bits / 8 }) (W st)) (expressions.read_value x (some (slice_bytes (from / 8) (bits / 8) to)) e st) (unfold is_some to_of or_none or_else in read_value_lem s t e front tail rest we (below s t e front tail rest we given) spare room st f x (some (slice_bytes (from / 8) (bits / 8) to)) h (record { number = b.number; offset = k; size = unfold or_else in omega arith }))
-      go false q = unfold read_sliced slice_read when◌then◌else◌ require on in rw (void_no 42 (A st) (M st)) (refines_stopped e.section front tail rest spare st (λ (_ : Unit {0}). tt {0}) (λ n (_ : Unit {0}). Unit {0}) 42 offset_too_far (unfold refusal_number in refl))
+      go false q = unfold read_sliced slice_read require on in rw (void_no 42 (A st) (M st)) (refines_stopped e.section front tail rest spare st (λ (_ : Unit {0}). tt {0}) (λ n (_ : Unit {0}). Unit {0}) 42 offset_too_far (unfold refusal_number in refl))
 
   aligned_is : (from bits : ℕ) → byte_aligned from bits ≡ expressions.byte_aligned from bits
-  unfolding byte_aligned expressions.byte_aligned when◌then◌else◌
+  unfolding byte_aligned expressions.byte_aligned
   aligned_is from bits = go (eqb (from % 8) 0) (eqb (bits % 8) 0)
     where
       go : (a b : Bool) → (when a then b else false) ≡ a && b
@@ -213,8 +213,8 @@ module _ (s t : List ℕ) (e : Env) (front tail rest : List ℕ) (we : WordEnv) 
     where
       go : (c : Bool) → Void st (when c then copy_bytes s t (A st) (M st) we (enc_x x) (enc_v to) from bits (W st) else copy_bits s t (A st) (M st) we (enc_x x) (enc_v to) from bits (W st))
           ((definition.when◌then◌else◌ c (λ e1 st1. on e1 (walks.sliced (from / 8) (bits / 8) to e1 st1) (d.read_to x)) (d.write_bits x to from bits)) e st)
-      go true = unfold when◌then◌else◌ base_opens in copy_bytes_lem st f x to from bits l h b
-      go false = unfold when◌then◌else◌ base_opens in copy_bits_lem st f x to from bits h b
+      go true = unfold base_opens in copy_bytes_lem st f x to from bits l h b
+      go false = unfold base_opens in copy_bits_lem st f x to from bits h b
 
   module _ (w : Walk) (next : ℕ) where
     abbrev Ends : State → Stepped → Outcome (Unit {0}) → Type 0

@@ -32,7 +32,7 @@ cursor_ends {A} s r f reads pos v x next h i j = go (reads.agrees pos v i)
     go (stopped c q e k) = let g : refused c ≡ parsed x (drop next s) = sym e ∙ h in let z : ◌≡◌ {A = ℕ} 0 1 = cc in absurd (omega arith)
 
 coded : (s : List ℕ) (n pos v : ℕ) → Begun s pos n → u8 s n 3 (cursor pos 0 v) ≡ cursor (pos + 1) 0 (get_or s pos 0)
-unfolding u8 number when◌then◌else◌
+unfolding u8 number
 coded s n pos v b = let i = b.inside in rw (le-leb (pos + 1) (length s) (omega arith), lt-ltb (get_or s pos 0) n b.known)
 
 -- behind a name

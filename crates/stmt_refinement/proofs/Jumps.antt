@@ -72,14 +72,14 @@ module _ (s t : List ℕ) (e : Env) (front tail rest : List ℕ) (we : WordEnv) 
     where
       go : (k : Kind) → (when eqb (kind_number k) 4 then record { kind = 5; number = v.number; offset = v.offset; size = pointer_size e.section } else record { kind = kind_number k; number = v.number; offset = v.offset; size = or_none v.size })
           ≡ enc_v (definition.when◌then◌else◌ (eqb (kind_number Kind.Subtable) (kind_number k)) (record { kind = Kind.SubtableRef; number = v.number; offset = v.offset; size = some (pointer_size e.section) }) (record { kind = k; number = v.number; offset = v.offset; size = v.size }))
-      go Kind.InstStart = unfold kind_number when◌then◌else◌ base_opens or_none or_else in refl
-      go Kind.InstNext = unfold kind_number when◌then◌else◌ base_opens or_none or_else in refl
-      go Kind.Register = unfold kind_number when◌then◌else◌ base_opens or_none or_else in refl
-      go Kind.Field = unfold kind_number when◌then◌else◌ base_opens or_none or_else in refl
-      go Kind.Subtable = unfold kind_number when◌then◌else◌ base_opens or_none or_else in refl
-      go Kind.SubtableRef = unfold kind_number when◌then◌else◌ base_opens or_none or_else in refl
-      go Kind.PcodeTmp = unfold kind_number when◌then◌else◌ base_opens or_none or_else in refl
-      go Kind.Constant = unfold kind_number when◌then◌else◌ base_opens or_none or_else in refl
+      go Kind.InstStart = unfold kind_number base_opens or_none or_else in refl
+      go Kind.InstNext = unfold kind_number base_opens or_none or_else in refl
+      go Kind.Register = unfold kind_number base_opens or_none or_else in refl
+      go Kind.Field = unfold kind_number base_opens or_none or_else in refl
+      go Kind.Subtable = unfold kind_number base_opens or_none or_else in refl
+      go Kind.SubtableRef = unfold kind_number base_opens or_none or_else in refl
+      go Kind.PcodeTmp = unfold kind_number base_opens or_none or_else in refl
+      go Kind.Constant = unfold kind_number base_opens or_none or_else in refl
 
   address_sound : (n : ℕ) (v : Value) → Sound e.section n v → Sound e.section n (addressed v)
   unfolding is_kind

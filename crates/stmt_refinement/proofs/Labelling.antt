@@ -98,7 +98,7 @@ module _ (t : List ℕ) (e : Env) (p tail rest : List ℕ) (we : WordEnv) (spare
     added = put_small p (label_place name) (label_number (some fresh))
 
     added_is : put_small p (label_place name) (b.labels + 1) ≡ added
-    unfolding label_number when◌then◌else◌
+    unfolding label_number
     added_is = ap (put_small p (label_place name)) (let k = stand.labels in omega arith)
 
     pub get_or_insert : Labelled (get_or_insert_label p name b.labels) (scope.get_or_insert_label name e st)
@@ -112,7 +112,7 @@ module _ (t : List ℕ) (e : Env) (p tail rest : List ℕ) (we : WordEnv) (spare
             let l : b.labels < 256 = (let k = stand.labels in omega arith) in
             is fresh added (put_entry name fresh st.scope.labels) (suc b.labels) (suc st.next_label) (unfold on require in refl)
             (label_new p b.labels st.scope.labels stand.labelled stand.few name known q l ∙ (rw (added_is, stand.labels)))
-            (unfold labels_after when◌then◌else◌ in rw (le-ltb st.next_label b.labels (let k = stand.labels in omega arith)) (let k = stand.labels in omega arith))
+            (unfold labels_after in rw (le-ltb st.next_label b.labels (let k = stand.labels in omega arith)) (let k = stand.labels in omega arith))
             (relabels_put p st.scope.labels b.labels st.next_label (suc b.labels) (suc st.next_label) fresh relabels_same (let k = stand.labels in omega arith) (omega arith) (omega arith) (ap suc stand.labels))
             (find-put name fresh name st.scope.labels ∙ (unfold find first base_opens in rw (eq-eqb name name refl)))
         insert false c q =
@@ -122,7 +122,7 @@ module _ (t : List ℕ) (e : Env) (p tail rest : List ℕ) (we : WordEnv) (spare
         go : (y : Option Label) → find name st.scope.labels ≡ y → Labelled (get_or_insert_label p name b.labels) (scope.label_or name y e st)
         go (some l) q = unfold scope.label_or in
             is l p st.scope.labels b.labels st.next_label refl (label_found p b.labels st.scope.labels stand.labelled stand.few name known l q)
-            (unfold labels_after when◌then◌else◌ in rw (lt-ltb l.id b.labels (stand.labelled.below name l q))) relabels_same q
+            (unfold labels_after in rw (lt-ltb l.id b.labels (stand.labelled.below name l q))) relabels_same q
         go none q = unfold scope.label_or on in insert (leb (st.next_label + 1) 256) refl q
 
     pub data Placed (x : Listed WordLabel) (o : Outcome ℕ) : Type 0 where
@@ -137,7 +137,7 @@ module _ (t : List ℕ) (e : Env) (p tail rest : List ℕ) (we : WordEnv) (spare
       place : labels_after l.id b.labels ≡ n → (c : Bool) → l.defined ≡ c
           → Placed (place_label q l.id name) (on e (require (not c) label_twice e (relabelled labels next)) λ _ e2 st2. on e2 (done st2 st2) λ u e3 st3. on e3 (done (tt {0}) (with_scope (with_entry name (record { id = l.id; defined = true }) u.scope) st3)) λ _ e4 st4. done l.id st4)
       place k false c = is l.id (put_small q (label_place name) (label_number (some there))) (put_entry name there labels) n next (unfold on require in refl)
-          (label_once q n labels r.labelled r.few name known l found c ∙ (unfold label_number when◌then◌else◌ in refl)) k
+          (label_once q n labels r.labelled r.few name known l found c ∙ (unfold label_number in refl)) k
           (relabels_put q labels n next n next there r (r.labelled.below name l found) (omega arith) r.few r.same)
       place k true c = no label_twice q (unfold on require in refl) (unfold refusal_number in label_twice_lem q n labels r.labelled r.few name known l found c)
 

@@ -29,43 +29,43 @@ unfolding label_number
 number_is l h = go l.defined
   where
     go : (b : Bool) → (l.id + 1 + (when b then 512 else 0)) % 512 ≡ l.id + 1
-    go true = unfold when◌then◌else◌ in omega arith
-    go false = unfold when◌then◌else◌ in omega arith
+    go true =  omega arith
+    go false =  omega arith
 
 number_placed : (l : Label) → l.id < 256 → leb 512 (label_number (some l)) ≡ l.defined
 unfolding label_number
 number_placed l h = go l.defined
   where
     go : (b : Bool) → leb 512 (l.id + 1 + (when b then 512 else 0)) ≡ b
-    go true = unfold when◌then◌else◌ in le-leb 512 (l.id + 1 + 512) (omega arith)
-    go false = unfold when◌then◌else◌ in lt-leb 512 (l.id + 1 + 0) (omega arith)
+    go true =  le-leb 512 (l.id + 1 + 512) (omega arith)
+    go false =  lt-leb 512 (l.id + 1 + 0) (omega arith)
 
 module _ (p : List ℕ) (n : ℕ) (labels : List (ℕ × Label)) (labelled : LabelsIn p n labels) (few : n ≤ 256) (name : ℕ) (known : name < 1024) where
   pub label_found : (l : Label) → find name labels ≡ some l → get_or_insert_label p name n ≡ listed (WordLabel.Is l.id) p
-  unfolding get_or_insert_label label_or when◌then◌else◌
+  unfolding get_or_insert_label label_or
   label_found l q =
       let b = labelled.below name l q in
       let k : l.id + 1 - 1 ≡ l.id = omega arith in
       rw (labelled.same name known, q, number_is l (omega arith), ne_eqb (l.id + 1) 0 (λ z. omega arith), k)
 
   pub labels_full : find name labels ≡ none → 256 ≤ n → get_or_insert_label p name n ≡ listed (WordLabel.No 14) p
-  unfolding get_or_insert_label label_or when◌then◌else◌ label_number
+  unfolding get_or_insert_label label_or label_number
   labels_full q h = rw (labelled.same name known, q, le-leb 256 n h)
 
   pub label_new : find name labels ≡ none → n < 256 → get_or_insert_label p name n ≡ listed (WordLabel.Is n) (put_small p (label_place name) (n + 1))
-  unfolding get_or_insert_label label_or when◌then◌else◌ label_number
+  unfolding get_or_insert_label label_or label_number
   label_new q h = rw (labelled.same name known, q, lt-leb 256 n (omega arith))
 
   pub label_once : (l : Label) → find name labels ≡ some l → l.defined ≡ false → place_label p l.id name ≡ listed (WordLabel.Is l.id) (put_small p (label_place name) (l.id + 1 + 512))
-  unfolding place_label when◌then◌else◌
+  unfolding place_label
   label_once l q d =
       let b = labelled.below name l q in
-      let k : label_number (some l) ≡ l.id + 1 = (unfold label_number when◌then◌else◌ in rw d (omega arith)) in
+      let k : label_number (some l) ≡ l.id + 1 = (unfold label_number in rw d (omega arith)) in
       let m : small p (label_place name) ≡ l.id + 1 = labelled.same name known ∙ (rw q k) in
       rw (m, lt-leb 512 (l.id + 1) (omega arith))
 
   pub label_twice_lem : (l : Label) → find name labels ≡ some l → l.defined ≡ true → place_label p l.id name ≡ listed (WordLabel.No 27) p
-  unfolding place_label when◌then◌else◌
+  unfolding place_label
   label_twice_lem l q d = let b = labelled.below name l q in rw (labelled.same name known, q, number_placed l (omega arith), d)
 
 -- a label's place is within the list, and apart from any other's
@@ -87,8 +87,8 @@ module _ (p : List ℕ) (n m : ℕ) (labels : List (ℕ × Label)) (labelled : L
   number_small = go l.defined
     where
       go : (b : Bool) → (l.id + 1 + (when b then 512 else 0)) % 1024 ≡ l.id + 1 + (when b then 512 else 0)
-      go true = unfold when◌then◌else◌ in omega arith
-      go false = unfold when◌then◌else◌ in omega arith
+      go true =  omega arith
+      go false =  omega arith
 
   pub label-put : LabelsIn (put_small p (label_place name) (label_number (some l))) m (put_entry name l labels)
   label-put = record {

@@ -119,7 +119,7 @@ module _ (s t : List ℕ) (e : Env) (front tail rest : List ℕ) (spare : ℕ) (
   -- the arguments are resolved
   entered : (xs : List ExprValue) (u : State) → Reached e.section front tail rest spare st u → Each (SoundX e.section (count u)) xs → length xs ≡ n → Kept e u → Each (ExprFits e (count u)) xs → (c : Bool) → eqb (length m.params) n ≡ c
       → Goes_on u (on_args (passed (when c then WordArgs.Done next (W u) else WordArgs.No 26) (A u) (M u) (bound xs)) enter refuse) (on e (require c macro_arguments e u) (λ _. enter_of deep id m xs))
-  unfolding when◌then◌else◌ on_args on require beside_p
+  unfolding on_args on require beside_p
   entered xs u r sound many kept fits true q =
       let same = eqb-true (length m.params) n q in
       let l = r.later in
@@ -204,7 +204,7 @@ module _ (s t : List ℕ) (e : Env) (front tail rest : List ℕ) (spare : ℕ) (
 
   by_name : (a : Bool) → is_macro (when a then Called.DelaySlot else symbol_called (enc_symbol (find name (globals e.section)))) ≡ true
       → Calls (when a then Called.DelaySlot else symbol_called (enc_symbol (find name (globals e.section)))) ((definition.when◌then◌else◌ a (d.delay_slot (expressions.only_integer args)) (λ e1 st1. on e1 (lookup name e1 st1) (d.symbol_statement (enter_of deep) args))) e st)
-  unfolding when◌then◌else◌ lookup on
+  unfolding lookup on
   by_name true c = no_macro (unfold is_macro in c)
   by_name false c = by_symbol (find name (globals e.section)) (found_placed e.section name _ refl) c
 

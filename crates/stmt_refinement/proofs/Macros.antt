@@ -159,7 +159,7 @@ module _ (s t : List ℕ) (e : Env) (tail rest : List ℕ) (we : WordEnv) (spare
       nothing name = rw mapping (unfold find first in refl)
 
       no_local : (name : ℕ) → lookup_local t q false name ≡ Found.Nothing
-      no_local name = unfold lookup_local tmp_local tmp_of when◌then◌else◌ in rw (fresh.nothing (name % 1024))
+      no_local name = unfold lookup_local tmp_local tmp_of in rw (fresh.nothing (name % 1024))
 
   -- the body has ended: the caller's scope is as it was
   module _ (q : List ℕ) (c : Beside) (u : State) (stands : Standing t e tail rest (macro_env n we) spare q c u) (framed : Framed b (with_scope x st) c u) where

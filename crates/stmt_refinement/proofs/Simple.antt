@@ -48,7 +48,7 @@ abbrev computed_in : Walk → WordValue → Beside
 computed_in w v = record { labels = w.labels; placed = w.placed; statements = w.statements; export = record { kind = 1; v = v; size = 0 } }
 
 export_seen : (x : ReadOut) (next : ℕ) (w : Walk) → seen_step (begun_in w) (step_read x (export_value next w)) ≡ map_seen (λ v. (next, computed_in w v)) (seen_read x)
-unfolding seen_step step_read export_value map_seen seen_read when◌then◌else◌
+unfolding seen_step step_read export_value map_seen seen_read
 export_seen (read (Read.Value v st) a m) next w = refl
 export_seen (read (Read.No n) a m) next w = rw (eq-eqb (begun_in w) (begun_in w) refl)
 

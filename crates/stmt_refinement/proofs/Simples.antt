@@ -167,7 +167,7 @@ module _ (s t : List ℕ) (e : Env) (p front tail rest : List ℕ) (we : WordEnv
 
     -- the codes below 7
     pub simple-steps : (code : ℕ) → get_or s pos 0 ≡ code → code < 7 → Done (simple code s t p A M we pos (walk_of b W))
-    unfolding simple when◌then◌else◌
+    unfolding simple
     simple-steps zero c l = unimplemented_case c
     simple-steps (suc zero) c l = export_case c
     simple-steps (suc (suc zero)) c l = local_case c

@@ -33,7 +33,7 @@ module _ (s t : List ℕ) (e : Env) (p front tail rest : List ℕ) (we : WordEnv
   Done code = Steps t e front tail rest we spare (labels_of code) b from next (other_statement code s t p (acts e.section front tail rest from) (temps e.section front tail rest from) we pos (walk_of b (word e.section front tail rest from))) (d.resolve_statement enter x e from)
 
   by_code_lem : (code : ℕ) → get_or s pos 0 ≡ code → code < 11 → eqb code 7 ≡ false → Done code
-  unfolding labels_of other_statement when◌then◌else◌
+  unfolding labels_of other_statement
   by_code_lem zero c l h = simple-steps s t e p front tail rest we given spare room b from stand enter pos x next reads inside 0 c (omega arith)
   by_code_lem (suc zero) c l h = simple-steps s t e p front tail rest we given spare room b from stand enter pos x next reads inside 1 c (omega arith)
   by_code_lem (suc (suc zero)) c l h = simple-steps s t e p front tail rest we given spare room b from stand enter pos x next reads inside 2 c (omega arith)

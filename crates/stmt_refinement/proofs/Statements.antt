@@ -70,7 +70,6 @@ module _ (s t : List ℕ) (e : Env) (front tail rest : List ℕ) (spare : ℕ) (
   called c false h = follow 0 _ (other_call-steps s t e p front tail rest we begun.between.given spare room b st begun.between.standing (enter_of deep) (enter_macro deep s t) pos x next reads inside c h)
 
   by_code_lem : (call : Bool) → eqb (get_or s pos 0) 7 ≡ call → F (when call then beside_p p (call_statement (enter_macro deep s t) s t p A M we pos (walk_of b (word e.section front tail rest st))) else other_statement (get_or s pos 0) s t p A M we pos (walk_of b (word e.section front tail rest st)))
-  unfolding when◌then◌else◌
   by_code_lem true h = called (eqb-true (get_or s pos 0) 7 h) (is_macro (called_of s t (le16 s (pos + 1)))) refl
   by_code_lem false h = follow (labels_of (get_or s pos 0)) _ (other_statement-steps s t e p front tail rest we begun.between.given spare room b few st begun.between.standing (enter_of deep) pos x next reads inside h)
 

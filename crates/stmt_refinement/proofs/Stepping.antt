@@ -43,7 +43,7 @@ seen_next begun (stepped (Step.Next n w) b u) p d st a m h = let o : (n, beside 
 seen_next begun (stepped (Step.Stop n ordinal) b u) p d st a m h = let z : ◌≡◌ {A = ℕ} 0 1 = cc in absurd (omega arith)
 
 pub seen_stop : (begun : ℕ) (x : Stepped) (p : List ℕ) (k : ℕ) → 0 < k → seen_step begun x ≡ no k → (a : List ℕ) × (m : List ℕ) × (beside_p p x ≡ walked (Step.Stop k begun) p a m)
-unfolding seen_step beside_p when◌then◌else◌
+unfolding seen_step beside_p
 seen_stop begun (stepped (Step.Next n w) b u) p k l h = let z : ◌≡◌ {A = ℕ} 0 1 = cc in absurd (omega arith)
 seen_stop begun (stepped (Step.Stop n ordinal) b u) p k l h = (b, u, go (eqb ordinal begun) refl h)
   where

@@ -132,7 +132,7 @@ module _ (s : List ℕ) (pos : ℕ) (to : PcodeExpr) (next : ℕ) (reads : expr_
   -- the code of what a target truncates
   part_case : (value : PcodeExpr) (end : ℕ) → expr_within (le16 s 2) 31 (drop (pos + 1) s) ≡ parsed value (drop end s) → end ≤ length s → le16 s end < 1025 → next ≡ end + 2 → get_or s pos 0 ≡ 3 → to ≡ PcodeExpr.Truncate value (le16 s end)
       → (n : ℕ) → get_or s (pos + 1) 0 ≡ n → n < 9 → TargetAt s pos to next
-  unfolding target_name target_size after_target d.target_name and_then or_none or_else when◌then◌else◌
+  unfolding target_name target_size after_target d.target_name and_then or_none or_else
   part_case value end part within small behind c is zero k l =
       let i = at.ident_at s (le16 s 2) 30 (pos + 1) value (drop end s) k part in
       let j = ident_ends s (le16 s 2) 30 (pos + 1) value end part within k in
@@ -143,7 +143,7 @@ module _ (s : List ℕ) (pos : ℕ) (to : PcodeExpr) (next : ℕ) (reads : expr_
   part_case value end part within small behind c is (suc n) k l = other (rw (is, (no_name s (le16 s 2) 30 (pos + 1) value (drop end s) part n k l).0)) (rw (start, c, k, ne_eqb (suc n) 0 (λ z. omega arith)))
 
   code_case : (n : ℕ) → get_or s pos 0 ≡ n → n < 9 → TargetAt s pos to next
-  unfolding target_name target_size after_target d.target_name or_none or_else when◌then◌else◌
+  unfolding target_name target_size after_target d.target_name or_none or_else
   code_case zero c l =
       let i = at.ident_at s (le16 s 2) 31 pos to (drop next s) c reads in
       let j = ident_ends s (le16 s 2) 31 pos to next reads inside c in
@@ -158,7 +158,7 @@ module _ (s : List ℕ) (pos : ℕ) (to : PcodeExpr) (next : ℕ) (reads : expr_
           part_case i.value i.value_end i.value_reads i.value_inside i.size_below j (c ∙ k) i.is (get_or s (pos + 1) 0) refl (at.expr-begun s (le16 s 2) 30 (pos + 1) i.value (drop i.value_end s) i.value_reads).known
       go false q =
           let k = eqb-false n 2 q in
-          other ((no_name s (le16 s 2) 31 pos to (drop next s) reads n c l).1 k) (unfold target_name when◌then◌else◌ in rw (start, c, ne_eqb (suc n) 0 (λ z. omega arith), ne_eqb (suc n) 3 (λ z. k (omega arith))))
+          other ((no_name s (le16 s 2) 31 pos to (drop next s) reads n c l).1 k) (unfold target_name in rw (start, c, ne_eqb (suc n) 0 (λ z. omega arith), ne_eqb (suc n) 3 (λ z. k (omega arith))))
 
   pub target_at : TargetAt s pos to next
   target_at = code_case (get_or s pos 0) refl (at.expr-begun s (le16 s 2) 31 pos to (drop next s) reads).known
@@ -226,19 +226,19 @@ module _ (s t : List ℕ) (e : Env) (p front tail rest : List ℕ) (we : WordEnv
         by : (name : ℕ) (known : name < 1024) (size : Option ℕ) → Small size → (y : Meaning)
             → Copies st next (on_target (when is_wrong (enc_m y) then beside_a A2 (on_read (named_tmp t p M2 we name (or_none size) W2) (λ v st1 q u. resolved (Expr.Value next (WordExpr.Local v) st1) q u) (λ n q u. resolved (Expr.No n) q u)) else in_scope p (resolve_expr 32 s t p we pos A2 M2 W2)) into refusing)
             (on e (d.dst_meaning to name size y e st) (d.copy_into x))
-        by name known size small (means y) = unfold is_wrong enc_m when◌then◌else◌ d.dst_meaning in plain_target_lem
-        by name known size small (wrong r) = unfold is_wrong enc_m when◌then◌else◌ d.dst_meaning in new_target_lem name known size small
+        by name known size small (means y) = unfold is_wrong enc_m d.dst_meaning in plain_target_lem
+        by name known size small (wrong r) = unfold is_wrong enc_m d.dst_meaning in new_target_lem name known size small
 
         go : TargetAt s pos to next
             → Copies st next (on_target (when is_new s t p we (target_name s pos) then beside_a A2 (new_target s t p M2 we pos (target_name s pos) W2) else in_scope p (resolve_expr 32 s t p we pos A2 M2 W2)) into refusing)
             (on e (d.dst_named to (d.target_name to) e st) (d.copy_into x))
-        go (other q h) = unfold is_new when◌then◌else◌ d.dst_named in rw (q, h) plain_target_lem
+        go (other q h) = unfold is_new d.dst_named in rw (q, h) plain_target_lem
         go (bare name size q h i j k small) =
             let l = given.holds.limits.names in
             let known : name < 1024 = omega arith in
             unfold is_new new_target d.dst_named scope.meaning on in
             rw (q, h, i, j, ne_eqb name 65535 (λ z. omega arith), ident_is s t e p we given.holds st stand.scoped name known)
-            (unfold when◌then◌else◌ in by name known size small (meaning_of e.section (inner_meaning e.section st.scope name) name))
+            ( by name known size small (meaning_of e.section (inner_meaning e.section st.scope name) name))
 
   -- the source is resolved before the target
   pub copy_steps : (from : State) → Stands s t e front tail rest we given spare room b p from → (pos : ℕ) → pos + 1 ≤ length s → (x : Statement) (u : List ℕ) (i : CopyAt s (le16 s 2) pos x u)

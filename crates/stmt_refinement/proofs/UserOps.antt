@@ -199,8 +199,8 @@ module _ (s t : List ℕ) (e : Env) (front tail rest : List ℕ) (we : WordEnv) 
         (λ st1 b. listed (Pushed.Done st1) (write_inputs (length vs) b (length front + 24 * length st.actions) args)) (λ k b. listed (Pushed.No k) b)))
         (on e (on e (require c list_full e st) λ _ e1 st1. done (tt {0}) (with_action (op_action Operation.PcodeOp id vs none) st1)) λ _ e1 st1. done (tt {0}) st1)
     pushed_is args g true c =
-        unfold on_push when◌then◌else◌ require on in pushed-done args g (fits c)
-    pushed_is args g false c = unfold on_push when◌then◌else◌ require on seen_push in refines_stopped e.section front tail rest spare st (λ _. tt {0}) (λ n (_ : Unit {0}). Unit {0}) 12 list_full (unfold refusal_number in refl)
+        unfold on_push require on in pushed-done args g (fits c)
+    pushed_is args g false c = unfold on_push require on seen_push in refines_stopped e.section front tail rest spare st (λ _. tt {0}) (λ n (_ : Unit {0}). Unit {0}) 12 list_full (unfold refusal_number in refl)
 
     -- the action pushed, and its inputs written
     user-op-pushed : (args : List ℕ) → ValuesIn args 0 vs
@@ -308,7 +308,7 @@ module _ (s t : List ℕ) (e : Env) (front tail rest : List ℕ) (we : WordEnv) 
     Ends st x o = Goes e.section front tail rest spare st next b z.sizing.begun x o
 
     push_args : (y : Listed Pushed) (m args : List ℕ) → seen_step (begun_in w) (step_args (then_l y λ r c. args_read r c m args) (pushed_then next w)) ≡ map_seen (λ _. (next, b)) (seen_push m y)
-    unfolding seen_step step_args then_l pushed_then map_seen seen_push when◌then◌else◌
+    unfolding seen_step step_args then_l pushed_then map_seen seen_push
     push_args (listed (Pushed.Done st) a) m args = refl
     push_args (listed (Pushed.No n) a) m args = rw (eq-eqb (begun_in w) (begun_in w) refl)
 

@@ -31,7 +31,7 @@ abbrev pub begun_in : Walk → ℕ
 begun_in w = w.st.sizing.begun
 
 pub stop_seen : (n : ℕ) (w : Walk) (a m : List ℕ) → seen_step (begun_in w) (stepped (stop n w) a m) ≡ no n
-unfolding seen_step when◌then◌else◌
+unfolding seen_step
 stop_seen n w a m = rw (eq-eqb (begun_in w) (begun_in w) refl)
 
 -- another value
@@ -40,24 +40,24 @@ map_seen f (no n) = no n
 map_seen f (yes a st b m) = yes (f a) st b m
 
 pub pushed_seen : (x : PushedOut) (next : ℕ) (w : Walk) → seen_step (begun_in w) (step_pushed x (pushed_then next w)) ≡ map_seen (λ _. (next, beside w)) (seen_pushed x)
-unfolding seen_step step_pushed pushed_then map_seen seen_pushed when◌then◌else◌
+unfolding seen_step step_pushed pushed_then map_seen seen_pushed
 pushed_seen (pushed (Pushed.Done st) a m) next w = refl
 pushed_seen (pushed (Pushed.No n) a m) next w = rw (eq-eqb (begun_in w) (begun_in w) refl)
 
 pub read_seen : (x : ReadOut) (next : ℕ) (w : Walk) → seen_step (begun_in w) (step_read x (read_then next w)) ≡ map_seen (λ _. (next, beside w)) (seen_read x)
-unfolding seen_step step_read read_then map_seen seen_read when◌then◌else◌
+unfolding seen_step step_read read_then map_seen seen_read
 read_seen (read (Read.Value v st) a m) next w = refl
 read_seen (read (Read.No n) a m) next w = rw (eq-eqb (begun_in w) (begun_in w) refl)
 
 -- an action pushed, beside these temporaries
 pub push_seen : (x : Listed Pushed) (m : List ℕ) (next : ℕ) (w : Walk)
     → seen_step (begun_in w) (then_l (then_l x (λ r b. listed (pushed_then next w r) b)) (λ r b. stepped r b m)) ≡ map_seen (λ _. (next, beside w)) (seen_push m x)
-unfolding seen_step then_l pushed_then map_seen seen_push when◌then◌else◌
+unfolding seen_step then_l pushed_then map_seen seen_push
 push_seen (listed (Pushed.Done st) a) m next w = refl
 push_seen (listed (Pushed.No n) a) m next w = rw (eq-eqb (begun_in w) (begun_in w) refl)
 
 pub push_ends : (x : Listed Pushed) (m : List ℕ) (next : ℕ) (w : Walk) → seen_step (begun_in w) (then_l x λ r b. stepped (pushed_then next w r) b m) ≡ map_seen (λ _. (next, beside w)) (seen_push m x)
-unfolding seen_step then_l pushed_then map_seen seen_push when◌then◌else◌
+unfolding seen_step then_l pushed_then map_seen seen_push
 push_ends (listed (Pushed.Done st) a) m next w = refl
 push_ends (listed (Pushed.No n) a) m next w = rw (eq-eqb (begun_in w) (begun_in w) refl)
 

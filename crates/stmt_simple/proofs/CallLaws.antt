@@ -61,24 +61,24 @@ symbol_other (Symbol.Other i) o = refl
 
 module _ (s t : List ℕ) (name d : ℕ) (ed : (d ≡ le16 s 32) × (d < 65536)) where
   pub called_delay : name ≡ d → Called.DelaySlot ≡ called_of s t name
-  unfolding called_of when◌then◌else◌
+  unfolding called_of
   called_delay h = rw (← ed.0, eq-eqb name d h)
 
   pub called_symbol : (x : Symbol) (r : Called) → (name ≡ d → ⊥) → (x ≡ lookup t name) × (place_of x < 8192) → r ≡ symbol_called x → r ≡ called_of s t name
-  unfolding called_of when◌then◌else◌
+  unfolding called_of
   called_symbol x r h ex q = rw (← ed.0, ne_eqb name d h, ← ex.0) q
 
 -- ---- the delay slot
 module _ (s a : List ℕ) (pos n : ℕ) (w : Walk) (k : ℕ) (ek : k ≡ only_integer s pos n) (z : Step) where
   pub delay_one : (o x y : Value) (r : Pushed) (a1 : List ℕ) (next : ℕ) → k ≡ 1 → o ≡ absent → x ≡ absent → y ≡ absent → listed r a1 ≡ push a 4 0 0 0 o x y w.st → next ≡ after pos 13 → z ≡ pushed_then next w r →
       listed z a1 ≡ delay_slot s a pos n w
-  unfolding delay_slot when◌then◌else◌ then_l
+  unfolding delay_slot then_l
   delay_one o x y r a1 next h eo ex ey f g q =
       let l : listed r a1 ≡ push a 4 0 0 0 absent absent absent w.st = rw (eo, ex, ey) at f in
       rw (← ek, eq-eqb k 1 h, ← l, ← g, q)
 
   pub delay_other : (k ≡ 1 → ⊥) → z ≡ stop 25 w → listed z a ≡ delay_slot s a pos n w
-  unfolding delay_slot when◌then◌else◌
+  unfolding delay_slot
   delay_other h q = rw (← ek, ne_eqb k 1 h, q)
 
 -- ---- user ops; what is left to read gives the whole, B
@@ -169,11 +169,11 @@ module _ (s t p a m args : List ℕ) (e : Env) (pos id n : ℕ) (st : State) (at
 
 module _ (s t : List ℕ) (id n next : ℕ) (st : State) (k c : ℕ) (ek : k ≡ macro_at t id) (ec : (c ≡ get_or s (k + 0) 0) × (c < 256)) where
   pub counted_same : c ≡ n → Args.Done next st ≡ counted s t id n next st
-  unfolding counted when◌then◌else◌
+  unfolding counted
   counted_same h = rw (← ek, ← ec.0, eq-eqb c n h)
 
   pub counted_other : (c ≡ n → ⊥) → Args.No 26 ≡ counted s t id n next st
-  unfolding counted when◌then◌else◌
+  unfolding counted
   counted_other h = rw (← ek, ← ec.0, ne_eqb c n h)
 
 pub ruleset call_laws = (symbol_none, symbol_op, symbol_macro, symbol_other, called_delay, called_symbol, delay_one, delay_other, user_full, user-done, user_no, user_yes, user-stop, user-next, macro_at_law, macro_no, macro-done)

@@ -117,11 +117,11 @@ find_start n s t table = let z : n - 0 ≡ n = omega arith in rw z
 
 module _ (n i : ℕ) (s t : List ℕ) (table at w r : ℕ) (h : i < n) (g : at ≡ entry t 8 (i % 65536 * 4)) (k : (w ≡ le16 s (at + 2)) × (w < 65536)) (e : find_subtable (n - i) i s t table ≡ r) where
   pub find_hit : w ≡ table → i ≡ r
-  unfolding find_subtable when◌then◌else◌
+  unfolding find_subtable
   find_hit q = rw (one_less n i h, ← g, ← k.0, eq-eqb w table q) at e
 
   pub find_miss : (w ≡ table → ⊥) → find_subtable (n - (i + 1)) (i + 1) s t table ≡ r
-  unfolding find_subtable when◌then◌else◌
+  unfolding find_subtable
   find_miss q =
       let o : i + 1 ≡ suc i = omega arith in
       rw o (rw (one_less n i h, ← g, ← k.0, ne_eqb w table q, o) at e)
@@ -133,13 +133,13 @@ find-end n i s t table r h e = let z : n - i ≡ 0 = omega arith in rw z at e
 module _ (s t a : List ℕ) (table pos : ℕ) (w : Walk) (n i : ℕ) (en : (n ≡ le16 s 20) × (n < 65536)) (ei : i ≡ find_subtable n 0 s t table) where
   pub table_built : (o x y : Value) (r : Pushed) (a1 : List ℕ) (next : ℕ) (z : Step) → i < n → o ≡ absent → x ≡ absent → y ≡ absent → listed r a1 ≡ push a 5 0 i 0 o x y w.st → next ≡ after pos 3 → z ≡ pushed_then next w r →
       listed z a1 ≡ build_table s t a table pos w
-  unfolding build_table build_subtable when◌then◌else◌ then_l
+  unfolding build_table build_subtable then_l
   table_built o x y r a1 next z h eo ex ey f g k =
       let l : listed r a1 ≡ push a 5 0 i 0 absent absent absent w.st = rw (eo, ex, ey) at f in
       rw (← en.0, ← ei, lt-ltb i n h, ← l, ← g, k)
 
   pub table-absent : (z : Step) → n ≤ i → z ≡ stop 24 w → listed z a ≡ build_table s t a table pos w
-  unfolding build_table build_subtable when◌then◌else◌
+  unfolding build_table build_subtable
   table-absent z h k = rw (← en.0, ← ei, le-ltb i n h, k)
 
 module _ (s t a : List ℕ) (pos : ℕ) (w : Walk) (name : ℕ) (x : Symbol) (en : (name ≡ le16 s (pos + 1)) × (name < 65536)) (ex : (x ≡ lookup t name) × (place_of x < 8192)) (z : Step) where

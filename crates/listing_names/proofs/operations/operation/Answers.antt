@@ -8,7 +8,7 @@ use Rattle.listing_names.specs.Words.{first, widest}
 use Rattle.listing_names.proofs.operations.operation.Goals as goal
 
 pub put-requires : goal.put-requires
-unfolding widest first when◌then◌else◌
+unfolding widest first
 put-requires c = rw c.word.ensures (word_fits _ _ _ refl (omega arith))
 
 pub returns : goal.returns
