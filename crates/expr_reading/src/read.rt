@@ -40,16 +40,15 @@ pub struct Stated {
 }
 
 fn set_size(
-    stream: &[u8],
-    table: &[u16; table::LENGTH],
+    section: Section<'_>,
     temporaries: &mut [u64],
     value: Value,
     size: u64,
     state: State,
 ) -> Stated
-    ensures { listed result temporaries.new ≡ set_size stream.now table.now temporaries.old value size state }
+    ensures { listed result temporaries.new ≡ set_size section.entry.stream.now section.entry.table.now temporaries.old value size state }
 {
-    let known = size_of(stream, table, temporaries, value);
+    let known = size_of(section, temporaries, value);
     let k = settle(temporaries, value, known, size);
     let z = record_errors(state.sizing, k);
     Stated {
@@ -60,14 +59,13 @@ fn set_size(
 
 // A register access's stated size is set; 0 sets none.
 pub fn set_stated(
-    stream: &[u8],
-    table: &[u16; table::LENGTH],
+    section: Section<'_>,
     temporaries: &mut [u64],
     value: Value,
     size: u64,
     state: State,
 ) -> Stated
-    ensures { listed result temporaries.new ≡ set_stated stream.now table.now temporaries.old value size state }
+    ensures { listed result temporaries.new ≡ set_stated section.entry.stream.now section.entry.table.now temporaries.old value size state }
 {
     if size == 0 {
         return Stated {
@@ -75,19 +73,18 @@ pub fn set_stated(
             st: state,
         };
     }
-    set_size(stream, table, temporaries, value, size, state)
+    set_size(section, temporaries, value, size, state)
 }
 
 // A RAM access's stated size is taken silently; 0 sets none.
 pub fn take_stated(
-    stream: &[u8],
-    table: &[u16; table::LENGTH],
+    section: Section<'_>,
     temporaries: &mut [u64],
     value: Value,
     size: u64,
     state: State,
 ) -> Stated
-    ensures { listed result temporaries.new ≡ take_stated stream.now table.now temporaries.old value size state }
+    ensures { listed result temporaries.new ≡ take_stated section.entry.stream.now section.entry.table.now temporaries.old value size state }
 {
     if size == 0 {
         return Stated {
@@ -95,18 +92,17 @@ pub fn take_stated(
             st: state,
         };
     }
-    if size_of(stream, table, temporaries, value) != NONE {
+    if size_of(section, temporaries, value) != NONE {
         return Stated {
             v: with_size(value, size),
             st: state,
         };
     }
-    set_size(stream, table, temporaries, value, size, state)
+    set_size(section, temporaries, value, size, state)
 }
 
 fn copy_to(
-    stream: &[u8],
-    table: &[u16; table::LENGTH],
+    section: Section<'_>,
     actions: &mut [u64],
     temporaries: &mut [u64],
     env: Env,
@@ -114,13 +110,12 @@ fn copy_to(
     to: Value,
     value: Value,
     state: State,
-) -> Read
-    ensures { read result actions.new temporaries.new ≡ copy_to stream.now table.now actions.old temporaries.old env given to value state }
+) -> Result<(Value, State), Refusal>
+    ensures { read (to_read result) actions.new temporaries.new ≡ copy_to section.entry.stream.now section.entry.table.now actions.old temporaries.old env given to value state }
 {
     if given {
         return op_to(
-            stream,
-            table,
+            section,
             actions,
             temporaries,
             env,
@@ -133,10 +128,7 @@ fn copy_to(
             state,
         );
     }
-    Read::Value {
-        v: value,
-        st: state,
-    }
+    Ok((value, state))
 }
 
 pub fn byte_aligned(from: u64, bits: u64) -> bool
@@ -146,18 +138,15 @@ pub fn byte_aligned(from: u64, bits: u64) -> bool
 }
 
 // The slice, unless its offset passes 65,535.
-pub fn sliced(value: Value, more: u64, size: u64, state: State) -> Read
-    ensures { result ≡ sliced value more size state }
+pub fn sliced(value: Value, more: u64, size: u64, state: State) -> Result<(Value, State), Refusal>
+    ensures { to_read result ≡ sliced value more size state }
 {
-    match slice_bytes(value, more, size) {
-        Slice::No(n) => Read::No(n),
-        Slice::Is(v) => Read::Value { v, st: state },
-    }
+    let v = slice_bytes(value, more, size)?;
+    Ok((v, state))
 }
 
 fn shift_to(
-    stream: &[u8],
-    table: &[u16; table::LENGTH],
+    section: Section<'_>,
     actions: &mut [u64],
     temporaries: &mut [u64],
     env: Env,
@@ -166,12 +155,11 @@ fn shift_to(
     from: u64,
     bits: u64,
     state: State,
-) -> Read
-    ensures { read result actions.new temporaries.new ≡ shift_to stream.now table.now actions.old temporaries.old env value tmp from bits state }
+) -> Result<(Value, State), Refusal>
+    ensures { read (to_read result) actions.new temporaries.new ≡ shift_to section.entry.stream.now section.entry.table.now actions.old temporaries.old env value tmp from bits state }
 {
-    match op_to(
-        stream,
-        table,
+    let (_, next) = op_to(
+        section,
         actions,
         temporaries,
         env,
@@ -182,11 +170,9 @@ fn shift_to(
         value,
         constant(from),
         state,
-    ) {
-        Read::No(n) => Read::No(n),
-        Read::Value { v: _, st: next } => op_to(
-            stream,
-            table,
+    )?;
+    op_to(
+            section,
             actions,
             temporaries,
             env,
@@ -197,13 +183,11 @@ fn shift_to(
             tmp,
             constant(access::mask(bits)),
             next,
-        ),
-    }
+        )
 }
 
 fn shift_and_mask(
-    stream: &[u8],
-    table: &[u16; table::LENGTH],
+    section: Section<'_>,
     actions: &mut [u64],
     temporaries: &mut [u64],
     env: Env,
@@ -211,15 +195,13 @@ fn shift_and_mask(
     from: u64,
     bits: u64,
     state: State,
-) -> Read
-    ensures { read result actions.new temporaries.new ≡ shift_and_mask stream.now table.now actions.old temporaries.old env value from bits state }
+) -> Result<(Value, State), Refusal>
+    ensures { read (to_read result) actions.new temporaries.new ≡ shift_and_mask section.entry.stream.now section.entry.table.now actions.old temporaries.old env value from bits state }
 {
-    let size = size_of(stream, table, temporaries, value);
-    match add_tmp(temporaries, NONE, size, state) {
-        Read::No(n) => Read::No(n),
-        Read::Value { v: tmp, st: next } => match shift_to(
-            stream,
-            table,
+    let size = size_of(section, temporaries, value);
+    let (tmp, next) = add_tmp(temporaries, NONE, size, state)?;
+    let (_, last) = shift_to(
+            section,
             actions,
             temporaries,
             env,
@@ -228,19 +210,12 @@ fn shift_and_mask(
             from,
             bits,
             next,
-        ) {
-            Read::No(n) => Read::No(n),
-            Read::Value { v: _, st: last } => Read::Value {
-                v: with_size(tmp, needed_bytes(bits)),
-                st: last,
-            },
-        },
-    }
+        )?;
+    Ok((with_size(tmp, needed_bytes(bits)), last))
 }
 
 fn part_of(
-    stream: &[u8],
-    table: &[u16; table::LENGTH],
+    section: Section<'_>,
     actions: &mut [u64],
     temporaries: &mut [u64],
     env: Env,
@@ -248,15 +223,14 @@ fn part_of(
     from: u64,
     bits: u64,
     state: State,
-) -> Read
-    ensures { read result actions.new temporaries.new ≡ part_of stream.now table.now actions.old temporaries.old env value from bits state }
+) -> Result<(Value, State), Refusal>
+    ensures { read (to_read result) actions.new temporaries.new ≡ part_of section.entry.stream.now section.entry.table.now actions.old temporaries.old env value from bits state }
 {
     if byte_aligned(from, bits) {
         return sliced(value, from / 8, bits / 8, state);
     }
     shift_and_mask(
-        stream,
-        table,
+        section,
         actions,
         temporaries,
         env,
@@ -268,8 +242,7 @@ fn part_of(
 }
 
 pub fn read_slice(
-    stream: &[u8],
-    table: &[u16; table::LENGTH],
+    section: Section<'_>,
     actions: &mut [u64],
     temporaries: &mut [u64],
     env: Env,
@@ -279,12 +252,11 @@ pub fn read_slice(
     given: bool,
     to: Value,
     state: State,
-) -> Read
-    ensures { read result actions.new temporaries.new ≡ read_slice stream.now table.now actions.old temporaries.old env value from bits given to state }
+) -> Result<(Value, State), Refusal>
+    ensures { read (to_read result) actions.new temporaries.new ≡ read_slice section.entry.stream.now section.entry.table.now actions.old temporaries.old env value from bits given to state }
 {
-    match part_of(
-        stream,
-        table,
+    let (part, next) = part_of(
+        section,
         actions,
         temporaries,
         env,
@@ -292,11 +264,9 @@ pub fn read_slice(
         from,
         bits,
         state,
-    ) {
-        Read::No(n) => Read::No(n),
-        Read::Value { v: part, st: next } => copy_to(
-            stream,
-            table,
+    )?;
+    copy_to(
+            section,
             actions,
             temporaries,
             env,
@@ -304,17 +274,14 @@ pub fn read_slice(
             to,
             part,
             next,
-        ),
-    }
+        )
 }
 
-fn pushed_to(answer: Pushed, value: Value) -> Read
-    ensures { result ≡ pushed_to answer value }
+fn pushed_to(answer: Pushed, value: Value) -> Result<(Value, State), Refusal>
+    ensures { to_read result ≡ pushed_to answer value }
 {
-    match answer {
-        Pushed::No(n) => Read::No(n),
-        Pushed::Done(st) => Read::Value { v: value, st },
-    }
+    let st = answer?;
+    Ok((value, st))
 }
 
 fn read_address(
@@ -325,15 +292,14 @@ fn read_address(
     given: bool,
     to: Value,
     state: State,
-) -> Read
-    ensures { read result actions.new temporaries.new ≡ read_address actions.old temporaries.old base size given to state }
+) -> Result<(Value, State), Refusal>
+    ensures { read (to_read result) actions.new temporaries.new ≡ read_address actions.old temporaries.old base size given to state }
 {
     if base.offset != 0 {
-        return Read::No(refusal::ADDRESS_OF_OFFSET);
+        return Err(Refusal::AddressOfOffset);
     }
-    match output_or(temporaries, given, to, size, state) {
-        Read::No(n) => Read::No(n),
-        Read::Value { v, st: next } => pushed_to(
+    let (v, next) = output_or(temporaries, given, to, size, state)?;
+    pushed_to(
             push(
                 actions,
                 action_kind::ADDRESS_OF,
@@ -346,13 +312,11 @@ fn read_address(
                 next,
             ),
             v,
-        ),
-    }
+        )
 }
 
 fn load(
-    stream: &[u8],
-    table: &[u16; table::LENGTH],
+    section: Section<'_>,
     actions: &mut [u64],
     temporaries: &mut [u64],
     env: Env,
@@ -361,16 +325,13 @@ fn load(
     given: bool,
     to: Value,
     state: State,
-) -> Read
-    ensures { read result actions.new temporaries.new ≡ load stream.now table.now actions.old temporaries.old env pointer size given to state }
+) -> Result<(Value, State), Refusal>
+    ensures { read (to_read result) actions.new temporaries.new ≡ load section.entry.stream.now section.entry.table.now actions.old temporaries.old env pointer size given to state }
 {
-    match output_or(temporaries, given, to, NONE, state) {
-        Read::No(n) => Read::No(n),
-        Read::Value { v, st: next } => {
-            let out = take_stated(stream, table, temporaries, v, size, next);
+    let (v, next) = output_or(temporaries, given, to, NONE, state)?;
+    let out = take_stated(section, temporaries, v, size, next);
             op_to(
-                stream,
-                table,
+                section,
                 actions,
                 temporaries,
                 env,
@@ -382,13 +343,10 @@ fn load(
                 absent(),
                 out.st,
             )
-        }
-    }
 }
 
 fn load_register(
-    stream: &[u8],
-    table: &[u16; table::LENGTH],
+    section: Section<'_>,
     actions: &mut [u64],
     temporaries: &mut [u64],
     pointer: Value,
@@ -396,13 +354,11 @@ fn load_register(
     given: bool,
     to: Value,
     state: State,
-) -> Read
-    ensures { read result actions.new temporaries.new ≡ load_register stream.now table.now actions.old temporaries.old pointer size given to state }
+) -> Result<(Value, State), Refusal>
+    ensures { read (to_read result) actions.new temporaries.new ≡ load_register section.entry.stream.now section.entry.table.now actions.old temporaries.old pointer size given to state }
 {
-    match output_or(temporaries, given, to, size, state) {
-        Read::No(n) => Read::No(n),
-        Read::Value { v, st: next } => {
-            let out = set_stated(stream, table, temporaries, v, size, next);
+    let (v, next) = output_or(temporaries, given, to, size, state)?;
+    let out = set_stated(section, temporaries, v, size, next);
             pushed_to(
                 push(
                     actions,
@@ -417,13 +373,10 @@ fn load_register(
                 ),
                 out.v,
             )
-        }
-    }
 }
 
 pub fn read_value(
-    stream: &[u8],
-    table: &[u16; table::LENGTH],
+    section: Section<'_>,
     actions: &mut [u64],
     temporaries: &mut [u64],
     env: Env,
@@ -431,13 +384,12 @@ pub fn read_value(
     given: bool,
     to: Value,
     state: State,
-) -> Read
-    ensures { read result actions.new temporaries.new ≡ read_value stream.now table.now actions.old temporaries.old env expr given to state }
+) -> Result<(Value, State), Refusal>
+    ensures { read (to_read result) actions.new temporaries.new ≡ read_value section.entry.stream.now section.entry.table.now actions.old temporaries.old env expr given to state }
 {
     match expr {
         ExprValue::Local(v) => copy_to(
-            stream,
-            table,
+            section,
             actions,
             temporaries,
             env,
@@ -447,8 +399,7 @@ pub fn read_value(
             state,
         ),
         ExprValue::Unbound(v) => copy_to(
-            stream,
-            table,
+            section,
             actions,
             temporaries,
             env,
@@ -460,8 +411,7 @@ pub fn read_value(
         ExprValue::Const { value, size } => {
             let v = with_size(constant(value), size);
             copy_to(
-                stream,
-                table,
+                section,
                 actions,
                 temporaries,
                 env,
@@ -478,8 +428,7 @@ pub fn read_value(
             a: expr,
             b: y,
         } => op(
-            stream,
-            table,
+            section,
             actions,
             temporaries,
             env,
@@ -493,8 +442,7 @@ pub fn read_value(
             state,
         ),
         ExprValue::RamRef { pointer, size } => load(
-            stream,
-            table,
+            section,
             actions,
             temporaries,
             env,
@@ -506,8 +454,7 @@ pub fn read_value(
         ),
         ExprValue::RegisterRef { pointer, size } => {
             load_register(
-                stream,
-                table,
+                section,
                 actions,
                 temporaries,
                 pointer,
@@ -529,8 +476,7 @@ pub fn read_value(
         ExprValue::BitRange { v, from, bits } => {
             // By a name of its own, so that the answers of the other arms need not go through memory.
             let r = read_slice(
-                stream,
-                table,
+                section,
                 actions,
                 temporaries,
                 env,
@@ -548,19 +494,17 @@ pub fn read_value(
 
 // Read as an operand, with no output given.
 pub fn read_operand(
-    stream: &[u8],
-    table: &[u16; table::LENGTH],
+    section: Section<'_>,
     actions: &mut [u64],
     temporaries: &mut [u64],
     env: Env,
     expr: ExprValue,
     state: State,
-) -> Read
-    ensures { read result actions.new temporaries.new ≡ read_operand stream.now table.now actions.old temporaries.old env expr state }
+) -> Result<(Value, State), Refusal>
+    ensures { read (to_read result) actions.new temporaries.new ≡ read_operand section.entry.stream.now section.entry.table.now actions.old temporaries.old env expr state }
 {
     read_value(
-        stream,
-        table,
+        section,
         actions,
         temporaries,
         env,

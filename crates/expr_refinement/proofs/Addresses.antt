@@ -22,7 +22,7 @@ use Rattle.definition.proofs.Openers.{base_opens}
 use Rattle.list_values.specs.declared.value.Value.{Value as WordValue}
 use Rattle.list_pushes.specs.declared.push.State.{State as WordState}
 use Rattle.list_pushes.specs.declared.push.Env.{Env as WordEnv}
-use Rattle.list_pushes.specs.declared.push.Read.{Read}
+use Rattle.list_pushes.specs.Outcomes.{Read}
 use Rattle.list_values.specs.Sizes.{entry}
 use Rattle.list_pushes.specs.Pushes.{ReadOut, read}
 use Rattle.file_refinement.specs.Holds.{Holds, space_at, space_kind, absent_at}

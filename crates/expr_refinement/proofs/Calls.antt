@@ -20,7 +20,7 @@ use Rattle.definition.specs.Expressions as d
 use Rattle.list_values.specs.declared.value.Value.{Value as WordValue}
 use Rattle.list_pushes.specs.declared.push.State.{State as WordState}
 use Rattle.list_pushes.specs.declared.push.Env.{Env as WordEnv}
-use Rattle.list_pushes.specs.declared.push.Read.{Read}
+use Rattle.list_pushes.specs.Outcomes.{Read}
 use Rattle.prelude.specs.Base.{when◌then◌else◌}
 use Rattle.list_values.specs.Values.{absent}
 use Rattle.list_pushes.specs.Pushes.{ReadOut, read, PushedOut}

@@ -22,11 +22,11 @@ use Rattle.definition.specs.Expressions as d
 use Rattle.definition.specs.ActionList.{or_none, action_kind_number, operation_word, places_label}
 use Rattle.definition.proofs.Openers.{base_opens}
 use Rattle.list_values.specs.declared.value.Value.{Value as WordValue}
-use Rattle.list_values.specs.declared.value.Slice.{Slice}
+use Rattle.list_values.specs.Outcomes.{Slice}
 use Rattle.list_pushes.specs.declared.push.State.{State as WordState}
 use Rattle.list_pushes.specs.declared.push.Env.{Env as WordEnv}
-use Rattle.list_pushes.specs.declared.push.Read.{Read}
-use Rattle.list_pushes.specs.declared.push.Pushed.{Pushed}
+use Rattle.list_pushes.specs.Outcomes.{Read}
+use Rattle.list_pushes.specs.Outcomes.{Pushed}
 use Rattle.list_values.specs.Base.{Listed, listed}
 use Rattle.list_values.specs.Values as words
 use Rattle.list_values.specs.Values.{absent}

@@ -30,75 +30,59 @@ pub struct Order {
     pub second: usize,
 }
 
-fn value_then(answer: Read, next: usize) -> Operand
-    ensures { result ≡ value_then next answer }
+fn value_then(answer: Read, next: usize) -> Result<(Value, usize, State), Refusal>
+    ensures { to_operand result ≡ value_then next answer }
 {
-    match answer {
-        Read::No(n) => Operand::No(n),
-        Read::Value { v, st } => Operand::Value { v, next, st },
-    }
+    let (v, st) = answer?;
+    Ok((v, next, st))
 }
 
-fn means_at(answer: Meaning, next: usize, state: State) -> Expr
-    ensures { result ≡ means_at answer next state }
+fn means_at(answer: Meaning, next: usize, state: State) -> Result<(usize, ExprValue, State), Refusal>
+    ensures { to_expr result ≡ means_at answer next state }
 {
-    match answer {
-        Meaning::Wrong(n) => Expr::No(n),
-        Meaning::Means(x) => Expr::Value { x, next, st: state },
-    }
+    let x = answer?;
+    Ok((next, x, state))
 }
 
-fn local_address(expr: ExprValue, size: u64, next: usize, state: State) -> Expr
-    ensures { result ≡ local_address expr size next state }
+fn local_address(expr: ExprValue, size: u64, next: usize, state: State) -> Result<(usize, ExprValue, State), Refusal>
+    ensures { to_expr result ≡ local_address expr size next state }
 {
     match expr {
-        ExprValue::Local(v) => Expr::Value {
-            x: ExprValue::AddressOf { base: v, size },
-            next,
-            st: state,
-        },
-        _ => Expr::No(refusal::ADDRESS_OF_NON_LOCAL),
+        ExprValue::Local(v) => Ok((next, ExprValue::AddressOf { base: v, size }, state)),
+        _ => Err(Refusal::AddressOfNonLocal),
     }
 }
 
 fn address_of(
-    stream: &[u8],
-    table: &[u16; table::LENGTH],
+    section: Section<'_>,
     scope: &[u64],
     pos: usize,
     env: Env,
     state: State,
-) -> Expr
-    ensures { result ≡ address_of stream.now table.now scope.now pos env state }
+) -> Result<(usize, ExprValue, State), Refusal>
+    ensures { to_expr result ≡ address_of section.entry.stream.now section.entry.table.now scope.now pos env state }
 {
-    match resolve_ident(stream, table, scope, env, u16_in(stream, pos, 3)) {
-        Meaning::Wrong(n) => Expr::No(n),
-        Meaning::Means(x) => local_address(x, u16_in(stream, pos, 1), after(pos, 5), state),
-    }
+    let x = resolve_ident(section, scope, env, u16_in(section.stream, pos, 3))?;
+    local_address(x, u16_in(section.stream, pos, 1), after(pos, 5), state)
 }
 
 // The name at a position. A plain local needs no `Meaning`.
 fn name_at(
-    stream: &[u8],
-    table: &[u16; table::LENGTH],
+    section: Section<'_>,
     scope: &[u64],
     pos: usize,
     env: Env,
     state: State,
-) -> Expr
-    ensures { result ≡ atom 0 stream.now table.now scope.now pos env state }
+) -> Result<(usize, ExprValue, State), Refusal>
+    ensures { to_expr result ≡ atom 0 section.entry.stream.now section.entry.table.now scope.now pos env state }
 {
-    let name = u16_in(stream, pos, 1);
-    let q = plain_local(stream, table, scope, env, name);
+    let name = u16_in(section.stream, pos, 1);
+    let q = plain_local(section, scope, env, name);
     if 8 <= q {
-        return Expr::Value {
-            x: ExprValue::Local(local(q % 8, q / 8 - 1)),
-            next: after(pos, 3),
-            st: state,
-        };
+        return Ok((after(pos, 3), ExprValue::Local(local(q % 8, q / 8 - 1)), state));
     }
     means_at(
-        resolve_ident(stream, table, scope, env, name),
+        resolve_ident(section, scope, env, name),
         after(pos, 3),
         state,
     )
@@ -107,26 +91,21 @@ fn name_at(
 // A name, an integer or the address of a local.
 fn atom(
     code: u64,
-    stream: &[u8],
-    table: &[u16; table::LENGTH],
+    section: Section<'_>,
     scope: &[u64],
     pos: usize,
     env: Env,
     state: State,
-) -> Expr
-    ensures { result ≡ atom code stream.now table.now scope.now pos env state }
+) -> Result<(usize, ExprValue, State), Refusal>
+    ensures { to_expr result ≡ atom code section.entry.stream.now section.entry.table.now scope.now pos env state }
 {
     match code {
-        expression::IDENT => name_at(stream, table, scope, pos, env, state),
-        expression::INTEGER => Expr::Value {
-            x: ExprValue::Const {
-                value: access::u64_at(stream, after(pos, 1)),
+        expression::IDENT => name_at(section, scope, pos, env, state),
+        expression::INTEGER => Ok((after(pos, 9), ExprValue::Const {
+                value: access::u64_at(section.stream, after(pos, 1)),
                 size: NONE,
-            },
-            next: after(pos, 9),
-            st: state,
-        },
-        _ => address_of(stream, table, scope, pos, env, state),
+            }, state)),
+        _ => address_of(section, scope, pos, env, state),
     }
 }
 
@@ -190,23 +169,19 @@ fn operands_of(stream: &[u8], pos: usize) -> Order
     }
 }
 
-fn apply1(op: u64, answer: Operand) -> Expr
-    ensures { result ≡ apply1 op answer }
+fn apply1(op: u64, answer: Operand) -> Result<(usize, ExprValue, State), Refusal>
+    ensures { to_expr result ≡ apply1 op answer }
 {
-    match answer {
-        Operand::No(n) => Expr::No(n),
-        Operand::Value { v, next, st } => applied(op, 0, 1, v, absent(), next, st),
-    }
+    let (v, next, st) = answer?;
+    applied(op, 0, 1, v, absent(), next, st)
 }
 
 // A second operand, after a first that ends at a position.
-fn apply2(op: u64, value: Value, end: usize, answer: Operand) -> Expr
-    ensures { result ≡ apply2 op value end answer }
+fn apply2(op: u64, value: Value, end: usize, answer: Operand) -> Result<(usize, ExprValue, State), Refusal>
+    ensures { to_expr result ≡ apply2 op value end answer }
 {
-    match answer {
-        Operand::No(n) => Expr::No(n),
-        Operand::Value { v: w, next, st } => applied(op, 0, 2, value, w, later(end, next), st),
-    }
+    let (w, next, st) = answer?;
+    applied(op, 0, 2, value, w, later(end, next), st)
 }
 
 // Where the part of a truncation, a slice or a dereference stands, after its code.
@@ -219,8 +194,7 @@ fn part_at(code: u64) -> usize
 // A truncation, a slice or a dereference of a part that is resolved.
 fn with_part(
     code: u64,
-    stream: &[u8],
-    table: &[u16; table::LENGTH],
+    section: Section<'_>,
     actions: &mut [u64],
     temporaries: &mut [u64],
     pos: usize,
@@ -228,15 +202,14 @@ fn with_part(
     expr: ExprValue,
     next: usize,
     state: State,
-) -> Expr
-    ensures { resolved result actions.new temporaries.new ≡ with_part code stream.now table.now actions.old temporaries.old pos env expr next state }
+) -> Result<(usize, ExprValue, State), Refusal>
+    ensures { resolved (to_expr result) actions.new temporaries.new ≡ with_part code section.entry.stream.now section.entry.table.now actions.old temporaries.old pos env expr next state }
 {
     match code {
         expression::TRUNCATE => {
-            let bits = 8 * u16_in(stream, next, 0);
+            let bits = 8 * u16_in(section.stream, next, 0);
             slice_bits(
-                stream,
-                table,
+                section,
                 actions,
                 temporaries,
                 env,
@@ -248,11 +221,10 @@ fn with_part(
             )
         }
         expression::SLICE_BITS => {
-            let from = u16_in(stream, next, 0);
-            let bits = u16_in(stream, next, 2);
+            let from = u16_in(section.stream, next, 0);
+            let bits = u16_in(section.stream, next, 2);
             slice_bits(
-                stream,
-                table,
+                section,
                 actions,
                 temporaries,
                 env,
@@ -264,11 +236,10 @@ fn with_part(
             )
         }
         _ => {
-            let space = u16_in(stream, pos, 1);
-            let size = u16_in(stream, pos, 3);
+            let space = u16_in(section.stream, pos, 1);
+            let size = u16_in(section.stream, pos, 3);
             resolve_address(
-                stream,
-                table,
+                section,
                 actions,
                 temporaries,
                 env,
@@ -285,79 +256,66 @@ fn with_part(
 // What stands at a position as one number: that of a plain local, or 7 for an integer; less for what has to be resolved.
 fn plain_at(
     deep: u64,
-    stream: &[u8],
-    table: &[u16; table::LENGTH],
+    section: Section<'_>,
     scope: &[u64],
     pos: usize,
     env: Env,
 ) -> u64
-    ensures { result ≡ plain_at deep stream.now table.now scope.now pos env }
+    ensures { result ≡ plain_at deep section.entry.stream.now section.entry.table.now scope.now pos env }
 {
     if deep == 0 {
         return 0;
     }
-    let code = access::byte(stream, pos, 0);
+    let code = access::byte(section.stream, pos, 0);
     match code {
-        expression::IDENT => plain_local(stream, table, scope, env, u16_in(stream, pos, 1)),
+        expression::IDENT => plain_local(section, scope, env, u16_in(section.stream, pos, 1)),
         expression::INTEGER => INTEGER,
         _ => 0,
     }
 }
 
 // The operand of such a number, which is the value itself: reading it pushes nothing.
-fn plain_operand(plain: u64, stream: &[u8], pos: usize, state: State) -> Operand
-    ensures { result ≡ plain_operand plain stream.now pos state }
+fn plain_operand(plain: u64, stream: &[u8], pos: usize, state: State) -> Result<(Value, usize, State), Refusal>
+    ensures { to_operand result ≡ plain_operand plain stream.now pos state }
 {
     if 8 <= plain {
-        return Operand::Value {
-            v: local(plain % 8, plain / 8 - 1),
-            next: after(pos, 3),
-            st: state,
-        };
+        return Ok((local(plain % 8, plain / 8 - 1), after(pos, 3), state));
     }
-    Operand::Value {
-        v: constant(access::u64_at(stream, after(pos, 1))),
-        next: after(pos, 9),
-        st: state,
-    }
+    Ok((constant(access::u64_at(stream, after(pos, 1))), after(pos, 9), state))
 }
 
 // An expression resolved, then read.
 #[cycle(call_inbuilt_expr_value_part_resolve_args_resolve_call_resolve_expr_resolve_op_user_op)]
 pub fn expr_value(
     deep: u64,
-    stream: &[u8],
-    table: &[u16; table::LENGTH],
+    section: Section<'_>,
     scope: &[u64],
     pos: usize,
     env: Env,
     actions: &mut [u64],
     temporaries: &mut [u64],
     state: State,
-) -> Operand
-    ensures { operand result actions.new temporaries.new ≡ expr_value (resolve_expr deep stream.now table.now scope.now env) stream.now table.now env pos actions.old temporaries.old state }
+) -> Result<(Value, usize, State), Refusal>
+    ensures { operand (to_operand result) actions.new temporaries.new ≡ expr_value (resolve_expr deep section.entry.stream.now section.entry.table.now scope.now env) section.entry.stream.now section.entry.table.now env pos actions.old temporaries.old state }
 {
-    let q = plain_at(deep, stream, table, scope, pos, env);
+    let q = plain_at(deep, section, scope, pos, env);
     if INTEGER <= q {
-        return plain_operand(q, stream, pos, state);
+        return plain_operand(q, section.stream, pos, state);
     }
-    match resolve_expr(
+    let (next, x, st1) = resolve_expr(
         deep,
-        stream,
-        table,
+        section,
         scope,
         pos,
         env,
         actions,
         temporaries,
         state,
-    ) {
-        Expr::No(n) => Operand::No(n),
-        Expr::Value { x, next, st: st1 } => value_then(
-            read_operand(stream, table, actions, temporaries, env, x, st1),
+    )?;
+    value_then(
+            read_operand(section, actions, temporaries, env, x, st1),
             next,
-        ),
-    }
+        )
 }
 
 // What has one part: a truncation, a slice or a dereference.
@@ -365,33 +323,29 @@ pub fn expr_value(
 fn part(
     deep: u64,
     code: u64,
-    stream: &[u8],
-    table: &[u16; table::LENGTH],
+    section: Section<'_>,
     scope: &[u64],
     pos: usize,
     env: Env,
     actions: &mut [u64],
     temporaries: &mut [u64],
     state: State,
-) -> Expr
-    ensures { resolved result actions.new temporaries.new ≡ part (resolve_expr deep stream.now table.now scope.now env) code stream.now table.now env pos actions.old temporaries.old state }
+) -> Result<(usize, ExprValue, State), Refusal>
+    ensures { resolved (to_expr result) actions.new temporaries.new ≡ part (resolve_expr deep section.entry.stream.now section.entry.table.now scope.now env) code section.entry.stream.now section.entry.table.now env pos actions.old temporaries.old state }
 {
-    match resolve_expr(
+    let (next, x, st1) = resolve_expr(
         deep,
-        stream,
-        table,
+        section,
         scope,
         after(pos, part_at(code)),
         env,
         actions,
         temporaries,
         state,
-    ) {
-        Expr::No(n) => Expr::No(n),
-        Expr::Value { x, next, st: st1 } => with_part(
+    )?;
+    with_part(
             code,
-            stream,
-            table,
+            section,
             actions,
             temporaries,
             pos,
@@ -399,45 +353,40 @@ fn part(
             x,
             next,
             st1,
-        ),
-    }
+        )
 }
 
 #[cycle(call_inbuilt_expr_value_part_resolve_args_resolve_call_resolve_expr_resolve_op_user_op)]
 fn resolve_op(
     deep: u64,
-    stream: &[u8],
-    table: &[u16; table::LENGTH],
+    section: Section<'_>,
     scope: &[u64],
     pos: usize,
     env: Env,
     actions: &mut [u64],
     temporaries: &mut [u64],
     state: State,
-) -> Expr
-    ensures { resolved result actions.new temporaries.new ≡ resolve_op (resolve_expr deep stream.now table.now scope.now env) stream.now table.now env pos actions.old temporaries.old state }
+) -> Result<(usize, ExprValue, State), Refusal>
+    ensures { resolved (to_expr result) actions.new temporaries.new ≡ resolve_op (resolve_expr deep section.entry.stream.now section.entry.table.now scope.now env) section.entry.stream.now section.entry.table.now env pos actions.old temporaries.old state }
 {
-    let o = operands_of(stream, pos);
-    match expr_value(
+    let o = operands_of(section.stream, pos);
+    let (v, next, st1) = expr_value(
         deep,
-        stream,
-        table,
+        section,
         scope,
         o.first,
         env,
         actions,
         temporaries,
         state,
-    ) {
-        Operand::No(n) => Expr::No(n),
-        Operand::Value { v, next, st: st1 } => apply2(
+    )?;
+    apply2(
             o.op,
             v,
             next,
             expr_value(
                 deep,
-                stream,
-                table,
+                section,
                 scope,
                 o.second,
                 env,
@@ -445,16 +394,14 @@ fn resolve_op(
                 temporaries,
                 st1,
             ),
-        ),
-    }
+        )
 }
 
 // A built-in function: each argument is read before the next is resolved.
 #[cycle(call_inbuilt_expr_value_part_resolve_args_resolve_call_resolve_expr_resolve_op_user_op)]
 fn call_inbuilt(
     deep: u64,
-    stream: &[u8],
-    table: &[u16; table::LENGTH],
+    section: Section<'_>,
     scope: &[u64],
     pos: usize,
     op: u64,
@@ -463,13 +410,12 @@ fn call_inbuilt(
     actions: &mut [u64],
     temporaries: &mut [u64],
     state: State,
-) -> Expr
-    ensures { resolved result actions.new temporaries.new ≡ call_inbuilt (resolve_expr deep stream.now table.now scope.now env) stream.now table.now env pos op count actions.old temporaries.old state }
+) -> Result<(usize, ExprValue, State), Refusal>
+    ensures { resolved (to_expr result) actions.new temporaries.new ≡ call_inbuilt (resolve_expr deep section.entry.stream.now section.entry.table.now scope.now env) section.entry.stream.now section.entry.table.now env pos op count actions.old temporaries.old state }
 {
     let first = expr_value(
         deep,
-        stream,
-        table,
+        section,
         scope,
         after(pos, 4),
         env,
@@ -480,16 +426,14 @@ fn call_inbuilt(
     if count != 2 {
         return apply1(op, first);
     }
-    match first {
-        Operand::No(n) => Expr::No(n),
-        Operand::Value { v, next, st: st1 } => apply2(
+    let (v, next, st1) = first?;
+    apply2(
             op,
             v,
             0,
             expr_value(
                 deep,
-                stream,
-                table,
+                section,
                 scope,
                 next,
                 env,
@@ -497,16 +441,14 @@ fn call_inbuilt(
                 temporaries,
                 st1,
             ),
-        ),
-    }
+        )
 }
 
 // n arguments, resolved only, into the slots of `args`.
 #[cycle(call_inbuilt_expr_value_part_resolve_args_resolve_call_resolve_expr_resolve_op_user_op)]
 pub fn resolve_args(
     deep: u64,
-    stream: &[u8],
-    table: &[u16; table::LENGTH],
+    section: Section<'_>,
     scope: &[u64],
     pos: usize,
     count: u64,
@@ -515,42 +457,33 @@ pub fn resolve_args(
     temporaries: &mut [u64],
     args: &mut [u64],
     state: State,
-) -> Args
-    ensures { passed result actions.new temporaries.new args.new ≡ resolve_args (resolve_expr deep stream.now table.now scope.now env) count 0 pos actions.old temporaries.old args.old state }
+) -> Result<(usize, State), Refusal>
+    ensures { passed (to_args result) actions.new temporaries.new args.new ≡ resolve_args (resolve_expr deep section.entry.stream.now section.entry.table.now scope.now env) count 0 pos actions.old temporaries.old args.old state }
 {
     let mut at = pos;
     let mut state = state;
     for i in 0..count {
-        match resolve_expr(
+        let (next, x, st1) = resolve_expr(
             deep,
-            stream,
-            table,
+            section,
             scope,
             at,
             env,
             actions,
             temporaries,
             state,
-        ) {
-            Expr::No(k) => return Args::No(k),
-            Expr::Value { x, next, st: st1 } => {
-                put_arg(args, i, x);
+        )?;
+    put_arg(args, i, x);
                 at = next;
                 state = st1;
-            }
-        }
     }
-    Args::Done {
-        next: at,
-        st: state,
-    }
+    Ok((at, state))
 }
 
 #[cycle(call_inbuilt_expr_value_part_resolve_args_resolve_call_resolve_expr_resolve_op_user_op)]
 fn user_op(
     deep: u64,
-    stream: &[u8],
-    table: &[u16; table::LENGTH],
+    section: Section<'_>,
     scope: &[u64],
     pos: usize,
     id: u64,
@@ -559,14 +492,13 @@ fn user_op(
     actions: &mut [u64],
     temporaries: &mut [u64],
     state: State,
-) -> Expr
-    ensures { resolved result actions.new temporaries.new ≡ user_op (resolve_expr deep stream.now table.now scope.now env) stream.now table.now env pos id count actions.old temporaries.old state }
+) -> Result<(usize, ExprValue, State), Refusal>
+    ensures { resolved (to_expr result) actions.new temporaries.new ≡ user_op (resolve_expr deep section.entry.stream.now section.entry.table.now scope.now env) section.entry.stream.now section.entry.table.now env pos id count actions.old temporaries.old state }
 {
     let mut args = [0u64; 64];
-    match resolve_args(
+    let (next, st1) = resolve_args(
         deep,
-        stream,
-        table,
+        section,
         scope,
         after(pos, 4),
         count,
@@ -575,11 +507,9 @@ fn user_op(
         temporaries,
         &mut args,
         state,
-    ) {
-        Args::No(k) => Expr::No(k),
-        Args::Done { next, st: st1 } => call_user_op(
-            stream,
-            table,
+    )?;
+    call_user_op(
+            section,
             actions,
             temporaries,
             &args,
@@ -588,31 +518,28 @@ fn user_op(
             next,
             env,
             st1,
-        ),
-    }
+        )
 }
 
 #[cycle(call_inbuilt_expr_value_part_resolve_args_resolve_call_resolve_expr_resolve_op_user_op)]
 fn resolve_call(
     deep: u64,
-    stream: &[u8],
-    table: &[u16; table::LENGTH],
+    section: Section<'_>,
     scope: &[u64],
     pos: usize,
     env: Env,
     actions: &mut [u64],
     temporaries: &mut [u64],
     state: State,
-) -> Expr
-    ensures { resolved result actions.new temporaries.new ≡ resolve_call (resolve_expr deep stream.now table.now scope.now env) stream.now table.now scope.now env pos actions.old temporaries.old state }
+) -> Result<(usize, ExprValue, State), Refusal>
+    ensures { resolved (to_expr result) actions.new temporaries.new ≡ resolve_call (resolve_expr deep section.entry.stream.now section.entry.table.now scope.now env) section.entry.stream.now section.entry.table.now scope.now env pos actions.old temporaries.old state }
 {
-    let name = u16_in(stream, pos, 1);
-    let n = access::byte(stream, pos, 3);
-    match callee_of(stream, table, name, n) {
+    let name = u16_in(section.stream, pos, 1);
+    let n = access::byte(section.stream, pos, 3);
+    match callee_of(section, name, n) {
         Callee::Inbuilt(op) => call_inbuilt(
             deep,
-            stream,
-            table,
+            section,
             scope,
             pos,
             op,
@@ -624,8 +551,7 @@ fn resolve_call(
         ),
         Callee::UserOp(id) => user_op(
             deep,
-            stream,
-            table,
+            section,
             scope,
             pos,
             id,
@@ -635,10 +561,9 @@ fn resolve_call(
             temporaries,
             state,
         ),
-        Callee::No(k) => Expr::No(k),
+        Callee::No(k) => Err(k),
         Callee::Local => subpiece(
-            stream,
-            table,
+            section,
             scope,
             actions,
             temporaries,
@@ -654,29 +579,27 @@ fn resolve_call(
 #[cycle(call_inbuilt_expr_value_part_resolve_args_resolve_call_resolve_expr_resolve_op_user_op)]
 pub fn resolve_expr(
     deep: u64,
-    stream: &[u8],
-    table: &[u16; table::LENGTH],
+    section: Section<'_>,
     scope: &[u64],
     pos: usize,
     env: Env,
     actions: &mut [u64],
     temporaries: &mut [u64],
     state: State,
-) -> Expr
-    ensures { resolved result actions.new temporaries.new ≡ resolve_expr deep stream.now table.now scope.now env pos actions.old temporaries.old state }
+) -> Result<(usize, ExprValue, State), Refusal>
+    ensures { resolved (to_expr result) actions.new temporaries.new ≡ resolve_expr deep section.entry.stream.now section.entry.table.now scope.now env pos actions.old temporaries.old state }
 {
     if deep == 0 {
-        return Expr::No(refusal::OUTSIDE_LIMIT);
+        return Err(Refusal::OutsideLimit);
     }
-    let code = access::byte(stream, pos, 0);
+    let code = access::byte(section.stream, pos, 0);
     if code < expression::TRUNCATE {
-        return atom(code, stream, table, scope, pos, env, state);
+        return atom(code, section, scope, pos, env, state);
     }
     if code == expression::OP {
         return resolve_op(
             deep - 1,
-            stream,
-            table,
+            section,
             scope,
             pos,
             env,
@@ -689,8 +612,7 @@ pub fn resolve_expr(
         return part(
             deep - 1,
             code,
-            stream,
-            table,
+            section,
             scope,
             pos,
             env,
@@ -700,12 +622,11 @@ pub fn resolve_expr(
         );
     }
     if code == expression::CONSTANT_POOL_REF {
-        return Expr::No(refusal::CONSTANT_POOL);
+        return Err(Refusal::ConstantPool);
     }
     resolve_call(
         deep - 1,
-        stream,
-        table,
+        section,
         scope,
         pos,
         env,

@@ -255,14 +255,14 @@ fn plain_found(table: &[u16; table::LENGTH], scope: &[u64], own: bool, name: u64
     plain_tmp(scope, name)
 }
 
-fn bit_range(stream: &[u8], table: &[u16; table::LENGTH], index: u64) -> ExprValue
-    ensures { result ≡ bit_range stream.now table.now index }
+fn bit_range(section: Section<'_>, index: u64) -> ExprValue
+    ensures { result ≡ bit_range section.entry.stream.now section.entry.table.now index }
 {
-    let at = entry(table, table::BIT_RANGES, index % 65536 * 8);
+    let at = entry(section.table, table::BIT_RANGES, index % 65536 * 8);
     ExprValue::BitRange {
-        v: local(value_kind::REGISTER, access::u16_in(stream, at, 2)),
-        from: access::u16_in(stream, at, 4),
-        bits: access::u16_in(stream, at, 6),
+        v: local(value_kind::REGISTER, access::u16_in(section.stream, at, 2)),
+        from: access::u16_in(section.stream, at, 4),
+        bits: access::u16_in(section.stream, at, 6),
     }
 }
 
@@ -278,23 +278,22 @@ fn plain_global(table: &[u16; table::LENGTH], name: u64) -> u64
 }
 
 fn plain_inner(
-    stream: &[u8],
-    table: &[u16; table::LENGTH],
+    section: Section<'_>,
     scope: &[u64],
     env: Env,
     name: u64,
 ) -> u64
-    ensures { result ≡ plain_inner stream.now table.now scope.now env name }
+    ensures { result ≡ plain_inner section.entry.stream.now section.entry.table.now scope.now env name }
 {
-    if name == access::u16_at(stream, header::INST_NEXT) {
+    if name == access::u16_at(section.stream, header::INST_NEXT) {
         return INST_NEXT;
     }
-    if name == access::u16_at(stream, header::INST_START) {
+    if name == access::u16_at(section.stream, header::INST_START) {
         return INST_START;
     }
-    let q = plain_found(table, scope, env.own, name);
+    let q = plain_found(section.table, scope, env.own, name);
     if q == 0 {
-        return plain_global(table, name);
+        return plain_global(section.table, name);
     }
     q
 }
@@ -302,49 +301,47 @@ fn plain_inner(
 // The usual name, a plain local, as one number in place of a large `Meaning`: kind + 8 × (1 + number). 1 stands for `Wrong`, and
 // 0 for what only `resolve_ident` tells.
 pub fn plain_local(
-    stream: &[u8],
-    table: &[u16; table::LENGTH],
+    section: Section<'_>,
     scope: &[u64],
     env: Env,
     name: u64,
 ) -> u64
-    ensures { result ≡ plain_local stream.now table.now scope.now env name }
+    ensures { result ≡ plain_local section.entry.stream.now section.entry.table.now scope.now env name }
 {
     if 0 < find_param(scope, env.count, name) {
         return 0;
     }
-    plain_inner(stream, table, scope, env, name)
+    plain_inner(section, scope, env, name)
 }
 
-fn global_meaning(stream: &[u8], table: &[u16; table::LENGTH], symbol: Symbol) -> Meaning
-    ensures { result ≡ global_meaning stream.now table.now symbol }
+fn global_meaning(section: Section<'_>, symbol: Symbol) -> Result<ExprValue, Refusal>
+    ensures { to_meaning result ≡ global_meaning section.entry.stream.now section.entry.table.now symbol }
 {
     match symbol {
-        Symbol::Undefined => Meaning::Wrong(refusal::UNDEFINED),
-        Symbol::Register(i) => Meaning::Means(ExprValue::Local(local(value_kind::REGISTER, i))),
-        Symbol::BitRange(i) => Meaning::Means(bit_range(stream, table, i)),
-        _ => Meaning::Wrong(refusal::WRONG_KIND),
+        Symbol::Undefined => Err(Refusal::Undefined),
+        Symbol::Register(i) => Ok(ExprValue::Local(local(value_kind::REGISTER, i))),
+        Symbol::BitRange(i) => Ok(bit_range(section, i)),
+        _ => Err(Refusal::WrongKind),
     }
 }
 
 pub fn resolve_ident(
-    stream: &[u8],
-    table: &[u16; table::LENGTH],
+    section: Section<'_>,
     scope: &[u64],
     env: Env,
     name: u64,
-) -> Meaning
-    ensures { result ≡ resolve_ident stream.now table.now scope.now env name }
+) -> Result<ExprValue, Refusal>
+    ensures { to_meaning result ≡ resolve_ident section.entry.stream.now section.entry.table.now scope.now env name }
 {
     let i = find_param(scope, env.count, name);
     if 0 < i {
-        return Meaning::Means(of_slot(slot_at(scope, param_place(i - 1))));
+        return Ok(of_slot(slot_at(scope, param_place(i - 1))));
     }
-    let q = plain_inner(stream, table, scope, env, name);
+    let q = plain_inner(section, scope, env, name);
     if 8 <= q {
-        return Meaning::Means(ExprValue::Local(local(q % 8, q / 8 - 1)));
+        return Ok(ExprValue::Local(local(q % 8, q / 8 - 1)));
     }
-    global_meaning(stream, table, lookup(table, name))
+    global_meaning(section, lookup(section.table, name))
 }
 
 // A named temporary is made, then declared: the scope has one more than its number.
@@ -356,17 +353,13 @@ pub fn named_tmp(
     name: u64,
     size: u64,
     state: State,
-) -> Read
-    ensures { read result scope.new temporaries.new ≡ named_tmp table.now scope.old temporaries.old env name size state }
+) -> Result<(Value, State), Refusal>
+    ensures { read (to_read result) scope.new temporaries.new ≡ named_tmp table.now scope.old temporaries.old env name size state }
 {
-    match add_tmp(temporaries, name, size, state) {
-        Read::No(n) => Read::No(n),
-        Read::Value { v, st: next } => {
-            if plain_found(table, scope, env.own, name) != 0 {
-                return Read::No(refusal::REDECLARED);
+    let (v, next) = add_tmp(temporaries, name, size, state)?;
+    if plain_found(table, scope, env.own, name) != 0 {
+                return Err(Refusal::Redeclared);
             }
             put_small(scope, (name % 1024) as usize, next.temporaries as u64);
-            Read::Value { v, st: next }
-        }
-    }
+            Ok((v, next))
 }

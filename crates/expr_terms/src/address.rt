@@ -23,24 +23,16 @@ fn or_size(size: u64, other: u64) -> u64
     if size == NONE { other } else { size }
 }
 
-fn in_const_space(expr: ExprValue, size: u64, next: usize, state: State) -> Expr
-    ensures { result ≡ in_const_space expr size next state }
+fn in_const_space(expr: ExprValue, size: u64, next: usize, state: State) -> Result<(usize, ExprValue, State), Refusal>
+    ensures { to_expr result ≡ in_const_space expr size next state }
 {
     match expr {
-        ExprValue::Local(v) => Expr::Value {
-            x: ExprValue::Local(with_size(v, or_size(size, v.size))),
-            next,
-            st: state,
-        },
-        ExprValue::Const { value, size: old } => Expr::Value {
-            x: ExprValue::Const {
+        ExprValue::Local(v) => Ok((next, ExprValue::Local(with_size(v, or_size(size, v.size))), state)),
+        ExprValue::Const { value, size: old } => Ok((next, ExprValue::Const {
                 value,
                 size: or_size(size, old),
-            },
-            next,
-            st: state,
-        },
-        _ => Expr::No(refusal::CONST_SPACE),
+            }, state)),
+        _ => Err(Refusal::ConstSpace),
     }
 }
 
@@ -50,66 +42,55 @@ pub enum Space {
     No(u64),
 }
 
-fn kind_of_space(stream: &[u8], table: &[u16; table::LENGTH], index: u64) -> Space
-    ensures { result ≡ kind_of_space stream.now table.now index }
+fn kind_of_space(section: Section<'_>, index: u64) -> Space
+    ensures { result ≡ kind_of_space section.entry.stream.now section.entry.table.now index }
 {
-    Space::Kind(access::byte(stream, entry(table, table::SPACES, index % 65536 * 5), 2))
+    Space::Kind(access::byte(section.stream, entry(section.table, table::SPACES, index % 65536 * 5), 2))
 }
 
-fn named_space(stream: &[u8], table: &[u16; table::LENGTH], name: u64) -> Space
-    ensures { result ≡ named_space stream.now table.now name }
+fn named_space(section: Section<'_>, name: u64) -> Space
+    ensures { result ≡ named_space section.entry.stream.now section.entry.table.now name }
 {
-    match lookup(table, name) {
-        Symbol::Undefined => Space::No(refusal::UNDEFINED),
-        Symbol::Space(i) => kind_of_space(stream, table, i),
-        _ => Space::No(refusal::WRONG_KIND),
+    match lookup(section.table, name) {
+        Symbol::Undefined => Space::No(Refusal::Undefined),
+        Symbol::Space(i) => kind_of_space(section, i),
+        _ => Space::No(Refusal::WrongKind),
     }
 }
 
 // The named space, else the default one.
-fn resolve_space(stream: &[u8], table: &[u16; table::LENGTH], name: u64) -> Space
-    ensures { result ≡ resolve_space stream.now table.now name }
+fn resolve_space(section: Section<'_>, name: u64) -> Space
+    ensures { result ≡ resolve_space section.entry.stream.now section.entry.table.now name }
 {
     if name != NONE {
-        return named_space(stream, table, name);
+        return named_space(section, name);
     }
-    let i = access::u16_at(stream, header::DEFAULT_SPACE);
+    let i = access::u16_at(section.stream, header::DEFAULT_SPACE);
     if i == NONE {
-        return Space::No(refusal::NO_DEFAULT_SPACE);
+        return Space::No(Refusal::NoDefaultSpace);
     }
-    kind_of_space(stream, table, i)
+    kind_of_space(section, i)
 }
 
-fn reference(answer: Read, kind: u64, size: u64, next: usize) -> Expr
-    ensures { result ≡ reference kind size next answer }
+fn reference(answer: Read, kind: u64, size: u64, next: usize) -> Result<(usize, ExprValue, State), Refusal>
+    ensures { to_expr result ≡ reference kind size next answer }
 {
-    match answer {
-        Read::No(n) => Expr::No(n),
-        Read::Value { v, st } => match kind {
-            RAM => Expr::Value {
-                x: ExprValue::RamRef {
+    let (v, st) = answer?;
+    match kind {
+            RAM => Ok((next, ExprValue::RamRef {
                     pointer: v,
                     size: or_size(size, 0),
-                },
-                next,
-                st,
-            },
-            REGISTERS => Expr::Value {
-                x: ExprValue::RegisterRef {
+                }, st)),
+            REGISTERS => Ok((next, ExprValue::RegisterRef {
                     pointer: v,
                     size: or_size(size, 0),
-                },
-                next,
-                st,
-            },
-            _ => Expr::No(refusal::OTHER_SPACE),
-        },
-    }
+                }, st)),
+            _ => Err(Refusal::OtherSpace),
+        }
 }
 
 fn address_in(
-    stream: &[u8],
-    table: &[u16; table::LENGTH],
+    section: Section<'_>,
     actions: &mut [u64],
     temporaries: &mut [u64],
     env: Env,
@@ -118,13 +99,13 @@ fn address_in(
     expr: ExprValue,
     next: usize,
     state: State,
-) -> Expr
-    ensures { resolved result actions.new temporaries.new ≡ address_in stream.now table.now actions.old temporaries.old env space size expr next state }
+) -> Result<(usize, ExprValue, State), Refusal>
+    ensures { resolved (to_expr result) actions.new temporaries.new ≡ address_in section.entry.stream.now section.entry.table.now actions.old temporaries.old env space size expr next state }
 {
-    match resolve_space(stream, table, space) {
-        Space::No(n) => Expr::No(n),
+    match resolve_space(section, space) {
+        Space::No(n) => Err(n),
         Space::Kind(kind) => reference(
-            read_operand(stream, table, actions, temporaries, env, expr, state),
+            read_operand(section, actions, temporaries, env, expr, state),
             kind,
             size,
             next,
@@ -134,8 +115,7 @@ fn address_in(
 
 // In the const space a local or a constant is itself.
 pub fn resolve_address(
-    stream: &[u8],
-    table: &[u16; table::LENGTH],
+    section: Section<'_>,
     actions: &mut [u64],
     temporaries: &mut [u64],
     env: Env,
@@ -144,15 +124,14 @@ pub fn resolve_address(
     expr: ExprValue,
     next: usize,
     state: State,
-) -> Expr
-    ensures { resolved result actions.new temporaries.new ≡ resolve_address stream.now table.now actions.old temporaries.old env space size expr next state }
+) -> Result<(usize, ExprValue, State), Refusal>
+    ensures { resolved (to_expr result) actions.new temporaries.new ≡ resolve_address section.entry.stream.now section.entry.table.now actions.old temporaries.old env space size expr next state }
 {
-    if space == access::u16_at(stream, header::CONST) {
+    if space == access::u16_at(section.stream, header::CONST) {
         return in_const_space(expr, size, next, state);
     }
     address_in(
-        stream,
-        table,
+        section,
         actions,
         temporaries,
         env,

@@ -36,7 +36,7 @@ fn symbol_called(symbol: Symbol) -> Callee
 {
     match symbol {
         Symbol::UserOp(id) => Callee::UserOp(id),
-        Symbol::Macro(_) => Callee::No(refusal::MACRO_IN_EXPRESSION),
+        Symbol::Macro(_) => Callee::No(Refusal::MacroInExpression),
         _ => Callee::Local,
     }
 }
@@ -48,35 +48,32 @@ fn inbuilt_or(inbuilt: Inbuilt, table: &[u16; table::LENGTH], name: u64, count: 
         return symbol_called(lookup(table, name));
     }
     if inbuilt.arguments != count {
-        return Callee::No(refusal::ARGUMENT_COUNT);
+        return Callee::No(Refusal::ArgumentCount);
     }
     Callee::Inbuilt(inbuilt.op)
 }
 
-pub fn callee_of(stream: &[u8], table: &[u16; table::LENGTH], name: u64, count: u64) -> Callee
-    ensures { result ≡ callee_of stream.now table.now name count }
+pub fn callee_of(section: Section<'_>, name: u64, count: u64) -> Callee
+    ensures { result ≡ callee_of section.entry.stream.now section.entry.table.now name count }
 {
-    let at = access::get_u16(table, (name % 1024) as usize) as usize;
-    inbuilt_or(translate_inbuilt_func(stream, at), table, name, count)
+    let at = access::get_u16(section.table, (name % 1024) as usize) as usize;
+    inbuilt_or(translate_inbuilt_func(section.stream, at), section.table, name, count)
 }
 
 fn pass_arg(
-    stream: &[u8],
-    table: &[u16; table::LENGTH],
+    section: Section<'_>,
     actions: &mut [u64],
     temporaries: &mut [u64],
     expr: ExprValue,
     index: u64,
     env: Env,
     state: State,
-) -> Pushed
-    ensures { pushed result actions.new temporaries.new ≡ pass_arg stream.now table.now actions.old temporaries.old expr index env state }
+) -> Result<State, Refusal>
+    ensures { pushed (to_pushed result) actions.new temporaries.new ≡ pass_arg section.entry.stream.now section.entry.table.now actions.old temporaries.old expr index env state }
 {
-    match read_operand(stream, table, actions, temporaries, env, expr, state) {
-        Read::No(n) => Pushed::No(n),
-        Read::Value { v, st: st1 } => push_op(
-            stream,
-            table,
+    let (v, st1) = read_operand(section, actions, temporaries, env, expr, state)?;
+    push_op(
+            section,
             actions,
             temporaries,
             env,
@@ -87,42 +84,35 @@ fn pass_arg(
             v,
             absent(),
             st1,
-        ),
-    }
+        )
 }
 
 // The arguments from the third on, each followed by its Arg.
 fn pass_args(
-    stream: &[u8],
-    table: &[u16; table::LENGTH],
+    section: Section<'_>,
     actions: &mut [u64],
     temporaries: &mut [u64],
     args: &[u64],
     count: u64,
     env: Env,
     state: State,
-) -> Pushed
-    ensures { pushed result actions.new temporaries.new ≡ pass_args stream.now table.now actions.old temporaries.old args.now count env state }
+) -> Result<State, Refusal>
+    ensures { pushed (to_pushed result) actions.new temporaries.new ≡ pass_args section.entry.stream.now section.entry.table.now actions.old temporaries.old args.now count env state }
 {
     let mut state = state;
     for i in 2..count {
-        match pass_arg(
-            stream,
-            table,
+        let st1 = pass_arg(
+            section,
             actions,
             temporaries,
             arg_at(args, i),
             i - 2,
             env,
             state,
-        ) {
-            Pushed::No(k) => return Pushed::No(k),
-            Pushed::Done(st1) => {
-                state = st1;
-            }
-        }
+        )?;
+    state = st1;
     }
-    Pushed::Done(state)
+    Ok(state)
 }
 
 // An operation of so many values.
@@ -134,25 +124,20 @@ pub fn applied(
     second: Value,
     next: usize,
     state: State,
-) -> Expr
-    ensures { result ≡ applied op number count first second next state }
+) -> Result<(usize, ExprValue, State), Refusal>
+    ensures { to_expr result ≡ applied op number count first second next state }
 {
-    Expr::Value {
-        x: ExprValue::Apply {
+    Ok((next, ExprValue::Apply {
             op,
             number,
             count,
             a: first,
             b: second,
-        },
-        next,
-        st: state,
-    }
+        }, state))
 }
 
 fn user_op_two(
-    stream: &[u8],
-    table: &[u16; table::LENGTH],
+    section: Section<'_>,
     actions: &mut [u64],
     temporaries: &mut [u64],
     args: &[u64],
@@ -161,26 +146,22 @@ fn user_op_two(
     value: Value,
     env: Env,
     state: State,
-) -> Expr
-    ensures { resolved result actions.new temporaries.new ≡ user_op_two stream.now table.now actions.old temporaries.old args.now id next value env state }
+) -> Result<(usize, ExprValue, State), Refusal>
+    ensures { resolved (to_expr result) actions.new temporaries.new ≡ user_op_two section.entry.stream.now section.entry.table.now actions.old temporaries.old args.now id next value env state }
 {
-    match read_operand(
-        stream,
-        table,
+    let (w, st1) = read_operand(
+        section,
         actions,
         temporaries,
         env,
         arg_at(args, 1),
         state,
-    ) {
-        Read::No(k) => Expr::No(k),
-        Read::Value { v: w, st: st1 } => applied(operation::PCODE_OP, id, 2, value, w, next, st1),
-    }
+    )?;
+    applied(operation::PCODE_OP, id, 2, value, w, next, st1)
 }
 
 fn user_op_some(
-    stream: &[u8],
-    table: &[u16; table::LENGTH],
+    section: Section<'_>,
     actions: &mut [u64],
     temporaries: &mut [u64],
     args: &[u64],
@@ -189,24 +170,20 @@ fn user_op_some(
     next: usize,
     env: Env,
     state: State,
-) -> Expr
-    ensures { resolved result actions.new temporaries.new ≡ user_op_some stream.now table.now actions.old temporaries.old args.now count id next env state }
+) -> Result<(usize, ExprValue, State), Refusal>
+    ensures { resolved (to_expr result) actions.new temporaries.new ≡ user_op_some section.entry.stream.now section.entry.table.now actions.old temporaries.old args.now count id next env state }
 {
-    match read_operand(
-        stream,
-        table,
+    let (v, st1) = read_operand(
+        section,
         actions,
         temporaries,
         env,
         arg_at(args, 0),
         state,
-    ) {
-        Read::No(k) => Expr::No(k),
-        Read::Value { v, st: st1 } => {
-            if 1 < count {
+    )?;
+    if 1 < count {
                 return user_op_two(
-                    stream,
-                    table,
+                    section,
                     actions,
                     temporaries,
                     args,
@@ -218,14 +195,11 @@ fn user_op_some(
                 );
             }
             applied(operation::PCODE_OP, id, 1, v, absent(), next, st1)
-        }
-    }
 }
 
 // A user op of n arguments that are resolved.
 pub fn call_user_op(
-    stream: &[u8],
-    table: &[u16; table::LENGTH],
+    section: Section<'_>,
     actions: &mut [u64],
     temporaries: &mut [u64],
     args: &[u64],
@@ -234,18 +208,15 @@ pub fn call_user_op(
     next: usize,
     env: Env,
     state: State,
-) -> Expr
-    ensures { resolved result actions.new temporaries.new ≡ call_user_op stream.now table.now actions.old temporaries.old args.now count id next env state }
+) -> Result<(usize, ExprValue, State), Refusal>
+    ensures { resolved (to_expr result) actions.new temporaries.new ≡ call_user_op section.entry.stream.now section.entry.table.now actions.old temporaries.old args.now count id next env state }
 {
-    match pass_args(stream, table, actions, temporaries, args, count, env, state) {
-        Pushed::No(k) => Expr::No(k),
-        Pushed::Done(st1) => {
-            if count == 0 {
+    let st1 = pass_args(section, actions, temporaries, args, count, env, state)?;
+    if count == 0 {
                 return applied(operation::PCODE_OP, id, 0, absent(), absent(), next, st1);
             }
             user_op_some(
-                stream,
-                table,
+                section,
                 actions,
                 temporaries,
                 args,
@@ -255,8 +226,6 @@ pub fn call_user_op(
                 env,
                 st1,
             )
-        }
-    }
 }
 
 // The one argument that is an integer, or 2^64 - 1.
@@ -272,15 +241,13 @@ pub fn only_integer(stream: &[u8], pos: usize, count: u64) -> u64
     access::u64_at(stream, after(pos, 5))
 }
 
-fn subpiece_of(stream: &[u8], pos: usize, count: u64, answer: Read) -> Expr
-    ensures { result ≡ subpiece_of stream.now pos count answer }
+fn subpiece_of(stream: &[u8], pos: usize, count: u64, answer: Read) -> Result<(usize, ExprValue, State), Refusal>
+    ensures { to_expr result ≡ subpiece_of stream.now pos count answer }
 {
-    match answer {
-        Read::No(k) => Expr::No(k),
-        Read::Value { v, st } => {
-            let offset = only_integer(stream, pos, count);
+    let (v, st) = answer?;
+    let offset = only_integer(stream, pos, count);
             if LAST_SUBPIECE < offset {
-                return Expr::No(refusal::SUBPIECE_ARGUMENT);
+                return Err(Refusal::SubpieceArgument);
             }
             applied(
                 operation::SUBPIECE,
@@ -291,13 +258,10 @@ fn subpiece_of(stream: &[u8], pos: usize, count: u64, answer: Read) -> Expr
                 after(pos, 13),
                 st,
             )
-        }
-    }
 }
 
 pub fn subpiece(
-    stream: &[u8],
-    table: &[u16; table::LENGTH],
+    section: Section<'_>,
     scope: &[u64],
     actions: &mut [u64],
     temporaries: &mut [u64],
@@ -306,16 +270,14 @@ pub fn subpiece(
     count: u64,
     env: Env,
     state: State,
-) -> Expr
-    ensures { resolved result actions.new temporaries.new ≡ subpiece stream.now table.now scope.now actions.old temporaries.old pos name count env state }
+) -> Result<(usize, ExprValue, State), Refusal>
+    ensures { resolved (to_expr result) actions.new temporaries.new ≡ subpiece section.entry.stream.now section.entry.table.now scope.now actions.old temporaries.old pos name count env state }
 {
-    match resolve_ident(stream, table, scope, env, name) {
-        Meaning::Wrong(k) => Expr::No(k),
-        Meaning::Means(x) => subpiece_of(
-            stream,
+    let x = resolve_ident(section, scope, env, name)?;
+    subpiece_of(
+            section.stream,
             pos,
             count,
-            read_operand(stream, table, actions, temporaries, env, x, state),
-        ),
-    }
+            read_operand(section, actions, temporaries, env, x, state),
+        )
 }

@@ -18,22 +18,15 @@ fn low_bits(number: u64, from: u64, bits: u64) -> u64
     number >> from & access::mask(bits)
 }
 
-fn unbound_then(answer: Read, next: usize) -> Expr
-    ensures { result ≡ unbound_then next answer }
+fn unbound_then(answer: Read, next: usize) -> Result<(usize, ExprValue, State), Refusal>
+    ensures { to_expr result ≡ unbound_then next answer }
 {
-    match answer {
-        Read::No(n) => Expr::No(n),
-        Read::Value { v, st } => Expr::Value {
-            x: ExprValue::Unbound(v),
-            next,
-            st,
-        },
-    }
+    let (v, st) = answer?;
+    Ok((next, ExprValue::Unbound(v), st))
 }
 
 fn slice_read(
-    stream: &[u8],
-    table: &[u16; table::LENGTH],
+    section: Section<'_>,
     actions: &mut [u64],
     temporaries: &mut [u64],
     env: Env,
@@ -42,15 +35,13 @@ fn slice_read(
     bits: u64,
     next: usize,
     state: State,
-) -> Expr
-    ensures { resolved result actions.new temporaries.new ≡ slice_read stream.now table.now actions.old temporaries.old env expr from bits next state }
+) -> Result<(usize, ExprValue, State), Refusal>
+    ensures { resolved (to_expr result) actions.new temporaries.new ≡ slice_read section.entry.stream.now section.entry.table.now actions.old temporaries.old env expr from bits next state }
 {
-    match read_operand(stream, table, actions, temporaries, env, expr, state) {
-        Read::No(n) => Expr::No(n),
-        Read::Value { v, st: read } => unbound_then(
+    let (v, read) = read_operand(section, actions, temporaries, env, expr, state)?;
+    unbound_then(
             read_slice(
-                stream,
-                table,
+                section,
                 actions,
                 temporaries,
                 env,
@@ -62,8 +53,7 @@ fn slice_read(
                 read,
             ),
             next,
-        ),
-    }
+        )
 }
 
 // A constant with no size has eight bytes.
@@ -73,23 +63,19 @@ fn const_bytes(size: u64) -> u64
     if size == NONE { 8 } else { size % 65536 }
 }
 
-fn slice_const(value: u64, size: u64, from: u64, bits: u64, next: usize, state: State) -> Expr
-    ensures { result ≡ slice_const value size from bits next state }
+fn slice_const(value: u64, size: u64, from: u64, bits: u64, next: usize, state: State) -> Result<(usize, ExprValue, State), Refusal>
+    ensures { to_expr result ≡ slice_const value size from bits next state }
 {
     if 8 * const_bytes(size) < from % 65536 + bits % 65536 {
-        return Expr::No(refusal::SLICE_PAST_END);
+        return Err(Refusal::SlicePastEnd);
     }
     if 64 <= from {
-        return Expr::No(refusal::SHIFT_TOO_FAR);
+        return Err(Refusal::ShiftTooFar);
     }
-    Expr::Value {
-        x: ExprValue::Const {
+    Ok((next, ExprValue::Const {
             value: low_bits(value, from, bits),
             size: needed_bytes(bits),
-        },
-        next,
-        st: state,
-    }
+        }, state))
 }
 
 fn slice_range(
@@ -100,26 +86,21 @@ fn slice_range(
     bits: u64,
     next: usize,
     state: State,
-) -> Expr
-    ensures { result ≡ slice_range value before whole from bits next state }
+) -> Result<(usize, ExprValue, State), Refusal>
+    ensures { to_expr result ≡ slice_range value before whole from bits next state }
 {
     if whole < from % 65536 + bits % 65536 {
-        return Expr::No(refusal::SLICE_PAST_END);
+        return Err(Refusal::SlicePastEnd);
     }
-    Expr::Value {
-        x: ExprValue::BitRange {
+    Ok((next, ExprValue::BitRange {
             v: value,
             from: before % 65536 + from % 65536,
             bits,
-        },
-        next,
-        st: state,
-    }
+        }, state))
 }
 
 pub fn slice_bits(
-    stream: &[u8],
-    table: &[u16; table::LENGTH],
+    section: Section<'_>,
     actions: &mut [u64],
     temporaries: &mut [u64],
     env: Env,
@@ -128,15 +109,11 @@ pub fn slice_bits(
     bits: u64,
     next: usize,
     state: State,
-) -> Expr
-    ensures { resolved result actions.new temporaries.new ≡ slice_bits stream.now table.now actions.old temporaries.old env expr from bits next state }
+) -> Result<(usize, ExprValue, State), Refusal>
+    ensures { resolved (to_expr result) actions.new temporaries.new ≡ slice_bits section.entry.stream.now section.entry.table.now actions.old temporaries.old env expr from bits next state }
 {
     match expr {
-        ExprValue::Local(v) => Expr::Value {
-            x: ExprValue::BitRange { v, from, bits },
-            next,
-            st: state,
-        },
+        ExprValue::Local(v) => Ok((next, ExprValue::BitRange { v, from, bits }, state)),
         ExprValue::Const { value, size } => slice_const(value, size, from, bits, next, state),
         ExprValue::BitRange {
             v,
@@ -144,8 +121,7 @@ pub fn slice_bits(
             bits: whole,
         } => slice_range(v, before, whole, from, bits, next, state),
         _ => slice_read(
-            stream,
-            table,
+            section,
             actions,
             temporaries,
             env,

@@ -2,7 +2,7 @@
 use Rattle.std.proofs.Common.{◌≡◌, ℕ, suc, ◌+◌, ◌-◌, ◌*◌, ◌/◌, ◌%◌, ◌^◌, ◌<◌, ◌≤◌, Bool, true, false, List, ◌++◌, length, get_or, take, set, replicate, sym, refl, arith, eq-eqb, ne_eqb}
 use lib.Seq.{set-get_or}
 use Rattle.list_values.specs.declared.value.Value.{Value}
-use Rattle.list_values.specs.declared.value.Slice.{Slice}
+use Rattle.list_values.specs.Outcomes.{Slice}
 use Rattle.list_values.specs.declared.sizes.Sizing.{Sizing}
 use Rattle.list_end.specs.declared.end.Fixed.{Fixed}
 use Rattle.list_end.specs.declared.end.Finished.{Finished}

@@ -2,7 +2,7 @@
 -- the stream, t the section's table, a the actions, m the temporaries, z the record of errors, ptr the pointer size.
 use Rattle.std.specs.Prelude.{ℕ, zero, suc, ◌+◌, ◌-◌, ◌*◌, ◌%◌, ◌^◌, List, ◌++◌, length, take, replicate, ◌==◌, slice_index, slice_set}
 use Rattle.list_values.specs.declared.value.Value.{Value}
-use Rattle.list_values.specs.declared.value.Slice.{Slice}
+use Rattle.list_values.specs.Outcomes.{Slice}
 use Rattle.list_values.specs.declared.sizes.Sizing.{Sizing}
 use Rattle.list_end.specs.declared.end.Fixed.{Fixed}
 use Rattle.list_end.specs.declared.end.Finished.{Finished}

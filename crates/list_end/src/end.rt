@@ -21,16 +21,15 @@ pub struct Fixed {
 
 // The known size, else the fallback, else an error.
 pub fn fix_size(
-    stream: &[u8],
-    table: &[u16; table::LENGTH],
+    section: Section<'_>,
     temporaries: &[u64],
     value: Value,
     pointer: u64,
     sizing: Sizing,
 ) -> Fixed
-    ensures { result ≡ fix_size stream.now table.now temporaries.now value pointer sizing }
+    ensures { result ≡ fix_size section.entry.stream.now section.entry.table.now temporaries.now value pointer sizing }
 {
-    let known = size_of(stream, table, temporaries, value);
+    let known = size_of(section, temporaries, value);
     if known != NONE {
         return Fixed {
             v: with_size(value, known),
@@ -50,8 +49,7 @@ pub fn fix_size(
 }
 
 fn fix_operand(
-    stream: &[u8],
-    table: &[u16; table::LENGTH],
+    section: Section<'_>,
     actions: &mut [u64],
     temporaries: &[u64],
     at: usize,
@@ -60,15 +58,14 @@ fn fix_operand(
     sizing: Sizing,
 ) -> Sizing
     requires { index < 32 }
-    ensures { listed result actions.new ≡ fix_operand stream.now table.now actions.old temporaries.now at index pointer sizing }
+    ensures { listed result actions.new ≡ fix_operand section.entry.stream.now section.entry.table.now actions.old temporaries.now at index pointer sizing }
 {
     // Most operands have a size of their own by now, and stay as they are.
     if get(actions, at, index + 1) / SIZE_PLACE < NONE {
         return sizing;
     }
     let f = fix_size(
-        stream,
-        table,
+        section,
         temporaries,
         value_at(actions, at, index),
         pointer,
@@ -79,8 +76,7 @@ fn fix_operand(
 }
 
 fn fix_inputs(
-    stream: &[u8],
-    table: &[u16; table::LENGTH],
+    section: Section<'_>,
     actions: &mut [u64],
     temporaries: &[u64],
     at: usize,
@@ -88,13 +84,12 @@ fn fix_inputs(
     pointer: u64,
     sizing: Sizing,
 ) -> Sizing
-    ensures { listed result actions.new ≡ fix_inputs stream.now table.now actions.old temporaries.now at count pointer sizing }
+    ensures { listed result actions.new ≡ fix_inputs section.entry.stream.now section.entry.table.now actions.old temporaries.now at count pointer sizing }
 {
     let mut sizing = sizing;
     for i in 0..count {
         sizing = fix_operand(
-            stream,
-            table,
+            section,
             actions,
             temporaries,
             at,
@@ -107,22 +102,20 @@ fn fix_inputs(
 }
 
 fn fix_output(
-    stream: &[u8],
-    table: &[u16; table::LENGTH],
+    section: Section<'_>,
     actions: &mut [u64],
     temporaries: &[u64],
     at: usize,
     pointer: u64,
     sizing: Sizing,
 ) -> Sizing
-    ensures { listed result actions.new ≡ fix_output stream.now table.now actions.old temporaries.now at pointer sizing }
+    ensures { listed result actions.new ≡ fix_output section.entry.stream.now section.entry.table.now actions.old temporaries.now at pointer sizing }
 {
     if get(actions, at, OUTPUT_WORD) == NO_OUTPUT {
         return sizing;
     }
     fix_operand(
-        stream,
-        table,
+        section,
         actions,
         temporaries,
         at,
@@ -133,20 +126,18 @@ fn fix_output(
 }
 
 fn fix_operands(
-    stream: &[u8],
-    table: &[u16; table::LENGTH],
+    section: Section<'_>,
     actions: &mut [u64],
     temporaries: &[u64],
     at: usize,
     pointer: u64,
     sizing: Sizing,
 ) -> Sizing
-    ensures { listed result actions.new ≡ fix_operands stream.now table.now actions.old temporaries.now at pointer sizing }
+    ensures { listed result actions.new ≡ fix_operands section.entry.stream.now section.entry.table.now actions.old temporaries.now at pointer sizing }
 {
     let n = get(actions, at, action::INPUT_COUNT) % 16;
     let y = fix_inputs(
-        stream,
-        table,
+        section,
         actions,
         temporaries,
         at,
@@ -154,7 +145,7 @@ fn fix_operands(
         pointer,
         sizing,
     );
-    fix_output(stream, table, actions, temporaries, at, pointer, y)
+    fix_output(section, actions, temporaries, at, pointer, y)
 }
 
 // The Copy of a part of a value.
@@ -172,12 +163,12 @@ fn subpiece_copy(actions: &mut [u64], at: usize) -> u64
 {
     let size = value_at(actions, at, action::OUTPUT).size;
     if size == NONE {
-        return refusal::SUBPIECE_SIZE;
+        return Refusal::SubpieceSize;
     }
     let v = value_at(actions, at, action::INPUT_0);
     match slice_bytes(v, get(actions, at, action::NUMBER) % 65536, size) {
-        Slice::No(n) => n,
-        Slice::Is(part) => {
+        Err(n) => n,
+        Ok(part) => {
             write_copy(actions, at, part);
             0
         }
@@ -191,15 +182,14 @@ pub struct Finished {
 }
 
 fn finish_op(
-    stream: &[u8],
-    table: &[u16; table::LENGTH],
+    section: Section<'_>,
     actions: &mut [u64],
     temporaries: &[u64],
     at: usize,
     pointer: u64,
     sizing: Sizing,
 ) -> Finished
-    ensures { listed result actions.new ≡ finish_op stream.now table.now actions.old temporaries.now at pointer sizing }
+    ensures { listed result actions.new ≡ finish_op section.entry.stream.now section.entry.table.now actions.old temporaries.now at pointer sizing }
 {
     if get(actions, at, action::KIND) != action_kind::OP {
         return Finished {
@@ -207,7 +197,7 @@ fn finish_op(
             z: sizing,
         };
     }
-    let y = fix_operands(stream, table, actions, temporaries, at, pointer, sizing);
+    let y = fix_operands(section, actions, temporaries, at, pointer, sizing);
     if get(actions, at, action::OPERATION) != operation::SUBPIECE {
         return Finished { refusal: 0, z: y };
     }
@@ -218,8 +208,7 @@ fn finish_op(
 }
 
 pub fn finish_actions(
-    stream: &[u8],
-    table: &[u16; table::LENGTH],
+    section: Section<'_>,
     actions: &mut [u64],
     temporaries: &[u64],
     base: usize,
@@ -227,13 +216,12 @@ pub fn finish_actions(
     pointer: u64,
     sizing: Sizing,
 ) -> Finished
-    ensures { listed result actions.new ≡ finish_actions stream.now table.now actions.old temporaries.now base count pointer sizing }
+    ensures { listed result actions.new ≡ finish_actions section.entry.stream.now section.entry.table.now actions.old temporaries.now base count pointer sizing }
 {
     let mut sizing = sizing;
     for i in 0..count {
         let f = finish_op(
-            stream,
-            table,
+            section,
             actions,
             temporaries,
             place(base, i),

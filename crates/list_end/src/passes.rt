@@ -8,8 +8,7 @@ use list_pushes::passes::pass;
 use list_values::sizes::{Sizing, record_errors};
 
 pub fn backward_pass(
-    stream: &[u8],
-    table: &[u16; table::LENGTH],
+    section: Section<'_>,
     actions: &mut [u64],
     temporaries: &mut [u64],
     base: usize,
@@ -17,11 +16,10 @@ pub fn backward_pass(
     pointer: u64,
     sizing: Sizing,
 ) -> Sizing
-    ensures { sized result actions.new temporaries.new ≡ backward_pass stream.now table.now actions.old temporaries.old base count pointer sizing }
+    ensures { sized result actions.new temporaries.new ≡ backward_pass section.entry.stream.now section.entry.table.now actions.old temporaries.old base count pointer sizing }
 {
     let k = pass(
-        stream,
-        table,
+        section,
         false,
         actions,
         temporaries,
@@ -33,8 +31,7 @@ pub fn backward_pass(
 }
 
 pub fn forward_pass(
-    stream: &[u8],
-    table: &[u16; table::LENGTH],
+    section: Section<'_>,
     actions: &mut [u64],
     temporaries: &mut [u64],
     base: usize,
@@ -42,11 +39,10 @@ pub fn forward_pass(
     pointer: u64,
     sizing: Sizing,
 ) -> Sizing
-    ensures { sized result actions.new temporaries.new ≡ forward_pass stream.now table.now actions.old temporaries.old base count pointer sizing }
+    ensures { sized result actions.new temporaries.new ≡ forward_pass section.entry.stream.now section.entry.table.now actions.old temporaries.old base count pointer sizing }
 {
     let k = pass(
-        stream,
-        table,
+        section,
         true,
         actions,
         temporaries,

@@ -5,8 +5,8 @@ use Rattle.list_values.specs.declared.value.Value.{Value}
 use Rattle.list_values.specs.declared.sizes.Sizing.{Sizing}
 use Rattle.list_pushes.specs.declared.push.State.{State}
 use Rattle.list_pushes.specs.declared.push.Env.{Env}
-use Rattle.list_pushes.specs.declared.push.Read.{Read}
-use Rattle.list_pushes.specs.declared.push.Pushed.{Pushed}
+use Rattle.list_pushes.specs.Outcomes.{Read}
+use Rattle.list_pushes.specs.Outcomes.{Pushed}
 use Rattle.list_values.specs.Base.{Listed, listed}
 use Rattle.prelude.specs.Base.{when◌then◌else◌}
 use Rattle.access.specs.Loops.{run}

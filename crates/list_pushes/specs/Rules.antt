@@ -1,6 +1,6 @@
 -- The size rule of each operation, applied to the action at a position. In all of these s is the stream, t the section's
 -- table, a the actions, m the temporaries, z the record of errors, ptr the pointer size.
-use Rattle.std.specs.Prelude.{ℕ, ◌+◌, Bool, true, false, List, get_or, eqb, ltb}
+use Rattle.std.specs.Prelude.{ℕ, ◌+◌, Bool, false, List, get_or, eqb, ltb}
 use Rattle.list_values.specs.declared.sizes.Sizing.{Sizing}
 use Rattle.prelude.specs.Base.{when◌then◌else◌}
 use Rattle.list_values.specs.Sizes.{Sized, sized, then_s, set_operand, set_three, set_size_of_pair, set_size_of_triple, set_unsized}
@@ -47,21 +47,6 @@ shift s t fallback a m at ptr z = then_s (set_size_of_pair s t fallback a m at 6
 
 unfoldable pub comparison : List ℕ → List ℕ → Bool → List ℕ → List ℕ → ℕ → ℕ → Sizing → Sized
 comparison s t fallback a m at ptr z = then_s (set_size_of_pair s t fallback a m at 6 8 ptr z) λ y b w. set_operand s t b w at 4 1 y
-
--- the rules of a pair, of shifts and of comparisons
-unfoldable pub pairs : ℕ → Bool
-pairs rule = when eqb rule 1 then true else when eqb rule 2 then true else when eqb rule 4 then true else false
-
--- the operand that has the size of the first input
-unfoldable pub partner : ℕ → ℕ
-partner rule = when eqb rule 4 then 8 else 4
-
--- any of them
-unfoldable pub pair_rule : List ℕ → List ℕ → ℕ → Bool → List ℕ → List ℕ → ℕ → ℕ → Sizing → Sized
-pair_rule s t rule fallback a m at ptr z =
-    when eqb rule 2 then shift s t fallback a m at ptr z
-    else when eqb rule 4 then comparison s t fallback a m at ptr z
-    else set_size_of_pair s t fallback a m at 6 4 ptr z
 
 unfoldable pub bool_not : List ℕ → List ℕ → List ℕ → List ℕ → ℕ → Sizing → Sized
 bool_not s t a m at z = then_s (set_operand s t a m at 6 1 z) λ y b w. set_operand s t b w at 4 1 y

@@ -5,7 +5,7 @@ ghost use Rattle.list_values.specs.Sizes.{Counted};
 ghost use Rattle.list_pushes.specs.Passes.{action_place, turn, pass};
 
 use crate::rules::update_operand_sizes;
-use codes::table;
+use list_values::section::Section;
 use list_values::sizes::sum_of_errors;
 use list_values::value::place;
 
@@ -26,8 +26,7 @@ fn turn(forward: bool, count: usize, index: usize) -> usize
 
 // The n actions from a position on, forward with fallback or backward without: how many errors.
 pub fn pass(
-    stream: &[u8],
-    table: &[u16; table::LENGTH],
+    section: Section<'_>,
     fallback: bool,
     actions: &mut [u64],
     temporaries: &mut [u64],
@@ -35,14 +34,14 @@ pub fn pass(
     count: usize,
     pointer: u64,
 ) -> u64
-    ensures { Counted result actions.new temporaries.new (pass stream.now table.now fallback actions.old temporaries.old base count pointer) }
+    ensures { Counted result actions.new temporaries.new (pass section.entry.stream.now section.entry.table.now fallback actions.old temporaries.old base count pointer) }
 {
     let mut k = 0;
     for i in 0..count {
         let at = action_place(base, turn(fallback, count, i));
         k = sum_of_errors(
             k,
-            update_operand_sizes(stream, table, fallback, actions, temporaries, at, pointer),
+            update_operand_sizes(section, fallback, actions, temporaries, at, pointer),
         );
     }
     k

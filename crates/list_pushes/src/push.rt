@@ -1,12 +1,17 @@
 // Temporaries and pushes. Actions are pushed behind room for the Builds of all subtables, up to the end of the lent list.
-ghost use Rattle.std.specs.Prelude.{◌≡◌, ◌+◌, leb};
+ghost use Rattle.std.specs.Prelude.{◌≡◌, ◌+◌, leb, is_some, unwrap_or};
 ghost use Rattle.list_values.specs.Base.{listed};
+ghost use Rattle.list_values.specs.Values.{absent};
+ghost use Rattle.list_pushes.specs.Outcomes.{to_read, to_pushed};
+ghost use Rattle.list_pushes.specs.Operations.{unary, binary};
 ghost use Rattle.list_pushes.specs.Pushes.{read, pushed, state, add_tmp, output_or, write_operands, write_zeros, write_head, write, push, update_last, push_op, op_to, op};
 
 use crate::passes::pass;
-use codes::{NONE, action, action_kind, refusal, table, value_kind};
+use codes::refusal::Refusal;
+use codes::{NONE, action, action_kind, value_kind};
+use list_values::section::Section;
 use list_values::sizes::{Sizing, record_errors};
-use list_values::value::{Value, local, put, put_value, value_at};
+use list_values::value::{Value, absent, local, put, put_value, value_at};
 
 const MOST_TEMPORARIES: usize = 512;
 
@@ -26,48 +31,82 @@ pub struct Env {
     pub count: usize,
 }
 
+// An operation by its code, with its number and at most two inputs.
 #[derive(Clone, Copy)]
-pub enum Read {
-    Value { v: Value, st: State },
-    No(u64),
+pub struct Operation {
+    pub code: u64,
+    pub number: u64,
+    pub count: u64,
+    pub first: Value,
+    pub second: Value,
 }
 
-#[derive(Clone, Copy)]
-pub enum Pushed {
-    Done(State),
-    No(u64),
+impl Operation {
+    pub fn unary(code: u64, input: Value) -> Operation
+        ensures { result ≡ unary code input }
+    {
+        Operation {
+            code,
+            number: 0,
+            count: 1,
+            first: input,
+            second: absent(),
+        }
+    }
+
+    pub fn binary(code: u64, first: Value, second: Value) -> Operation
+        ensures { result ≡ binary code first second }
+    {
+        Operation {
+            code,
+            number: 0,
+            count: 2,
+            first,
+            second,
+        }
+    }
 }
 
 // A temporary with its name and size.
-pub fn add_tmp(temporaries: &mut [u64], name: u64, size: u64, state: State) -> Read
-    ensures { listed result temporaries.new ≡ add_tmp temporaries.old name size state }
+#[tactic(auto, unfolding(crate::specs::Pushes::add_tmp, crate::specs::Pushes::tmp_word))]
+pub fn add_tmp(
+    temporaries: &mut [u64],
+    name: u64,
+    size: u64,
+    state: State,
+) -> Result<(Value, State), Refusal>
+    ensures { listed (to_read result) temporaries.new ≡ add_tmp temporaries.old name size state }
 {
     let n = state.temporaries;
     if n < temporaries.len() {
         if n < MOST_TEMPORARIES {
-            let z = state.sizing;
             temporaries[n] = name % 65536 + size % 65536 * 65536;
-            return Read::Value {
-                v: local(value_kind::PCODE_TMP, n as u64),
-                st: State {
-                    end: state.end,
+            return Ok((
+                local(value_kind::PCODE_TMP, n as u64),
+                State {
                     temporaries: n + 1,
-                    sizing: z,
+                    ..state
                 },
-            };
+            ));
         }
     }
-    Read::No(refusal::TOO_MANY_TEMPORARIES)
+    Err(Refusal::TooManyTemporaries)
 }
 
 // The output given, else a fresh temporary of that size.
-pub fn output_or(temporaries: &mut [u64], given: bool, to: Value, size: u64, state: State) -> Read
-    ensures { listed result temporaries.new ≡ output_or temporaries.old given to size state }
+#[tactic(auto, unfolding(crate::specs::Pushes::output_or))]
+pub fn output_or(
+    temporaries: &mut [u64],
+    to: Option<Value>,
+    size: u64,
+    state: State,
+) -> Result<(Value, State), Refusal>
+    ensures { listed (to_read result) temporaries.new ≡ output_or temporaries.old (is_some to) (unwrap_or to absent) size state }
 {
-    if given {
-        return Read::Value { v: to, st: state };
+    match to {
+        Some(value) => Ok((value, state)),
+        None => add_tmp(temporaries, NONE, size, state),
     }
-    add_tmp(temporaries, NONE, size, state)
 }
 
 fn write_operands(actions: &mut [u64], at: usize, out: Value, first: Value, second: Value)
@@ -86,31 +125,21 @@ fn write_zeros(actions: &mut [u64], at: usize)
     }
 }
 
-fn write_head(actions: &mut [u64], at: usize, kind: u64, op: u64, number: u64, count: u64)
-    ensures { actions.new ≡ write_head actions.old at kind op number count }
+fn write_head(actions: &mut [u64], at: usize, kind: u64, operation: Operation)
+    ensures { actions.new ≡ write_head actions.old at kind operation.code operation.number operation.count }
 {
     put(actions, at, action::KIND, kind);
-    put(actions, at, action::OPERATION, op);
-    put(actions, at, action::NUMBER, number);
-    put(actions, at, action::INPUT_COUNT, count);
+    put(actions, at, action::OPERATION, operation.code);
+    put(actions, at, action::NUMBER, operation.number);
+    put(actions, at, action::INPUT_COUNT, operation.count);
 }
 
 // All 24 words of an action with at most two inputs.
-fn write(
-    actions: &mut [u64],
-    at: usize,
-    kind: u64,
-    op: u64,
-    number: u64,
-    count: u64,
-    out: Value,
-    first: Value,
-    second: Value,
-)
-    ensures { actions.new ≡ write actions.old at kind op number count out first second }
+fn write(actions: &mut [u64], at: usize, kind: u64, operation: Operation, out: Value)
+    ensures { actions.new ≡ write actions.old at kind operation.code operation.number operation.count out operation.first operation.second }
 {
-    write_head(actions, at, kind, op, number, count);
-    write_operands(actions, at, out, first, second);
+    write_head(actions, at, kind, operation);
+    write_operands(actions, at, out, operation.first, operation.second);
     write_zeros(actions, at);
 }
 
@@ -125,168 +154,92 @@ fn has_room(len: usize, end: usize) -> bool
 }
 
 // An action of any kind with at most two inputs, pushed as it is.
+#[tactic(auto, unfolding(crate::specs::Pushes::push))]
 pub fn push(
     actions: &mut [u64],
     kind: u64,
-    op: u64,
-    number: u64,
-    count: u64,
+    operation: Operation,
     out: Value,
-    first: Value,
-    second: Value,
     state: State,
-) -> Pushed
-    ensures { listed result actions.new ≡ push actions.old kind op number count out first second state }
+) -> Result<State, Refusal>
+    ensures { listed (to_pushed result) actions.new ≡ push actions.old kind operation.code operation.number operation.count out operation.first operation.second state }
 {
     let at = state.end;
     if has_room(actions.len(), at) {
         let end = at + action::WORDS;
-        let z = state.sizing;
-        write(actions, at, kind, op, number, count, out, first, second);
-        return Pushed::Done(State {
-            end,
-            temporaries: state.temporaries,
-            sizing: z,
-        });
+        write(actions, at, kind, operation, out);
+        return Ok(State { end, ..state });
     }
-    Pushed::No(refusal::LIST_FULL)
+    Err(Refusal::ListFull)
 }
 
 // The rule of the action pushed last.
+#[tactic(auto, using(crate::proofs::PushLaws::push_laws))]
 fn update_last(
-    stream: &[u8],
-    table: &[u16; table::LENGTH],
+    section: Section<'_>,
     actions: &mut [u64],
     temporaries: &mut [u64],
     at: usize,
     pointer: u64,
     before: State,
 ) -> State
-    ensures { state result actions.new temporaries.new ≡ update_last stream.now table.now actions.old temporaries.old at pointer before }
+    ensures { state result actions.new temporaries.new ≡ update_last section.entry.stream.now section.entry.table.now actions.old temporaries.old at pointer before }
 {
-    let k = pass(stream, table, false, actions, temporaries, at, 1, pointer);
-    let z = record_errors(before.sizing, k);
+    let k = pass(section, false, actions, temporaries, at, 1, pointer);
     State {
-        end: before.end,
-        temporaries: before.temporaries,
-        sizing: z,
+        sizing: record_errors(before.sizing, k),
+        ..before
     }
 }
 
+#[tactic(auto, unfolding(crate::specs::Pushes::push_op, crate::specs::Pushes::on_push, crate::specs::Pushes::on_state))]
 pub fn push_op(
-    stream: &[u8],
-    table: &[u16; table::LENGTH],
+    section: Section<'_>,
     actions: &mut [u64],
     temporaries: &mut [u64],
     env: Env,
-    op: u64,
-    number: u64,
-    count: u64,
+    operation: Operation,
     out: Value,
-    first: Value,
-    second: Value,
     state: State,
-) -> Pushed
-    ensures { pushed result actions.new temporaries.new ≡ push_op stream.now table.now actions.old temporaries.old env op number count out first second state }
+) -> Result<State, Refusal>
+    ensures { pushed (to_pushed result) actions.new temporaries.new ≡ push_op section.entry.stream.now section.entry.table.now actions.old temporaries.old env operation.code operation.number operation.count out operation.first operation.second state }
 {
     let at = state.end;
-    match push(
-        actions,
-        action_kind::OP,
-        op,
-        number,
-        count,
-        out,
-        first,
-        second,
-        state,
-    ) {
-        Pushed::No(n) => Pushed::No(n),
-        Pushed::Done(next) => Pushed::Done(update_last(
-            stream,
-            table,
-            actions,
-            temporaries,
-            at,
-            env.pointer,
-            next,
-        )),
-    }
+    let next = push(actions, action_kind::OP, operation, out, state)?;
+    Ok(update_last(section, actions, temporaries, at, env.pointer, next))
 }
 
 // An operation with an output, and the output as its rule left it.
+#[tactic(auto, unfolding(crate::specs::Pushes::op_to, crate::specs::Pushes::on_pushed))]
 pub fn op_to(
-    stream: &[u8],
-    table: &[u16; table::LENGTH],
+    section: Section<'_>,
     actions: &mut [u64],
     temporaries: &mut [u64],
     env: Env,
-    op: u64,
-    number: u64,
-    count: u64,
+    operation: Operation,
     to: Value,
-    first: Value,
-    second: Value,
     state: State,
-) -> Read
-    ensures { read result actions.new temporaries.new ≡ op_to stream.now table.now actions.old temporaries.old env op number count to first second state }
+) -> Result<(Value, State), Refusal>
+    ensures { read (to_read result) actions.new temporaries.new ≡ op_to section.entry.stream.now section.entry.table.now actions.old temporaries.old env operation.code operation.number operation.count to operation.first operation.second state }
 {
     let at = state.end;
-    match push_op(
-        stream,
-        table,
-        actions,
-        temporaries,
-        env,
-        op,
-        number,
-        count,
-        to,
-        first,
-        second,
-        state,
-    ) {
-        Pushed::No(n) => Read::No(n),
-        Pushed::Done(next) => Read::Value {
-            v: value_at(actions, at, action::OUTPUT),
-            st: next,
-        },
-    }
+    let next = push_op(section, actions, temporaries, env, operation, to, state)?;
+    Ok((value_at(actions, at, action::OUTPUT), next))
 }
 
 // The same, with a fresh temporary where no output is given.
+#[tactic(auto, unfolding(crate::specs::Pushes::op, crate::specs::Pushes::on_tmp))]
 pub fn op(
-    stream: &[u8],
-    table: &[u16; table::LENGTH],
+    section: Section<'_>,
     actions: &mut [u64],
     temporaries: &mut [u64],
     env: Env,
-    code: u64,
-    number: u64,
-    count: u64,
-    given: bool,
-    to: Value,
-    first: Value,
-    second: Value,
+    operation: Operation,
+    to: Option<Value>,
     state: State,
-) -> Read
-    ensures { read result actions.new temporaries.new ≡ op stream.now table.now actions.old temporaries.old env code number count given to first second state }
+) -> Result<(Value, State), Refusal>
+    ensures { read (to_read result) actions.new temporaries.new ≡ op section.entry.stream.now section.entry.table.now actions.old temporaries.old env operation.code operation.number operation.count (is_some to) (unwrap_or to absent) operation.first operation.second state }
 {
-    match output_or(temporaries, given, to, NONE, state) {
-        Read::No(n) => Read::No(n),
-        Read::Value { v, st: next } => op_to(
-            stream,
-            table,
-            actions,
-            temporaries,
-            env,
-            code,
-            number,
-            count,
-            v,
-            first,
-            second,
-            next,
-        ),
-    }
+    let (value, next) = output_or(temporaries, to, NONE, state)?;
+    op_to(section, actions, temporaries, env, operation, value, next)
 }

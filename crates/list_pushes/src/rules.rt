@@ -1,9 +1,11 @@
 // The size rule of each operation, applied in place to an action of the list, and how many errors that gives.
 ghost use Rattle.std.specs.Prelude.{◌≡◌, ◌<◌};
 ghost use Rattle.list_values.specs.Sizes.{Counted};
-ghost use Rattle.list_pushes.specs.Rules.{rule_of_operator, rule_of_one_input, rule_of_other, rule_of, pairs, partner, pair_rule, bool_not, branch, few_operands, apply_rule, update_operand_sizes};
+ghost use Rattle.list_pushes.specs.RuleNumbers.{rule_number};
+ghost use Rattle.list_pushes.specs.Rules.{rule_of_operator, rule_of_one_input, rule_of_other, rule_of, shift, comparison, bool_not, branch, apply_rule, update_operand_sizes};
 
-use codes::{action, action_kind, operation, table};
+use codes::{action, action_kind, operation};
+use list_values::section::Section;
 use list_values::sizes::{
     set_operand, set_size_of_pair, set_size_of_triple, set_three, set_unsized, sum_of_errors,
 };
@@ -12,72 +14,69 @@ use list_values::value::get;
 // The operators have the numbers below this.
 const OPERATORS: u64 = 33;
 
-// The rules.
-const UNSIZED: u64 = 0;
-
-const PAIR: u64 = 1;
-
-const SHIFT: u64 = 2;
-
-const TRIPLE: u64 = 3;
-
-const COMPARISON: u64 = 4;
-
-const BOOLEAN: u64 = 5;
-
-const NOT: u64 = 6;
-
-const NAN: u64 = 7;
-
-const POINTER: u64 = 8;
-
-const BRANCH: u64 = 9;
-
-const CONDITION: u64 = 10;
+// How the operands of an operation are sized.
+#[derive(Clone, Copy)]
+enum Rule {
+    Unsized = 0,
+    Pair = 1,
+    Shift = 2,
+    Triple = 3,
+    Comparison = 4,
+    Boolean = 5,
+    Not = 6,
+    Nan = 7,
+    Pointer = 8,
+    Branch = 9,
+    Condition = 10,
+}
 
 // Which rule an operation has. Operators first, in the order of their numbers.
-fn rule_of_operator(op: u64) -> u64
-    ensures { result ≡ rule_of_operator op }
+#[tactic(auto, unfolding(crate::specs::Rules::rule_of_operator))]
+fn rule_of_operator(op: u64) -> Rule
+    ensures { rule_number result ≡ rule_of_operator op }
 {
     match op {
-        operation::INT_MUL..=operation::INT_SUB => TRIPLE,
-        operation::INT_LEFT..=operation::INT_SIGNED_RIGHT => SHIFT,
-        operation::INT_SIGNED_LESS..=operation::INT_NOT_EQUAL => COMPARISON,
-        operation::FLOAT_DIV..=operation::FLOAT_SUB => TRIPLE,
-        operation::FLOAT_LESS..=operation::FLOAT_NOT_EQUAL => COMPARISON,
-        operation::INT_AND..=operation::INT_OR => TRIPLE,
-        operation::BOOL_XOR..=operation::BOOL_OR => BOOLEAN,
-        _ => COMPARISON,
+        operation::INT_MUL..=operation::INT_SUB => Rule::Triple,
+        operation::INT_LEFT..=operation::INT_SIGNED_RIGHT => Rule::Shift,
+        operation::INT_SIGNED_LESS..=operation::INT_NOT_EQUAL => Rule::Comparison,
+        operation::FLOAT_DIV..=operation::FLOAT_SUB => Rule::Triple,
+        operation::FLOAT_LESS..=operation::FLOAT_NOT_EQUAL => Rule::Comparison,
+        operation::INT_AND..=operation::INT_OR => Rule::Triple,
+        operation::BOOL_XOR..=operation::BOOL_OR => Rule::Boolean,
+        _ => Rule::Comparison,
     }
 }
 
-fn rule_of_one_input(op: u64) -> u64
-    ensures { result ≡ rule_of_one_input op }
+#[tactic(auto, unfolding(crate::specs::Rules::rule_of_one_input))]
+fn rule_of_one_input(op: u64) -> Rule
+    ensures { rule_number result ≡ rule_of_one_input op }
 {
     match op {
-        operation::BOOL_NOT => NOT,
-        operation::INT_NOT..=operation::INT_NEGATE => PAIR,
-        operation::FLOAT_IS_NAN => NAN,
-        operation::FLOAT_NEGATE..=operation::FLOAT_ROUND => PAIR,
-        _ => UNSIZED,
+        operation::BOOL_NOT => Rule::Not,
+        operation::INT_NOT..=operation::INT_NEGATE => Rule::Pair,
+        operation::FLOAT_IS_NAN => Rule::Nan,
+        operation::FLOAT_NEGATE..=operation::FLOAT_ROUND => Rule::Pair,
+        _ => Rule::Unsized,
     }
 }
 
-fn rule_of_other(op: u64) -> u64
-    ensures { result ≡ rule_of_other op }
+#[tactic(auto, unfolding(crate::specs::Rules::rule_of_other))]
+fn rule_of_other(op: u64) -> Rule
+    ensures { rule_number result ≡ rule_of_other op }
 {
     match op {
-        operation::COPY => PAIR,
-        operation::LOAD => POINTER,
-        operation::STORE => POINTER,
-        operation::BRANCH => BRANCH,
-        operation::PCODE_BRANCH => CONDITION,
-        _ => UNSIZED,
+        operation::COPY => Rule::Pair,
+        operation::LOAD => Rule::Pointer,
+        operation::STORE => Rule::Pointer,
+        operation::BRANCH => Rule::Branch,
+        operation::PCODE_BRANCH => Rule::Condition,
+        _ => Rule::Unsized,
     }
 }
 
-fn rule_of(op: u64) -> u64
-    ensures { result ≡ rule_of op }
+#[tactic(auto, unfolding(crate::specs::Rules::rule_of))]
+fn rule_of(op: u64) -> Rule
+    ensures { rule_number result ≡ rule_of op }
 {
     if op < OPERATORS {
         return rule_of_operator(op);
@@ -88,189 +87,130 @@ fn rule_of(op: u64) -> u64
     rule_of_other(op)
 }
 
-// Whether a rule is that of a pair, of shifts or of comparisons.
-fn pairs(rule: u64) -> bool
-    ensures { result ≡ pairs rule }
-{
-    match rule {
-        PAIR => true,
-        SHIFT => true,
-        COMPARISON => true,
-        _ => false,
-    }
-}
-
-// The operand that has the size of the first input: the second input of a comparison, else the output.
-fn partner(rule: u64) -> usize
-    ensures { (result ≡ partner rule) × (result < 32) }
-{
-    if rule == COMPARISON {
-        action::INPUT_1
-    } else {
-        action::OUTPUT
-    }
-}
-
-// These three call `set_size_of_pair` from one place, so that it is compiled into it.
-fn pair_rule(
-    stream: &[u8],
-    table: &[u16; table::LENGTH],
-    rule: u64,
+#[tactic(auto, using(crate::proofs::RuleLaws::shift_law))]
+fn shift(
+    section: Section<'_>,
     fallback: bool,
     actions: &mut [u64],
     temporaries: &mut [u64],
     at: usize,
     pointer: u64,
 ) -> u64
-    ensures { Counted result actions.new temporaries.new (pair_rule stream.now table.now rule fallback actions.old temporaries.old at pointer) }
+    ensures { Counted result actions.new temporaries.new (shift section.entry.stream.now section.entry.table.now fallback actions.old temporaries.old at pointer) }
 {
     let x = set_size_of_pair(
-        stream,
-        table,
+        section,
         fallback,
         actions,
         temporaries,
         at,
         action::INPUT_0,
-        partner(rule),
+        action::OUTPUT,
         pointer,
     );
-    match rule {
-        SHIFT => sum_of_errors(
-            x,
-            set_unsized(
-                stream,
-                table,
-                actions,
-                temporaries,
-                at,
-                action::INPUT_1,
-                pointer,
-            ),
-        ),
-        COMPARISON => sum_of_errors(
-            x,
-            set_operand(stream, table, actions, temporaries, at, action::OUTPUT, 1),
-        ),
-        _ => x,
-    }
-}
-
-fn bool_not(
-    stream: &[u8],
-    table: &[u16; table::LENGTH],
-    actions: &mut [u64],
-    temporaries: &mut [u64],
-    at: usize,
-) -> u64
-    ensures { Counted result actions.new temporaries.new (bool_not stream.now table.now actions.old temporaries.old at) }
-{
-    let x = set_operand(stream, table, actions, temporaries, at, action::INPUT_0, 1);
-    let y = set_operand(stream, table, actions, temporaries, at, action::OUTPUT, 1);
+    let y = set_unsized(section, actions, temporaries, at, action::INPUT_1, pointer);
     sum_of_errors(x, y)
 }
 
-fn branch(
-    stream: &[u8],
-    table: &[u16; table::LENGTH],
-    actions: &mut [u64],
-    temporaries: &mut [u64],
-    at: usize,
-    pointer: u64,
-) -> u64
-    ensures { Counted result actions.new temporaries.new (branch stream.now table.now actions.old temporaries.old at pointer) }
-{
-    let x = set_operand(stream, table, actions, temporaries, at, action::INPUT_0, 1);
-    let y = set_unsized(
-        stream,
-        table,
-        actions,
-        temporaries,
-        at,
-        action::INPUT_1,
-        pointer,
-    );
-    sum_of_errors(x, y)
-}
-
-fn few_operands(
-    stream: &[u8],
-    table: &[u16; table::LENGTH],
-    rule: u64,
-    actions: &mut [u64],
-    temporaries: &mut [u64],
-    at: usize,
-    pointer: u64,
-) -> u64
-    ensures { Counted result actions.new temporaries.new (few_operands stream.now table.now rule actions.old temporaries.old at pointer) }
-{
-    match rule {
-        NOT => bool_not(stream, table, actions, temporaries, at),
-        NAN => set_operand(stream, table, actions, temporaries, at, action::OUTPUT, 1),
-        POINTER => set_operand(
-            stream,
-            table,
-            actions,
-            temporaries,
-            at,
-            action::INPUT_0,
-            pointer,
-        ),
-        BRANCH => branch(stream, table, actions, temporaries, at, pointer),
-        CONDITION => set_operand(stream, table, actions, temporaries, at, action::INPUT_0, 1),
-        _ => 0,
-    }
-}
-
-fn apply_rule(
-    stream: &[u8],
-    table: &[u16; table::LENGTH],
-    rule: u64,
+#[tactic(auto, using(crate::proofs::RuleLaws::comparison_law))]
+fn comparison(
+    section: Section<'_>,
     fallback: bool,
     actions: &mut [u64],
     temporaries: &mut [u64],
     at: usize,
     pointer: u64,
 ) -> u64
-    ensures { Counted result actions.new temporaries.new (apply_rule stream.now table.now rule fallback actions.old temporaries.old at pointer) }
+    ensures { Counted result actions.new temporaries.new (comparison section.entry.stream.now section.entry.table.now fallback actions.old temporaries.old at pointer) }
 {
-    if pairs(rule) {
-        return pair_rule(
-            stream,
-            table,
-            rule,
+    let x = set_size_of_pair(
+        section,
+        fallback,
+        actions,
+        temporaries,
+        at,
+        action::INPUT_0,
+        action::INPUT_1,
+        pointer,
+    );
+    let more = set_operand(section, actions, temporaries, at, action::OUTPUT, 1);
+    sum_of_errors(x, more)
+}
+
+fn bool_not(section: Section<'_>, actions: &mut [u64], temporaries: &mut [u64], at: usize) -> u64
+    ensures { Counted result actions.new temporaries.new (bool_not section.entry.stream.now section.entry.table.now actions.old temporaries.old at) }
+{
+    let x = set_operand(section, actions, temporaries, at, action::INPUT_0, 1);
+    let y = set_operand(section, actions, temporaries, at, action::OUTPUT, 1);
+    sum_of_errors(x, y)
+}
+
+fn branch(
+    section: Section<'_>,
+    actions: &mut [u64],
+    temporaries: &mut [u64],
+    at: usize,
+    pointer: u64,
+) -> u64
+    ensures { Counted result actions.new temporaries.new (branch section.entry.stream.now section.entry.table.now actions.old temporaries.old at pointer) }
+{
+    let x = set_operand(section, actions, temporaries, at, action::INPUT_0, 1);
+    let y = set_unsized(section, actions, temporaries, at, action::INPUT_1, pointer);
+    sum_of_errors(x, y)
+}
+
+#[tactic(auto, unfolding(crate::specs::Rules::apply_rule, crate::specs::Rules::few_operands, list_values::specs::Sizes::recorded))]
+fn apply_rule(
+    section: Section<'_>,
+    rule: Rule,
+    fallback: bool,
+    actions: &mut [u64],
+    temporaries: &mut [u64],
+    at: usize,
+    pointer: u64,
+) -> u64
+    ensures { Counted result actions.new temporaries.new (apply_rule section.entry.stream.now section.entry.table.now (rule_number rule) fallback actions.old temporaries.old at pointer) }
+{
+    match rule {
+        Rule::Unsized => 0,
+        Rule::Pair => set_size_of_pair(
+            section,
             fallback,
             actions,
             temporaries,
             at,
+            action::INPUT_0,
+            action::OUTPUT,
             pointer,
-        );
-    }
-    match rule {
-        TRIPLE => set_size_of_triple(stream, table, fallback, actions, temporaries, at, pointer),
-        BOOLEAN => set_three(stream, table, actions, temporaries, at, 1),
-        _ => few_operands(stream, table, rule, actions, temporaries, at, pointer),
+        ),
+        Rule::Shift => shift(section, fallback, actions, temporaries, at, pointer),
+        Rule::Triple => set_size_of_triple(section, fallback, actions, temporaries, at, pointer),
+        Rule::Comparison => comparison(section, fallback, actions, temporaries, at, pointer),
+        Rule::Boolean => set_three(section, actions, temporaries, at, 1),
+        Rule::Not => bool_not(section, actions, temporaries, at),
+        Rule::Nan => set_operand(section, actions, temporaries, at, action::OUTPUT, 1),
+        Rule::Pointer => set_operand(section, actions, temporaries, at, action::INPUT_0, pointer),
+        Rule::Branch => branch(section, actions, temporaries, at, pointer),
+        Rule::Condition => set_operand(section, actions, temporaries, at, action::INPUT_0, 1),
     }
 }
 
 // The rule of the Op at a position; other actions are not sized here.
 pub fn update_operand_sizes(
-    stream: &[u8],
-    table: &[u16; table::LENGTH],
+    section: Section<'_>,
     fallback: bool,
     actions: &mut [u64],
     temporaries: &mut [u64],
     at: usize,
     pointer: u64,
 ) -> u64
-    ensures { Counted result actions.new temporaries.new (update_operand_sizes stream.now table.now fallback actions.old temporaries.old at pointer) }
+    ensures { Counted result actions.new temporaries.new (update_operand_sizes section.entry.stream.now section.entry.table.now fallback actions.old temporaries.old at pointer) }
 {
     if get(actions, at, action::KIND) != action_kind::OP {
         return 0;
     }
     apply_rule(
-        stream,
-        table,
+        section,
         rule_of(get(actions, at, action::OPERATION)),
         fallback,
         actions,

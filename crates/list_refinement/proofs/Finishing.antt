@@ -25,7 +25,7 @@ use Rattle.list_values.specs.declared.value.Value.{Value as WordValue}
 use Rattle.list_values.specs.declared.sizes.Sizing.{Sizing as WordSizing}
 use Rattle.list_end.specs.declared.end.Finished.{Finished}
 use Rattle.list_values.specs.Base.{Listed, listed, then_l}
-use Rattle.list_values.specs.declared.value.Slice.{Slice}
+use Rattle.list_values.specs.Outcomes.{Slice}
 use Rattle.list_values.specs.Values as words
 use Rattle.list_values.specs.Values.{word, value_at, put_value, place}
 use Rattle.list_end.specs.End.{finished, write_copy, copy_of, subpiece_copy, finish_fixed, finish_op, then_f, finish_from, finish_actions, fix_operands}

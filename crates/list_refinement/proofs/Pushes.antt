@@ -21,8 +21,8 @@ use Rattle.definition.specs.Walk.{State, Env, Outcome, done, stopped, on, requir
 use Rattle.definition.specs.ActionList.{or_none, list_words, temporary_word, action_kind_number, operation_word}
 use Rattle.list_values.specs.declared.value.Value.{Value as WordValue}
 use Rattle.list_pushes.specs.declared.push.Env.{Env as WordEnv}
-use Rattle.list_pushes.specs.declared.push.Read.{Read}
-use Rattle.list_pushes.specs.declared.push.Pushed.{Pushed}
+use Rattle.list_pushes.specs.Outcomes.{Read}
+use Rattle.list_pushes.specs.Outcomes.{Pushed}
 use Rattle.list_values.specs.Base.{listed}
 use Rattle.list_values.specs.Values.{value_at}
 use Rattle.list_values.specs.Sizes.{sized, then_s}

@@ -9,8 +9,8 @@ use Rattle.definition.specs.Refusals.{refusal_number}
 use Rattle.definition.specs.Walk.{State, Env, Outcome, done, stopped, on, Walk}
 use Rattle.list_values.specs.declared.value.Value.{Value as WordValue}
 use Rattle.list_pushes.specs.declared.push.State.{State as WordState}
-use Rattle.list_pushes.specs.declared.push.Read.{Read}
-use Rattle.list_pushes.specs.declared.push.Pushed.{Pushed}
+use Rattle.list_pushes.specs.Outcomes.{Read}
+use Rattle.list_pushes.specs.Outcomes.{Pushed}
 use Rattle.list_values.specs.Base.{Listed, listed}
 use Rattle.list_pushes.specs.Pushes.{ReadOut, read, PushedOut, pushed, on_read, on_pushed, on_tmp, on_push}
 use Rattle.list_refinement.specs.Encoding.{actions_in, temporaries_in, enc_s}

@@ -1,7 +1,7 @@
 -- A value and its two words in a list: its number, and kind + 256 × offset + 2^24 × size.
 use Rattle.std.specs.Prelude.{ℕ, ◌+◌, ◌*◌, ◌/◌, ◌%◌, List, get_or, set, ltb, leb}
 use Rattle.list_values.specs.declared.value.Value.{Value}
-use Rattle.list_values.specs.declared.value.Slice.{Slice}
+use Rattle.list_values.specs.Outcomes.{Slice}
 use Rattle.prelude.specs.Base.{when◌then◌else◌}
 
 -- a value at offset 0 with no size of its own

@@ -3,6 +3,7 @@
 ghost use Rattle.std.specs.Prelude.{◌≡◌, ◌<◌};
 ghost use Rattle.list_values.specs.Sizes.{Settles, Counted, entry, list_size, export_size_of, tmp_size, listed_size, size_of, size_at, sum_of_errors, recorded, size_temporary, settled, set_operand, set_two, set_three, falls_back, pair_fallback, set_size_of_pair, triple_falls_back, triple_fallback, share_size, all_equal, set_size_of_triple, set_unsized};
 
+use crate::section::Section;
 use crate::value::{SIZE_PLACE, Value, get, put_size, value_at};
 use codes::{NONE, action, table, value_kind};
 
@@ -25,21 +26,23 @@ pub fn entry(table: &[u16; table::LENGTH], list: usize, bytes: u64) -> usize
 }
 
 // The size of entry i of list k, whose entries are a name and a size.
-fn list_size(stream: &[u8], table: &[u16; table::LENGTH], list: usize, index: u64) -> u64
-    ensures { result ≡ list_size stream.now table.now list index }
+fn list_size(section: Section<'_>, list: usize, index: u64) -> u64
+    ensures { result ≡ list_size section.entry.stream.now section.entry.table.now list index }
 {
-    access::u16_at(stream, entry(table, list, index % 65536 * 4 + 2))
+    access::u16_at(
+        section.stream,
+        entry(section.table, list, index % 65536 * 4 + 2),
+    )
 }
 
 // The size of a subtable's table export.
-fn export_size(stream: &[u8], table: &[u16; table::LENGTH], index: u64) -> u64
-    ensures { result ≡ export_size_of stream.now table.now index }
+fn export_size(section: Section<'_>, index: u64) -> u64
+    ensures { result ≡ export_size_of section.entry.stream.now section.entry.table.now index }
 {
     list_size(
-        stream,
-        table,
+        section,
         table::TABLES,
-        list_size(stream, table, table::SUBTABLES, index),
+        list_size(section, table::SUBTABLES, index),
     )
 }
 
@@ -51,26 +54,21 @@ fn tmp_size(temporaries: &[u64], index: u64) -> u64
 
 // The size of a register, table export or field. It is called from two places below, so that what is tested before it stays
 // small enough to be compiled into every place that asks for a size.
-fn listed_size(stream: &[u8], table: &[u16; table::LENGTH], kind: u64, number: u64) -> u64
-    ensures { result ≡ listed_size stream.now table.now kind number }
+fn listed_size(section: Section<'_>, kind: u64, number: u64) -> u64
+    ensures { result ≡ listed_size section.entry.stream.now section.entry.table.now kind number }
 {
     match kind {
-        value_kind::REGISTER => list_size(stream, table, table::REGISTERS, number),
-        value_kind::FIELD => list_size(stream, table, table::FIELDS, number),
-        value_kind::SUBTABLE => export_size(stream, table, number),
-        value_kind::SUBTABLE_REF => export_size(stream, table, number),
+        value_kind::REGISTER => list_size(section, table::REGISTERS, number),
+        value_kind::FIELD => list_size(section, table::FIELDS, number),
+        value_kind::SUBTABLE => export_size(section, number),
+        value_kind::SUBTABLE_REF => export_size(section, number),
         _ => NONE,
     }
 }
 
 // The known size, 65,535 for none.
-pub fn size_of(
-    stream: &[u8],
-    table: &[u16; table::LENGTH],
-    temporaries: &[u64],
-    value: Value,
-) -> u64
-    ensures { result ≡ size_of stream.now table.now temporaries.now value }
+pub fn size_of(section: Section<'_>, temporaries: &[u64], value: Value) -> u64
+    ensures { result ≡ size_of section.entry.stream.now section.entry.table.now temporaries.now value }
 {
     if value.size != NONE {
         return value.size;
@@ -78,19 +76,18 @@ pub fn size_of(
     if value.kind == value_kind::PCODE_TMP {
         return tmp_size(temporaries, value.number);
     }
-    listed_size(stream, table, value.kind, value.number)
+    listed_size(section, value.kind, value.number)
 }
 
 fn size_at(
-    stream: &[u8],
-    table: &[u16; table::LENGTH],
+    section: Section<'_>,
     actions: &[u64],
     temporaries: &[u64],
     at: usize,
     index: usize,
 ) -> u64
     requires { index < 32 }
-    ensures { result ≡ size_at stream.now table.now actions.now temporaries.now at index }
+    ensures { result ≡ size_at section.entry.stream.now section.entry.table.now actions.now temporaries.now at index }
 {
     let w = get(actions, at, index + 1);
     let own = w / SIZE_PLACE % 65536;
@@ -101,7 +98,7 @@ fn size_at(
     if w % 256 == value_kind::PCODE_TMP {
         return tmp_size(temporaries, number);
     }
-    listed_size(stream, table, w % 256, number)
+    listed_size(section, w % 256, number)
 }
 
 // The sum, up to the greatest number of a word.
@@ -170,8 +167,7 @@ pub fn settle(temporaries: &mut [u64], value: Value, known: u64, size: u64) -> u
 
 // Sets the size of the operand i after a position.
 pub fn set_operand(
-    stream: &[u8],
-    table: &[u16; table::LENGTH],
+    section: Section<'_>,
     actions: &mut [u64],
     temporaries: &mut [u64],
     at: usize,
@@ -179,17 +175,16 @@ pub fn set_operand(
     size: u64,
 ) -> u64
     requires { index < 32 }
-    ensures { Counted result actions.new temporaries.new (set_operand stream.now table.now actions.old temporaries.old at index size) }
+    ensures { Counted result actions.new temporaries.new (set_operand section.entry.stream.now section.entry.table.now actions.old temporaries.old at index size) }
 {
     let v = value_at(actions, at, index);
-    let known = size_of(stream, table, temporaries, v);
+    let known = size_of(section, temporaries, v);
     put_size(actions, at, index, size);
     settle(temporaries, v, known, size)
 }
 
 fn set_two(
-    stream: &[u8],
-    table: &[u16; table::LENGTH],
+    section: Section<'_>,
     actions: &mut [u64],
     temporaries: &mut [u64],
     at: usize,
@@ -198,26 +193,24 @@ fn set_two(
     size: u64,
 ) -> u64
     requires { (index < 32) × (other < 32) }
-    ensures { Counted result actions.new temporaries.new (set_two stream.now table.now actions.old temporaries.old at index other size) }
+    ensures { Counted result actions.new temporaries.new (set_two section.entry.stream.now section.entry.table.now actions.old temporaries.old at index other size) }
 {
-    let x = set_operand(stream, table, actions, temporaries, at, index, size);
-    let y = set_operand(stream, table, actions, temporaries, at, other, size);
+    let x = set_operand(section, actions, temporaries, at, index, size);
+    let y = set_operand(section, actions, temporaries, at, other, size);
     sum_of_errors(x, y)
 }
 
 pub fn set_three(
-    stream: &[u8],
-    table: &[u16; table::LENGTH],
+    section: Section<'_>,
     actions: &mut [u64],
     temporaries: &mut [u64],
     at: usize,
     size: u64,
 ) -> u64
-    ensures { Counted result actions.new temporaries.new (set_three stream.now table.now actions.old temporaries.old at size) }
+    ensures { Counted result actions.new temporaries.new (set_three section.entry.stream.now section.entry.table.now actions.old temporaries.old at size) }
 {
     let x = set_two(
-        stream,
-        table,
+        section,
         actions,
         temporaries,
         at,
@@ -225,15 +218,7 @@ pub fn set_three(
         action::INPUT_1,
         size,
     );
-    let y = set_operand(
-        stream,
-        table,
-        actions,
-        temporaries,
-        at,
-        action::OUTPUT,
-        size,
-    );
+    let y = set_operand(section, actions, temporaries, at, action::OUTPUT, size);
     sum_of_errors(x, y)
 }
 
@@ -252,8 +237,7 @@ pub fn falls_back(value: Value) -> bool
 }
 
 fn pair_fallback(
-    stream: &[u8],
-    table: &[u16; table::LENGTH],
+    section: Section<'_>,
     fallback: bool,
     actions: &mut [u64],
     temporaries: &mut [u64],
@@ -263,32 +247,14 @@ fn pair_fallback(
     pointer: u64,
 ) -> u64
     requires { (index < 32) × (other < 32) }
-    ensures { Counted result actions.new temporaries.new (pair_fallback stream.now table.now fallback actions.old temporaries.old at index other pointer) }
+    ensures { Counted result actions.new temporaries.new (pair_fallback section.entry.stream.now section.entry.table.now fallback actions.old temporaries.old at index other pointer) }
 {
     if fallback {
         if falls_back(value_at(actions, at, index)) {
-            return set_two(
-                stream,
-                table,
-                actions,
-                temporaries,
-                at,
-                index,
-                other,
-                pointer,
-            );
+            return set_two(section, actions, temporaries, at, index, other, pointer);
         }
         if falls_back(value_at(actions, at, other)) {
-            return set_two(
-                stream,
-                table,
-                actions,
-                temporaries,
-                at,
-                index,
-                other,
-                pointer,
-            );
+            return set_two(section, actions, temporaries, at, index, other, pointer);
         }
     }
     0
@@ -296,8 +262,7 @@ fn pair_fallback(
 
 // Two operands have one size.
 pub fn set_size_of_pair(
-    stream: &[u8],
-    table: &[u16; table::LENGTH],
+    section: Section<'_>,
     fallback: bool,
     actions: &mut [u64],
     temporaries: &mut [u64],
@@ -307,15 +272,14 @@ pub fn set_size_of_pair(
     pointer: u64,
 ) -> u64
     requires { (index < 32) × (other < 32) }
-    ensures { Counted result actions.new temporaries.new (set_size_of_pair stream.now table.now fallback actions.old temporaries.old at index other pointer) }
+    ensures { Counted result actions.new temporaries.new (set_size_of_pair section.entry.stream.now section.entry.table.now fallback actions.old temporaries.old at index other pointer) }
 {
-    let x = size_at(stream, table, actions, temporaries, at, index);
-    let y = size_at(stream, table, actions, temporaries, at, other);
+    let x = size_at(section, actions, temporaries, at, index);
+    let y = size_at(section, actions, temporaries, at, other);
     if x == NONE {
         if y == NONE {
             return pair_fallback(
-                stream,
-                table,
+                section,
                 fallback,
                 actions,
                 temporaries,
@@ -325,12 +289,12 @@ pub fn set_size_of_pair(
                 pointer,
             );
         }
-        return set_operand(stream, table, actions, temporaries, at, index, y);
+        return set_operand(section, actions, temporaries, at, index, y);
     }
     if x == y {
         return 0;
     }
-    set_operand(stream, table, actions, temporaries, at, other, x)
+    set_operand(section, actions, temporaries, at, other, x)
 }
 
 fn triple_falls_back(actions: &[u64], at: usize) -> bool
@@ -346,19 +310,18 @@ fn triple_falls_back(actions: &[u64], at: usize) -> bool
 }
 
 fn triple_fallback(
-    stream: &[u8],
-    table: &[u16; table::LENGTH],
+    section: Section<'_>,
     fallback: bool,
     actions: &mut [u64],
     temporaries: &mut [u64],
     at: usize,
     pointer: u64,
 ) -> u64
-    ensures { Counted result actions.new temporaries.new (triple_fallback stream.now table.now fallback actions.old temporaries.old at pointer) }
+    ensures { Counted result actions.new temporaries.new (triple_fallback section.entry.stream.now section.entry.table.now fallback actions.old temporaries.old at pointer) }
 {
     if fallback {
         if triple_falls_back(actions, at) {
-            return set_three(stream, table, actions, temporaries, at, pointer);
+            return set_three(section, actions, temporaries, at, pointer);
         }
     }
     0
@@ -366,8 +329,7 @@ fn triple_fallback(
 
 // The other two take the size of the first known one.
 fn share_size(
-    stream: &[u8],
-    table: &[u16; table::LENGTH],
+    section: Section<'_>,
     actions: &mut [u64],
     temporaries: &mut [u64],
     at: usize,
@@ -375,12 +337,11 @@ fn share_size(
     second: u64,
     third: u64,
 ) -> u64
-    ensures { Counted result actions.new temporaries.new (share_size stream.now table.now actions.old temporaries.old at first second third) }
+    ensures { Counted result actions.new temporaries.new (share_size section.entry.stream.now section.entry.table.now actions.old temporaries.old at first second third) }
 {
     if first != NONE {
         return set_two(
-            stream,
-            table,
+            section,
             actions,
             temporaries,
             at,
@@ -391,8 +352,7 @@ fn share_size(
     }
     if second != NONE {
         return set_two(
-            stream,
-            table,
+            section,
             actions,
             temporaries,
             at,
@@ -402,8 +362,7 @@ fn share_size(
         );
     }
     set_two(
-        stream,
-        table,
+        section,
         actions,
         temporaries,
         at,
@@ -425,32 +384,30 @@ fn all_equal(first: u64, second: u64, third: u64) -> bool
 
 // Both inputs and the output have one size.
 pub fn set_size_of_triple(
-    stream: &[u8],
-    table: &[u16; table::LENGTH],
+    section: Section<'_>,
     fallback: bool,
     actions: &mut [u64],
     temporaries: &mut [u64],
     at: usize,
     pointer: u64,
 ) -> u64
-    ensures { Counted result actions.new temporaries.new (set_size_of_triple stream.now table.now fallback actions.old temporaries.old at pointer) }
+    ensures { Counted result actions.new temporaries.new (set_size_of_triple section.entry.stream.now section.entry.table.now fallback actions.old temporaries.old at pointer) }
 {
-    let x = size_at(stream, table, actions, temporaries, at, action::INPUT_0);
-    let y = size_at(stream, table, actions, temporaries, at, action::INPUT_1);
-    let w = size_at(stream, table, actions, temporaries, at, action::OUTPUT);
+    let x = size_at(section, actions, temporaries, at, action::INPUT_0);
+    let y = size_at(section, actions, temporaries, at, action::INPUT_1);
+    let w = size_at(section, actions, temporaries, at, action::OUTPUT);
     if all_equal(x, y, w) {
         if x == NONE {
-            return triple_fallback(stream, table, fallback, actions, temporaries, at, pointer);
+            return triple_fallback(section, fallback, actions, temporaries, at, pointer);
         }
         return 0;
     }
-    share_size(stream, table, actions, temporaries, at, x, y, w)
+    share_size(section, actions, temporaries, at, x, y, w)
 }
 
 // An operand with no known size takes pointer size.
 pub fn set_unsized(
-    stream: &[u8],
-    table: &[u16; table::LENGTH],
+    section: Section<'_>,
     actions: &mut [u64],
     temporaries: &mut [u64],
     at: usize,
@@ -458,10 +415,10 @@ pub fn set_unsized(
     pointer: u64,
 ) -> u64
     requires { index < 32 }
-    ensures { Counted result actions.new temporaries.new (set_unsized stream.now table.now actions.old temporaries.old at index pointer) }
+    ensures { Counted result actions.new temporaries.new (set_unsized section.entry.stream.now section.entry.table.now actions.old temporaries.old at index pointer) }
 {
-    if size_at(stream, table, actions, temporaries, at, index) == NONE {
-        return set_operand(stream, table, actions, temporaries, at, index, pointer);
+    if size_at(section, actions, temporaries, at, index) == NONE {
+        return set_operand(section, actions, temporaries, at, index, pointer);
     }
     0
 }

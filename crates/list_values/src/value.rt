@@ -1,9 +1,11 @@
 // A value and its two words in a list: its number, and kind + 256 × offset + 2^24 × size. Reads past a list's end are 0, and
 // writes there change nothing.
 ghost use Rattle.std.specs.Prelude.{◌≡◌, ◌+◌, ◌<◌, get_or, set};
+ghost use Rattle.list_values.specs.Outcomes.{to_slice};
 ghost use Rattle.list_values.specs.Values.{local, with_size, absent, no_output, slice_bytes, word, value_at, put_value, put_size, place};
 
-use codes::{NONE, action, refusal};
+use codes::refusal::Refusal;
+use codes::{NONE, action};
 
 // The size stands in a value's second word from bit 24 on.
 pub const SIZE_PLACE: u64 = 16777216;
@@ -38,12 +40,7 @@ pub fn local(kind: u64, number: u64) -> Value
 pub fn with_size(value: Value, size: u64) -> Value
     ensures { result ≡ with_size size value }
 {
-    Value {
-        kind: value.kind,
-        number: value.number,
-        offset: value.offset,
-        size,
-    }
+    Value { size, ..value }
 }
 
 // What stands for an operand that is not there: both its words are 0.
@@ -70,19 +67,13 @@ pub fn no_output() -> Value
     }
 }
 
-#[derive(Clone, Copy)]
-pub enum Slice {
-    Is(Value),
-    No(u64),
-}
-
 // So many bytes of a value, from a byte on, unless their offset passes 65,535.
-pub fn slice_bytes(value: Value, more: u64, size: u64) -> Slice
-    ensures { result ≡ slice_bytes value more size }
+pub fn slice_bytes(value: Value, more: u64, size: u64) -> Result<Value, Refusal>
+    ensures { to_slice result ≡ slice_bytes value more size }
 {
     if value.offset <= LAST_OFFSET {
         if more <= LAST_OFFSET - value.offset {
-            return Slice::Is(Value {
+            return Ok(Value {
                 kind: value.kind,
                 number: value.number,
                 offset: value.offset + more,
@@ -90,7 +81,7 @@ pub fn slice_bytes(value: Value, more: u64, size: u64) -> Slice
             });
         }
     }
-    Slice::No(refusal::OFFSET_TOO_FAR)
+    Err(Refusal::OffsetTooFar)
 }
 
 // The second word.

@@ -26,7 +26,7 @@ fn judged(
         return refused(
             actions,
             temporaries,
-            refusal::ERRORS_RECORDED,
+            Refusal::ErrorsRecorded,
             sizing.first,
             sizing.errors,
         );
@@ -35,8 +35,7 @@ fn judged(
 }
 
 fn finish_export(
-    stream: &[u8],
-    table: &[u16; table::LENGTH],
+    section: Section<'_>,
     actions: &mut [u64],
     temporaries: &mut [u64],
     subtables: usize,
@@ -45,14 +44,14 @@ fn finish_export(
     walk: Walk,
     sizing: Sizing,
 ) -> Answer
-    ensures { resolved_to result actions.new temporaries.new ≡ finish_export stream.now table.now actions.old temporaries.old subtables count pointer walk sizing }
+    ensures { resolved_to result actions.new temporaries.new ≡ finish_export section.entry.stream.now section.entry.table.now actions.old temporaries.old subtables count pointer walk sizing }
 {
     let x = walk.export;
     if x.kind == 0 {
         return judged(actions, temporaries, subtables, count, walk, x, sizing);
     }
     let v = x.v;
-    let f = list_end::end::fix_size(stream, table, temporaries, v, pointer, sizing);
+    let f = list_end::end::fix_size(section, temporaries, v, pointer, sizing);
     let fixed = f.v;
     let y = Export {
         kind: x.kind,
@@ -64,8 +63,7 @@ fn finish_export(
 
 // From the actions with the sizes that the passes found.
 fn finish_sized(
-    stream: &[u8],
-    table: &[u16; table::LENGTH],
+    section: Section<'_>,
     actions: &mut [u64],
     temporaries: &mut [u64],
     subtables: usize,
@@ -74,11 +72,10 @@ fn finish_sized(
     walk: Walk,
     sizing: Sizing,
 ) -> Answer
-    ensures { resolved_to result actions.new temporaries.new ≡ finish_sized stream.now table.now actions.old temporaries.old subtables count pointer walk sizing }
+    ensures { resolved_to result actions.new temporaries.new ≡ finish_sized section.entry.stream.now section.entry.table.now actions.old temporaries.old subtables count pointer walk sizing }
 {
     let f = list_end::end::finish_actions(
-        stream,
-        table,
+        section,
         actions,
         temporaries,
         place(0, subtables),
@@ -91,8 +88,7 @@ fn finish_sized(
         return refused(actions, temporaries, f.refusal, y.begun, 0);
     }
     finish_export(
-        stream,
-        table,
+        section,
         actions,
         temporaries,
         subtables,
@@ -114,8 +110,7 @@ fn actions_between(base: usize, end: usize) -> usize
 }
 
 fn both_passes(
-    stream: &[u8],
-    table: &[u16; table::LENGTH],
+    section: Section<'_>,
     actions: &mut [u64],
     temporaries: &mut [u64],
     base: usize,
@@ -123,11 +118,10 @@ fn both_passes(
     pointer: u64,
     sizing: Sizing,
 ) -> Sizing
-    ensures { sized result actions.new temporaries.new ≡ both_passes stream.now table.now actions.old temporaries.old base count pointer sizing }
+    ensures { sized result actions.new temporaries.new ≡ both_passes section.entry.stream.now section.entry.table.now actions.old temporaries.old base count pointer sizing }
 {
     let y = list_end::passes::backward_pass(
-        stream,
-        table,
+        section,
         actions,
         temporaries,
         base,
@@ -135,25 +129,23 @@ fn both_passes(
         pointer,
         sizing,
     );
-    list_end::passes::forward_pass(stream, table, actions, temporaries, base, count, pointer, y)
+    list_end::passes::forward_pass(section, actions, temporaries, base, count, pointer, y)
 }
 
 pub fn finish(
-    stream: &[u8],
-    table: &[u16; table::LENGTH],
+    section: Section<'_>,
     actions: &mut [u64],
     temporaries: &mut [u64],
     pointer: u64,
     walk: Walk,
 ) -> Answer
-    ensures { resolved_to result actions.new temporaries.new ≡ finish stream.now table.now actions.old temporaries.old pointer walk }
+    ensures { resolved_to result actions.new temporaries.new ≡ finish section.entry.stream.now section.entry.table.now actions.old temporaries.old pointer walk }
 {
-    let subtables = access::u16_at(stream, header::SUBTABLES) as usize;
+    let subtables = access::u16_at(section.stream, header::SUBTABLES) as usize;
     let base = place(0, subtables);
     let n = actions_between(base, walk.st.end);
     let z = both_passes(
-        stream,
-        table,
+        section,
         actions,
         temporaries,
         base,
@@ -162,8 +154,7 @@ pub fn finish(
         walk.st.sizing,
     );
     finish_sized(
-        stream,
-        table,
+        section,
         actions,
         temporaries,
         subtables,

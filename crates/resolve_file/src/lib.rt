@@ -71,25 +71,23 @@ fn start_env(pointer: u64) -> Env
 
 // The section's own statements, which have no parameters, with macro calls 16 deep at most.
 fn walk_section(
-    stream: &[u8],
-    table: &[u16; table::LENGTH],
+    section: Section<'_>,
     actions: &mut [u64],
     temporaries: &mut [u64],
     subtables: usize,
     pointer: u64,
 ) -> Step
-    ensures { stepped result actions.new temporaries.new ≡ walk_section stream.now table.now actions.old temporaries.old subtables pointer }
+    ensures { stepped result actions.new temporaries.new ≡ walk_section section.entry.stream.now section.entry.table.now actions.old temporaries.old subtables pointer }
 {
     let mut scope = [0u64; SCOPE_WORDS];
-    let pos = access::get_u16(table, table::STATEMENTS) as usize;
-    let n = access::u16_at(stream, header::STATEMENTS);
-    let ordinal = access::get_u16(table, table::FIRST_ORDINAL) as u64;
+    let pos = access::get_u16(section.table, table::STATEMENTS) as usize;
+    let n = access::u16_at(section.stream, header::STATEMENTS);
+    let ordinal = access::get_u16(section.table, table::FIRST_ORDINAL) as u64;
     let e = start_env(pointer);
     let w = at_start(subtables);
     stmt_bodies::statements::body(
         DEPTH,
-        stream,
-        table,
+        section,
         &mut scope,
         actions,
         temporaries,
@@ -102,21 +100,20 @@ fn walk_section(
 }
 
 fn resolve_section(
-    stream: &[u8],
-    table: &[u16; table::LENGTH],
+    section: Section<'_>,
     actions: &mut [u64],
     temporaries: &mut [u64],
 ) -> Answer
-    ensures { resolved_to result actions.new temporaries.new ≡ resolve_section stream.now table.now actions.old temporaries.old }
+    ensures { resolved_to result actions.new temporaries.new ≡ resolve_section section.entry.stream.now section.entry.table.now actions.old temporaries.old }
 {
-    let subtables = access::u16_at(stream, header::SUBTABLES) as usize;
+    let subtables = access::u16_at(section.stream, header::SUBTABLES) as usize;
     if actions.len() / action::WORDS < subtables {
-        return refused(actions, temporaries, refusal::LIST_FULL, NONE, 0);
+        return refused(actions, temporaries, Refusal::ListFull, NONE, 0);
     }
-    let ptr = pointer_size(stream, table);
-    match walk_section(stream, table, actions, temporaries, subtables, ptr) {
+    let ptr = pointer_size(section);
+    match walk_section(section, actions, temporaries, subtables, ptr) {
         Step::Stop { refusal, ordinal } => refused(actions, temporaries, refusal, ordinal, 0),
-        Step::Next { next: _, w } => finish(stream, table, actions, temporaries, ptr, w),
+        Step::Next { next: _, w } => finish(section, actions, temporaries, ptr, w),
     }
 }
 

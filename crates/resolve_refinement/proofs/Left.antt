@@ -17,7 +17,7 @@ use Rattle.definition.specs.Walk.{State, Env, Outcome, done, stopped, on, Walk, 
 use Rattle.definition.specs.End as d
 use Rattle.definition.proofs.Openers.{base_opens}
 use Rattle.list_values.specs.declared.value.Value.{Value as WordValue}
-use Rattle.list_values.specs.declared.value.Slice.{Slice}
+use Rattle.list_values.specs.Outcomes.{Slice}
 use Rattle.list_values.specs.declared.sizes.Sizing.{Sizing as WordSizing}
 use Rattle.list_end.specs.declared.end.Fixed.{Fixed}
 use Rattle.list_end.specs.declared.end.Finished.{Finished}

@@ -29,8 +29,7 @@ fn mask_but(from: u64, bits: u64) -> u64
 
 // The bits of the value shifted to their place, and merged with the rest.
 fn merge_bits(
-    stream: &[u8],
-    table: &[u16; table::LENGTH],
+    section: Section<'_>,
     actions: &mut [u64],
     temporaries: &mut [u64],
     env: Env,
@@ -39,12 +38,11 @@ fn merge_bits(
     tmp: Value,
     from: u64,
     state: State,
-) -> Read
-    ensures { read result actions.new temporaries.new ≡ merge_bits stream.now table.now actions.old temporaries.old env to prev tmp from state }
+) -> Result<(Value, State), Refusal>
+    ensures { read (to_read result) actions.new temporaries.new ≡ merge_bits section.entry.stream.now section.entry.table.now actions.old temporaries.old env to prev tmp from state }
 {
-    match op_to(
-        stream,
-        table,
+    let (_, st1) = op_to(
+        section,
         actions,
         temporaries,
         env,
@@ -55,11 +53,9 @@ fn merge_bits(
         tmp,
         constant(from),
         state,
-    ) {
-        Read::No(n) => Read::No(n),
-        Read::Value { v: _, st: st1 } => op_to(
-            stream,
-            table,
+    )?;
+    op_to(
+            section,
             actions,
             temporaries,
             env,
@@ -70,13 +66,11 @@ fn merge_bits(
             prev,
             tmp,
             st1,
-        ),
-    }
+        )
 }
 
 fn extend_bits(
-    stream: &[u8],
-    table: &[u16; table::LENGTH],
+    section: Section<'_>,
     actions: &mut [u64],
     temporaries: &mut [u64],
     env: Env,
@@ -84,12 +78,11 @@ fn extend_bits(
     tmp: Value,
     bits: u64,
     state: State,
-) -> Read
-    ensures { read result actions.new temporaries.new ≡ extend_bits stream.now table.now actions.old temporaries.old env value tmp bits state }
+) -> Result<(Value, State), Refusal>
+    ensures { read (to_read result) actions.new temporaries.new ≡ extend_bits section.entry.stream.now section.entry.table.now actions.old temporaries.old env value tmp bits state }
 {
-    match op_to(
-        stream,
-        table,
+    let (_, st1) = op_to(
+        section,
         actions,
         temporaries,
         env,
@@ -100,11 +93,9 @@ fn extend_bits(
         value,
         absent(),
         state,
-    ) {
-        Read::No(n) => Read::No(n),
-        Read::Value { v: _, st: st1 } => op_to(
-            stream,
-            table,
+    )?;
+    op_to(
+            section,
             actions,
             temporaries,
             env,
@@ -115,13 +106,11 @@ fn extend_bits(
             tmp,
             constant(access::mask(bits)),
             st1,
-        ),
-    }
+        )
 }
 
 fn insert_in(
-    stream: &[u8],
-    table: &[u16; table::LENGTH],
+    section: Section<'_>,
     actions: &mut [u64],
     temporaries: &mut [u64],
     env: Env,
@@ -132,12 +121,11 @@ fn insert_in(
     from: u64,
     bits: u64,
     state: State,
-) -> Read
-    ensures { read result actions.new temporaries.new ≡ insert_in stream.now table.now actions.old temporaries.old env value to prev tmp from bits state }
+) -> Result<(Value, State), Refusal>
+    ensures { read (to_read result) actions.new temporaries.new ≡ insert_in section.entry.stream.now section.entry.table.now actions.old temporaries.old env value to prev tmp from bits state }
 {
-    match extend_bits(
-        stream,
-        table,
+    let (_, st1) = extend_bits(
+        section,
         actions,
         temporaries,
         env,
@@ -145,11 +133,9 @@ fn insert_in(
         tmp,
         bits,
         state,
-    ) {
-        Read::No(n) => Read::No(n),
-        Read::Value { v: _, st: st1 } => merge_bits(
-            stream,
-            table,
+    )?;
+    merge_bits(
+            section,
             actions,
             temporaries,
             env,
@@ -158,13 +144,11 @@ fn insert_in(
             tmp,
             from,
             st1,
-        ),
-    }
+        )
 }
 
 fn insert_bits(
-    stream: &[u8],
-    table: &[u16; table::LENGTH],
+    section: Section<'_>,
     actions: &mut [u64],
     temporaries: &mut [u64],
     env: Env,
@@ -174,15 +158,13 @@ fn insert_bits(
     from: u64,
     bits: u64,
     state: State,
-) -> Read
-    ensures { read result actions.new temporaries.new ≡ insert_bits stream.now table.now actions.old temporaries.old env value to prev from bits state }
+) -> Result<(Value, State), Refusal>
+    ensures { read (to_read result) actions.new temporaries.new ≡ insert_bits section.entry.stream.now section.entry.table.now actions.old temporaries.old env value to prev from bits state }
 {
-    let size = size_of(stream, table, temporaries, to);
-    match add_tmp(temporaries, NONE, size, state) {
-        Read::No(n) => Read::No(n),
-        Read::Value { v: tmp, st: st1 } => insert_in(
-            stream,
-            table,
+    let size = size_of(section, temporaries, to);
+    let (tmp, st1) = add_tmp(temporaries, NONE, size, state)?;
+    insert_in(
+            section,
             actions,
             temporaries,
             env,
@@ -193,14 +175,12 @@ fn insert_bits(
             from,
             bits,
             st1,
-        ),
-    }
+        )
 }
 
 // The bits of the target that stay, in a temporary; then those of the value.
 fn keep_bits(
-    stream: &[u8],
-    table: &[u16; table::LENGTH],
+    section: Section<'_>,
     actions: &mut [u64],
     temporaries: &mut [u64],
     env: Env,
@@ -210,13 +190,12 @@ fn keep_bits(
     from: u64,
     bits: u64,
     state: State,
-) -> Read
+) -> Result<(Value, State), Refusal>
     requires { from < 64 }
-    ensures { read result actions.new temporaries.new ≡ keep_bits stream.now table.now actions.old temporaries.old env value to prev from bits state }
+    ensures { read (to_read result) actions.new temporaries.new ≡ keep_bits section.entry.stream.now section.entry.table.now actions.old temporaries.old env value to prev from bits state }
 {
-    match op_to(
-        stream,
-        table,
+    let (_, st1) = op_to(
+        section,
         actions,
         temporaries,
         env,
@@ -227,11 +206,9 @@ fn keep_bits(
         to,
         constant(mask_but(from, bits)),
         state,
-    ) {
-        Read::No(n) => Read::No(n),
-        Read::Value { v: _, st: st1 } => insert_bits(
-            stream,
-            table,
+    )?;
+    insert_bits(
+            section,
             actions,
             temporaries,
             env,
@@ -241,13 +218,11 @@ fn keep_bits(
             from,
             bits,
             st1,
-        ),
-    }
+        )
 }
 
 fn write_bits(
-    stream: &[u8],
-    table: &[u16; table::LENGTH],
+    section: Section<'_>,
     actions: &mut [u64],
     temporaries: &mut [u64],
     env: Env,
@@ -256,18 +231,16 @@ fn write_bits(
     from: u64,
     bits: u64,
     state: State,
-) -> Read
-    ensures { read result actions.new temporaries.new ≡ write_bits stream.now table.now actions.old temporaries.old env value to from bits state }
+) -> Result<(Value, State), Refusal>
+    ensures { read (to_read result) actions.new temporaries.new ≡ write_bits section.entry.stream.now section.entry.table.now actions.old temporaries.old env value to from bits state }
 {
     if 64 <= from {
-        return Read::No(refusal::SHIFT_TOO_FAR);
+        return Err(Refusal::ShiftTooFar);
     }
-    let size = size_of(stream, table, temporaries, to);
-    match add_tmp(temporaries, NONE, size, state) {
-        Read::No(n) => Read::No(n),
-        Read::Value { v: prev, st: st1 } => keep_bits(
-            stream,
-            table,
+    let size = size_of(section, temporaries, to);
+    let (prev, st1) = add_tmp(temporaries, NONE, size, state)?;
+    keep_bits(
+            section,
             actions,
             temporaries,
             env,
@@ -277,13 +250,11 @@ fn write_bits(
             from,
             bits,
             st1,
-        ),
-    }
+        )
 }
 
 fn copy_bits(
-    stream: &[u8],
-    table: &[u16; table::LENGTH],
+    section: Section<'_>,
     actions: &mut [u64],
     temporaries: &mut [u64],
     env: Env,
@@ -292,14 +263,12 @@ fn copy_bits(
     from: u64,
     bits: u64,
     state: State,
-) -> Read
-    ensures { read result actions.new temporaries.new ≡ copy_bits stream.now table.now actions.old temporaries.old env expr to from bits state }
+) -> Result<(Value, State), Refusal>
+    ensures { read (to_read result) actions.new temporaries.new ≡ copy_bits section.entry.stream.now section.entry.table.now actions.old temporaries.old env expr to from bits state }
 {
-    match read_operand(stream, table, actions, temporaries, env, expr, state) {
-        Read::No(n) => Read::No(n),
-        Read::Value { v, st: st1 } => write_bits(
-            stream,
-            table,
+    let (v, st1) = read_operand(section, actions, temporaries, env, expr, state)?;
+    write_bits(
+            section,
             actions,
             temporaries,
             env,
@@ -308,13 +277,11 @@ fn copy_bits(
             from,
             bits,
             st1,
-        ),
-    }
+        )
 }
 
 fn copy_bytes(
-    stream: &[u8],
-    table: &[u16; table::LENGTH],
+    section: Section<'_>,
     actions: &mut [u64],
     temporaries: &mut [u64],
     env: Env,
@@ -323,14 +290,12 @@ fn copy_bytes(
     from: u64,
     bits: u64,
     state: State,
-) -> Read
-    ensures { read result actions.new temporaries.new ≡ copy_bytes stream.now table.now actions.old temporaries.old env expr to from bits state }
+) -> Result<(Value, State), Refusal>
+    ensures { read (to_read result) actions.new temporaries.new ≡ copy_bytes section.entry.stream.now section.entry.table.now actions.old temporaries.old env expr to from bits state }
 {
-    match sliced(to, from / 8, bits / 8, state) {
-        Read::No(n) => Read::No(n),
-        Read::Value { v, st: st1 } => read_value(
-            stream,
-            table,
+    let (v, st1) = sliced(to, from / 8, bits / 8, state)?;
+    read_value(
+            section,
             actions,
             temporaries,
             env,
@@ -338,13 +303,11 @@ fn copy_bytes(
             true,
             v,
             st1,
-        ),
-    }
+        )
 }
 
 fn copy_range(
-    stream: &[u8],
-    table: &[u16; table::LENGTH],
+    section: Section<'_>,
     actions: &mut [u64],
     temporaries: &mut [u64],
     env: Env,
@@ -353,13 +316,12 @@ fn copy_range(
     from: u64,
     bits: u64,
     state: State,
-) -> Read
-    ensures { read result actions.new temporaries.new ≡ copy_range stream.now table.now actions.old temporaries.old env expr to from bits state }
+) -> Result<(Value, State), Refusal>
+    ensures { read (to_read result) actions.new temporaries.new ≡ copy_range section.entry.stream.now section.entry.table.now actions.old temporaries.old env expr to from bits state }
 {
     if byte_aligned(from, bits) {
         return copy_bytes(
-            stream,
-            table,
+            section,
             actions,
             temporaries,
             env,
@@ -371,8 +333,7 @@ fn copy_range(
         );
     }
     copy_bits(
-        stream,
-        table,
+        section,
         actions,
         temporaries,
         env,
@@ -385,8 +346,7 @@ fn copy_range(
 }
 
 fn copy_ram(
-    stream: &[u8],
-    table: &[u16; table::LENGTH],
+    section: Section<'_>,
     actions: &mut [u64],
     temporaries: &mut [u64],
     env: Env,
@@ -397,13 +357,11 @@ fn copy_ram(
     state: State,
     walk: Walk,
 ) -> Step
-    ensures { stepped result actions.new temporaries.new ≡ copy_ram stream.now table.now actions.old temporaries.old env expr pointer size next state walk }
+    ensures { stepped result actions.new temporaries.new ≡ copy_ram section.entry.stream.now section.entry.table.now actions.old temporaries.old env expr pointer size next state walk }
 {
-    match read_operand(stream, table, actions, temporaries, env, expr, state) {
-        Read::No(n) => stop(walk, n),
-        Read::Value { v, st: st1 } => store(
-            stream,
-            table,
+    let (v, st1) = read_operand(section, actions, temporaries, env, expr, state)?;
+    store(
+            section,
             actions,
             temporaries,
             env,
@@ -413,13 +371,11 @@ fn copy_ram(
             next,
             st1,
             walk,
-        ),
-    }
+        )
 }
 
 fn copy_into(
-    stream: &[u8],
-    table: &[u16; table::LENGTH],
+    section: Section<'_>,
     actions: &mut [u64],
     temporaries: &mut [u64],
     env: Env,
@@ -429,13 +385,12 @@ fn copy_into(
     state: State,
     walk: Walk,
 ) -> Step
-    ensures { stepped result actions.new temporaries.new ≡ copy_into stream.now table.now actions.old temporaries.old env source target next state walk }
+    ensures { stepped result actions.new temporaries.new ≡ copy_into section.entry.stream.now section.entry.table.now actions.old temporaries.old env source target next state walk }
 {
     match target {
         ExprValue::Local(v) => read_then(
             read_value(
-                stream,
-                table,
+                section,
                 actions,
                 temporaries,
                 env,
@@ -448,8 +403,7 @@ fn copy_into(
             walk,
         ),
         ExprValue::RamRef { pointer, size } => copy_ram(
-            stream,
-            table,
+            section,
             actions,
             temporaries,
             env,
@@ -462,8 +416,7 @@ fn copy_into(
         ),
         ExprValue::BitRange { v, from, bits } => read_then(
             copy_range(
-                stream,
-                table,
+                section,
                 actions,
                 temporaries,
                 env,
@@ -476,7 +429,7 @@ fn copy_into(
             next,
             walk,
         ),
-        _ => stop(walk, refusal::NOT_ASSIGNABLE),
+        _ => stop(walk, Refusal::NotAssignable),
     }
 }
 
@@ -515,99 +468,85 @@ fn after_target(stream: &[u8], pos: usize) -> usize
 }
 
 fn new_target(
-    stream: &[u8],
-    table: &[u16; table::LENGTH],
+    section: Section<'_>,
     scope: &mut [u64],
     temporaries: &mut [u64],
     env: Env,
     pos: usize,
     name: u64,
     state: State,
-) -> Expr
-    ensures { resolved result scope.new temporaries.new ≡ new_target stream.now table.now scope.old temporaries.old env pos name state }
+) -> Result<(usize, ExprValue, State), Refusal>
+    ensures { resolved (to_expr result) scope.new temporaries.new ≡ new_target section.entry.stream.now section.entry.table.now scope.old temporaries.old env pos name state }
 {
-    let size = target_size(stream, pos);
-    let next = after_target(stream, pos);
-    match named_tmp(table, scope, temporaries, env, name, size, state) {
-        Read::No(n) => Expr::No(n),
-        Read::Value { v, st: st1 } => Expr::Value {
-            x: ExprValue::Local(v),
-            next,
-            st: st1,
-        },
-    }
+    let size = target_size(section.stream, pos);
+    let next = after_target(section.stream, pos);
+    let (v, st1) = named_tmp(section.table, scope, temporaries, env, name, size, state)?;
+    Ok((next, ExprValue::Local(v), st1))
 }
 
 fn is_wrong(answer: Meaning) -> bool
     ensures { result ≡ is_wrong answer }
 {
     match answer {
-        Meaning::Wrong(_) => true,
-        Meaning::Means(_) => false,
+        Err(_) => true,
+        Ok(_) => false,
     }
 }
 
-fn is_new(stream: &[u8], table: &[u16; table::LENGTH], scope: &[u64], env: Env, name: u64) -> bool
-    ensures { result ≡ is_new stream.now table.now scope.now env name }
+fn is_new(section: Section<'_>, scope: &[u64], env: Env, name: u64) -> bool
+    ensures { result ≡ is_new section.entry.stream.now section.entry.table.now scope.now env name }
 {
     if name == NONE {
         return false;
     }
-    is_wrong(resolve_ident(stream, table, scope, env, name))
+    is_wrong(resolve_ident(section, scope, env, name))
 }
 
 // A bare name as target: its number as a plain local, 1 where it means nothing or a wrong thing, else 0.
 fn plain_target(
-    stream: &[u8],
-    table: &[u16; table::LENGTH],
+    section: Section<'_>,
     scope: &[u64],
     env: Env,
     pos: usize,
     name: u64,
 ) -> u64
-    ensures { result ≡ plain_target stream.now table.now scope.now env pos name }
+    ensures { result ≡ plain_target section.entry.stream.now section.entry.table.now scope.now env pos name }
 {
-    if access::byte(stream, pos, 0) != codes::expression::IDENT {
+    if access::byte(section.stream, pos, 0) != codes::expression::IDENT {
         return 0;
     }
     if name == NONE {
         return 0;
     }
-    plain_local(stream, table, scope, env, name)
+    plain_local(section, scope, env, name)
 }
 
 // An unknown or disallowed name as target becomes a temporary.
 fn resolve_dst(
-    stream: &[u8],
-    table: &[u16; table::LENGTH],
+    section: Section<'_>,
     scope: &mut [u64],
     actions: &mut [u64],
     temporaries: &mut [u64],
     env: Env,
     pos: usize,
     state: State,
-) -> Expr
-    ensures { targeted result scope.new actions.new temporaries.new ≡ resolve_dst stream.now table.now scope.old actions.old temporaries.old env pos state }
+) -> Result<(usize, ExprValue, State), Refusal>
+    ensures { targeted (to_expr result) scope.new actions.new temporaries.new ≡ resolve_dst section.entry.stream.now section.entry.table.now scope.old actions.old temporaries.old env pos state }
 {
-    let name = target_name(stream, pos);
-    let q = plain_target(stream, table, scope, env, pos, name);
+    let name = target_name(section.stream, pos);
+    let q = plain_target(section, scope, env, pos, name);
     if 8 <= q {
-        return Expr::Value {
-            x: ExprValue::Local(local(q % 8, q / 8 - 1)),
-            next: after(pos, 3),
-            st: state,
-        };
+        return Ok((after(pos, 3), ExprValue::Local(local(q % 8, q / 8 - 1)), state));
     }
     if q == 1 {
-        return new_target(stream, table, scope, temporaries, env, pos, name, state);
+        return new_target(section, scope, temporaries, env, pos, name, state);
     }
-    if is_new(stream, table, scope, env, name) {
-        return new_target(stream, table, scope, temporaries, env, pos, name, state);
+    if is_new(section, scope, env, name) {
+        return new_target(section, scope, temporaries, env, pos, name, state);
     }
     resolve_expr(
         DEPTH,
-        stream,
-        table,
+        section,
         scope,
         pos,
         env,
@@ -618,8 +557,7 @@ fn resolve_dst(
 }
 
 fn copy_target(
-    stream: &[u8],
-    table: &[u16; table::LENGTH],
+    section: Section<'_>,
     scope: &mut [u64],
     actions: &mut [u64],
     temporaries: &mut [u64],
@@ -629,17 +567,11 @@ fn copy_target(
     state: State,
     walk: Walk,
 ) -> Step
-    ensures { walked result scope.new actions.new temporaries.new ≡ copy_target stream.now table.now scope.old actions.old temporaries.old env expr pos state walk }
+    ensures { walked result scope.new actions.new temporaries.new ≡ copy_target section.entry.stream.now section.entry.table.now scope.old actions.old temporaries.old env expr pos state walk }
 {
-    match resolve_dst(stream, table, scope, actions, temporaries, env, pos, state) {
-        Expr::No(n) => stop(walk, n),
-        Expr::Value {
-            x: d,
-            next,
-            st: st1,
-        } => copy_into(
-            stream,
-            table,
+    let (next, d, st1) = resolve_dst(section, scope, actions, temporaries, env, pos, state)?;
+    copy_into(
+            section,
             actions,
             temporaries,
             env,
@@ -648,13 +580,11 @@ fn copy_target(
             next,
             st1,
             walk,
-        ),
-    }
+        )
 }
 
 pub fn copy_statement(
-    stream: &[u8],
-    table: &[u16; table::LENGTH],
+    section: Section<'_>,
     scope: &mut [u64],
     actions: &mut [u64],
     temporaries: &mut [u64],
@@ -662,23 +592,20 @@ pub fn copy_statement(
     pos: usize,
     walk: Walk,
 ) -> Step
-    ensures { walked result scope.new actions.new temporaries.new ≡ copy_statement stream.now table.now scope.old actions.old temporaries.old env pos walk }
+    ensures { walked result scope.new actions.new temporaries.new ≡ copy_statement section.entry.stream.now section.entry.table.now scope.old actions.old temporaries.old env pos walk }
 {
-    match resolve_expr(
+    let (next, x, st) = resolve_expr(
         DEPTH,
-        stream,
-        table,
+        section,
         scope,
         after(pos, 1),
         env,
         actions,
         temporaries,
         walk.st,
-    ) {
-        Expr::No(n) => stop(walk, n),
-        Expr::Value { x, next, st } => copy_target(
-            stream,
-            table,
+    )?;
+    copy_target(
+            section,
             scope,
             actions,
             temporaries,
@@ -687,6 +614,5 @@ pub fn copy_statement(
             next,
             st,
             walk,
-        ),
-    }
+        )
 }

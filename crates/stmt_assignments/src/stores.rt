@@ -15,8 +15,7 @@ use list_values::value::{Value, absent, no_output};
 use stmt_walk::walk::{Step, Walk, pushed_then, stop};
 
 pub fn store(
-    stream: &[u8],
-    table: &[u16; table::LENGTH],
+    section: Section<'_>,
     actions: &mut [u64],
     temporaries: &mut [u64],
     env: Env,
@@ -27,13 +26,12 @@ pub fn store(
     state: State,
     walk: Walk,
 ) -> Step
-    ensures { stepped result actions.new temporaries.new ≡ store stream.now table.now actions.old temporaries.old env pointer size value next state walk }
+    ensures { stepped result actions.new temporaries.new ≡ store section.entry.stream.now section.entry.table.now actions.old temporaries.old env pointer size value next state walk }
 {
-    let x = take_stated(stream, table, temporaries, value, size, state);
+    let x = take_stated(section, temporaries, value, size, state);
     pushed_then(
         push_op(
-            stream,
-            table,
+            section,
             actions,
             temporaries,
             env,
@@ -51,8 +49,7 @@ pub fn store(
 }
 
 fn store_register(
-    stream: &[u8],
-    table: &[u16; table::LENGTH],
+    section: Section<'_>,
     actions: &mut [u64],
     temporaries: &mut [u64],
     pointer: Value,
@@ -62,9 +59,9 @@ fn store_register(
     state: State,
     walk: Walk,
 ) -> Step
-    ensures { stepped result actions.new temporaries.new ≡ store_register stream.now table.now actions.old temporaries.old pointer size value next state walk }
+    ensures { stepped result actions.new temporaries.new ≡ store_register section.entry.stream.now section.entry.table.now actions.old temporaries.old pointer size value next state walk }
 {
-    let x = set_stated(stream, table, temporaries, value, size, state);
+    let x = set_stated(section, temporaries, value, size, state);
     pushed_then(
         push(
             actions,
@@ -83,8 +80,7 @@ fn store_register(
 }
 
 fn store_at(
-    stream: &[u8],
-    table: &[u16; table::LENGTH],
+    section: Section<'_>,
     actions: &mut [u64],
     temporaries: &mut [u64],
     env: Env,
@@ -94,12 +90,11 @@ fn store_at(
     state: State,
     walk: Walk,
 ) -> Step
-    ensures { stepped result actions.new temporaries.new ≡ store_at stream.now table.now actions.old temporaries.old env expr value next state walk }
+    ensures { stepped result actions.new temporaries.new ≡ store_at section.entry.stream.now section.entry.table.now actions.old temporaries.old env expr value next state walk }
 {
     match expr {
         ExprValue::RamRef { pointer, size } => store(
-            stream,
-            table,
+            section,
             actions,
             temporaries,
             env,
@@ -111,8 +106,7 @@ fn store_at(
             walk,
         ),
         ExprValue::RegisterRef { pointer, size } => store_register(
-            stream,
-            table,
+            section,
             actions,
             temporaries,
             pointer,
@@ -122,13 +116,12 @@ fn store_at(
             state,
             walk,
         ),
-        _ => stop(walk, refusal::STORE_TO_NO_ADDRESS),
+        _ => stop(walk, Refusal::StoreToNoAddress),
     }
 }
 
 fn store_in(
-    stream: &[u8],
-    table: &[u16; table::LENGTH],
+    section: Section<'_>,
     actions: &mut [u64],
     temporaries: &mut [u64],
     env: Env,
@@ -139,13 +132,12 @@ fn store_in(
     state: State,
     walk: Walk,
 ) -> Step
-    ensures { stepped result actions.new temporaries.new ≡ store_in stream.now table.now actions.old temporaries.old env pos expr value end state walk }
+    ensures { stepped result actions.new temporaries.new ≡ store_in section.entry.stream.now section.entry.table.now actions.old temporaries.old env pos expr value end state walk }
 {
-    let space = u16_in(stream, pos, 1);
-    let size = u16_in(stream, pos, 3);
-    match resolve_address(
-        stream,
-        table,
+    let space = u16_in(section.stream, pos, 1);
+    let size = u16_in(section.stream, pos, 3);
+    let (next, to, st1) = resolve_address(
+        section,
         actions,
         temporaries,
         env,
@@ -154,15 +146,9 @@ fn store_in(
         expr,
         end,
         state,
-    ) {
-        Expr::No(n) => stop(walk, n),
-        Expr::Value {
-            x: to,
-            next,
-            st: st1,
-        } => store_at(
-            stream,
-            table,
+    )?;
+    store_at(
+            section,
             actions,
             temporaries,
             env,
@@ -171,13 +157,11 @@ fn store_in(
             next,
             st1,
             walk,
-        ),
-    }
+        )
 }
 
 fn store_pointer(
-    stream: &[u8],
-    table: &[u16; table::LENGTH],
+    section: Section<'_>,
     scope: &[u64],
     actions: &mut [u64],
     temporaries: &mut [u64],
@@ -188,27 +172,20 @@ fn store_pointer(
     state: State,
     walk: Walk,
 ) -> Step
-    ensures { stepped result actions.new temporaries.new ≡ store_pointer stream.now table.now scope.now actions.old temporaries.old env pos value end state walk }
+    ensures { stepped result actions.new temporaries.new ≡ store_pointer section.entry.stream.now section.entry.table.now scope.now actions.old temporaries.old env pos value end state walk }
 {
-    match resolve_expr(
+    let (_, x, st1) = resolve_expr(
         DEPTH,
-        stream,
-        table,
+        section,
         scope,
         after(pos, 5),
         env,
         actions,
         temporaries,
         state,
-    ) {
-        Expr::No(n) => stop(walk, n),
-        Expr::Value {
-            x,
-            next: _,
-            st: st1,
-        } => store_in(
-            stream,
-            table,
+    )?;
+    store_in(
+            section,
             actions,
             temporaries,
             env,
@@ -218,13 +195,11 @@ fn store_pointer(
             end,
             st1,
             walk,
-        ),
-    }
+        )
 }
 
 pub fn store_statement(
-    stream: &[u8],
-    table: &[u16; table::LENGTH],
+    section: Section<'_>,
     scope: &[u64],
     actions: &mut [u64],
     temporaries: &mut [u64],
@@ -232,25 +207,22 @@ pub fn store_statement(
     pos: usize,
     walk: Walk,
 ) -> Step
-    ensures { stepped result actions.new temporaries.new ≡ store_statement stream.now table.now scope.now actions.old temporaries.old env pos walk }
+    ensures { stepped result actions.new temporaries.new ≡ store_statement section.entry.stream.now section.entry.table.now scope.now actions.old temporaries.old env pos walk }
 {
     let pointer = after(pos, 5);
-    let value_at = skip_expr(stream, pointer);
-    match expr_value(
+    let value_at = skip_expr(section.stream, pointer);
+    let (v, next, st) = expr_value(
         DEPTH,
-        stream,
-        table,
+        section,
         scope,
         value_at,
         env,
         actions,
         temporaries,
         walk.st,
-    ) {
-        Operand::No(n) => stop(walk, n),
-        Operand::Value { v, next, st } => store_pointer(
-            stream,
-            table,
+    )?;
+    store_pointer(
+            section,
             scope,
             actions,
             temporaries,
@@ -260,6 +232,5 @@ pub fn store_statement(
             next,
             st,
             walk,
-        ),
-    }
+        )
 }

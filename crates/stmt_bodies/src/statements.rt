@@ -23,8 +23,7 @@ const MOST_STATEMENTS: u64 = 4096;
 
 fn simple(
     code: u64,
-    stream: &[u8],
-    table: &[u16; table::LENGTH],
+    section: Section<'_>,
     scope: &mut [u64],
     actions: &mut [u64],
     temporaries: &mut [u64],
@@ -32,12 +31,11 @@ fn simple(
     pos: usize,
     walk: Walk,
 ) -> Step
-    ensures { walked result scope.new actions.new temporaries.new ≡ simple code stream.now table.now scope.old actions.old temporaries.old env pos walk }
+    ensures { walked result scope.new actions.new temporaries.new ≡ simple code section.entry.stream.now section.entry.table.now scope.old actions.old temporaries.old env pos walk }
 {
     match code {
         statement::UNIMPLEMENTED => unimplemented(
-            stream,
-            table,
+            section,
             actions,
             temporaries,
             env,
@@ -45,8 +43,7 @@ fn simple(
             walk,
         ),
         statement::EXPORT => export_statement(
-            stream,
-            table,
+            section,
             scope,
             actions,
             temporaries,
@@ -54,10 +51,9 @@ fn simple(
             pos,
             walk,
         ),
-        statement::LOCAL => local_statement(stream, table, scope, temporaries, env, pos, walk),
+        statement::LOCAL => local_statement(section, scope, temporaries, env, pos, walk),
         statement::LOCAL_ASSIGNMENT => local_assignment(
-            stream,
-            table,
+            section,
             scope,
             actions,
             temporaries,
@@ -65,10 +61,9 @@ fn simple(
             pos,
             walk,
         ),
-        statement::BUILD => build(stream, table, actions, pos, walk),
+        statement::BUILD => build(section, actions, pos, walk),
         statement::COPY => copy_statement(
-            stream,
-            table,
+            section,
             scope,
             actions,
             temporaries,
@@ -76,15 +71,14 @@ fn simple(
             pos,
             walk,
         ),
-        _ => store_statement(stream, table, scope, actions, temporaries, env, pos, walk),
+        _ => store_statement(section, scope, actions, temporaries, env, pos, walk),
     }
 }
 
 // A statement that is no call.
 fn other_statement(
     code: u64,
-    stream: &[u8],
-    table: &[u16; table::LENGTH],
+    section: Section<'_>,
     scope: &mut [u64],
     actions: &mut [u64],
     temporaries: &mut [u64],
@@ -92,13 +86,12 @@ fn other_statement(
     pos: usize,
     walk: Walk,
 ) -> Step
-    ensures { walked result scope.new actions.new temporaries.new ≡ other_statement code stream.now table.now scope.old actions.old temporaries.old env pos walk }
+    ensures { walked result scope.new actions.new temporaries.new ≡ other_statement code section.entry.stream.now section.entry.table.now scope.old actions.old temporaries.old env pos walk }
 {
     match code {
-        statement::BRANCH => branch(stream, table, scope, actions, temporaries, env, pos, walk),
+        statement::BRANCH => branch(section, scope, actions, temporaries, env, pos, walk),
         statement::COND_BRANCH => cond_branch(
-            stream,
-            table,
+            section,
             scope,
             actions,
             temporaries,
@@ -107,8 +100,7 @@ fn other_statement(
             walk,
         ),
         statement::LABEL => label_statement(
-            stream,
-            table,
+            section,
             scope,
             actions,
             temporaries,
@@ -118,8 +110,7 @@ fn other_statement(
         ),
         _ => simple(
             code,
-            stream,
-            table,
+            section,
             scope,
             actions,
             temporaries,
@@ -159,13 +150,13 @@ fn begin(walk: Walk, ordinal: u64) -> Step
 {
     if walk.export.kind != 0 {
         return Step::Stop {
-            refusal: refusal::AFTER_EXPORT,
+            refusal: Refusal::AfterExport,
             ordinal,
         };
     }
     if MOST_STATEMENTS <= walk.statements {
         return Step::Stop {
-            refusal: refusal::TOO_MANY_STATEMENTS,
+            refusal: Refusal::TooManyStatements,
             ordinal,
         };
     }
@@ -214,8 +205,7 @@ fn first_ordinal(table: &[u16; table::LENGTH], id: u64) -> u64
 #[cycle(body_call_statement_enter_macro_statement_statement)]
 fn enter(
     deep: u64,
-    stream: &[u8],
-    table: &[u16; table::LENGTH],
+    section: Section<'_>,
     scope: &mut [u64],
     actions: &mut [u64],
     temporaries: &mut [u64],
@@ -226,22 +216,21 @@ fn enter(
     state: State,
     walk: Walk,
 ) -> Step
-    ensures { walked result scope.new actions.new temporaries.new ≡ enter_macro deep stream.now table.now scope.old actions.old temporaries.old env id arguments next state walk }
+    ensures { walked result scope.new actions.new temporaries.new ≡ enter_macro deep section.entry.stream.now section.entry.table.now scope.old actions.old temporaries.old env id arguments next state walk }
 {
     if deep == 0 {
-        return stop(walk, refusal::MACRO_TOO_DEEP);
+        return stop(walk, Refusal::MacroTooDeep);
     }
-    let start = body_at(macro_at(table, id), arguments);
-    let count = u16_in(stream, start, 0);
+    let start = body_at(macro_at(section.table, id), arguments);
+    let count = u16_in(section.stream, start, 0);
     let inner = macro_env(env, arguments);
-    let first = first_ordinal(table, id);
+    let first = first_ordinal(section.table, id);
     let below = deep - 1;
     let from = after(start, 2);
     let walk = with_state(walk, state);
     let r = body(
         below,
-        stream,
-        table,
+        section,
         scope,
         actions,
         temporaries,
@@ -257,8 +246,7 @@ fn enter(
 #[cycle(body_call_statement_enter_macro_statement_statement)]
 fn macro_statement(
     deep: u64,
-    stream: &[u8],
-    table: &[u16; table::LENGTH],
+    section: Section<'_>,
     scope: &[u64],
     actions: &mut [u64],
     temporaries: &mut [u64],
@@ -268,12 +256,11 @@ fn macro_statement(
     arguments: u64,
     walk: Walk,
 ) -> Step
-    ensures { stepped result actions.new temporaries.new ≡ macro_statement (enter_macro deep stream.now table.now) stream.now table.now scope.now actions.old temporaries.old env pos id arguments walk }
+    ensures { stepped result actions.new temporaries.new ≡ macro_statement (enter_macro deep section.entry.stream.now section.entry.table.now) section.entry.stream.now section.entry.table.now scope.now actions.old temporaries.old env pos id arguments walk }
 {
     let mut inner = [0u64; SCOPE_WORDS];
-    match macro_args(
-        stream,
-        table,
+    let (next, st) = macro_args(
+        section,
         scope,
         actions,
         temporaries,
@@ -283,12 +270,10 @@ fn macro_statement(
         id,
         arguments,
         walk.st,
-    ) {
-        Args::No(k) => stop(walk, k),
-        Args::Done { next, st } => enter(
+    )?;
+    enter(
             deep,
-            stream,
-            table,
+            section,
             &mut inner,
             actions,
             temporaries,
@@ -298,15 +283,13 @@ fn macro_statement(
             next,
             st,
             walk,
-        ),
-    }
+        )
 }
 
 #[cycle(body_call_statement_enter_macro_statement_statement)]
 fn call_statement(
     deep: u64,
-    stream: &[u8],
-    table: &[u16; table::LENGTH],
+    section: Section<'_>,
     scope: &[u64],
     actions: &mut [u64],
     temporaries: &mut [u64],
@@ -314,14 +297,13 @@ fn call_statement(
     pos: usize,
     walk: Walk,
 ) -> Step
-    ensures { stepped result actions.new temporaries.new ≡ call_statement (enter_macro deep stream.now table.now) stream.now table.now scope.now actions.old temporaries.old env pos walk }
+    ensures { stepped result actions.new temporaries.new ≡ call_statement (enter_macro deep section.entry.stream.now section.entry.table.now) section.entry.stream.now section.entry.table.now scope.now actions.old temporaries.old env pos walk }
 {
-    let n = access::byte(stream, pos, 3);
-    match called_of(stream, table, u16_in(stream, pos, 1)) {
-        Called::DelaySlot => delay_slot(stream, actions, pos, n, walk),
+    let n = access::byte(section.stream, pos, 3);
+    match called_of(section, u16_in(section.stream, pos, 1)) {
+        Called::DelaySlot => delay_slot(section.stream, actions, pos, n, walk),
         Called::UserOp(id) => user_op_statement(
-            stream,
-            table,
+            section,
             scope,
             actions,
             temporaries,
@@ -333,8 +315,7 @@ fn call_statement(
         ),
         Called::Macro(id) => macro_statement(
             deep,
-            stream,
-            table,
+            section,
             scope,
             actions,
             temporaries,
@@ -351,8 +332,7 @@ fn call_statement(
 #[cycle(body_call_statement_enter_macro_statement_statement)]
 fn statement(
     deep: u64,
-    stream: &[u8],
-    table: &[u16; table::LENGTH],
+    section: Section<'_>,
     scope: &mut [u64],
     actions: &mut [u64],
     temporaries: &mut [u64],
@@ -361,7 +341,7 @@ fn statement(
     ordinal: u64,
     walk: Walk,
 ) -> Step
-    ensures { walked result scope.new actions.new temporaries.new ≡ resolve_statement (enter_macro deep stream.now table.now) stream.now table.now env pos ordinal scope.old actions.old temporaries.old walk }
+    ensures { walked result scope.new actions.new temporaries.new ≡ resolve_statement (enter_macro deep section.entry.stream.now section.entry.table.now) section.entry.stream.now section.entry.table.now env pos ordinal scope.old actions.old temporaries.old walk }
 {
     match begin(walk, ordinal) {
         Step::Stop {
@@ -372,12 +352,11 @@ fn statement(
             ordinal: o,
         },
         Step::Next { next: _, w: b } => {
-            let code = access::byte(stream, pos, 0);
+            let code = access::byte(section.stream, pos, 0);
             if code == statement::CALL {
                 return call_statement(
                     deep,
-                    stream,
-                    table,
+                    section,
                     scope,
                     actions,
                     temporaries,
@@ -388,8 +367,7 @@ fn statement(
             }
             other_statement(
                 code,
-                stream,
-                table,
+                section,
                 scope,
                 actions,
                 temporaries,
@@ -413,8 +391,7 @@ fn forward(pos: usize, next: usize, len: usize) -> bool
 #[cycle(body_call_statement_enter_macro_statement_statement)]
 pub fn body(
     deep: u64,
-    stream: &[u8],
-    table: &[u16; table::LENGTH],
+    section: Section<'_>,
     scope: &mut [u64],
     actions: &mut [u64],
     temporaries: &mut [u64],
@@ -424,7 +401,7 @@ pub fn body(
     ordinal: u64,
     walk: Walk,
 ) -> Step
-    ensures { walked result scope.new actions.new temporaries.new ≡ resolve_body deep stream.now table.now scope.old actions.old temporaries.old env pos count ordinal walk }
+    ensures { walked result scope.new actions.new temporaries.new ≡ resolve_body deep section.entry.stream.now section.entry.table.now scope.old actions.old temporaries.old env pos count ordinal walk }
 {
     let mut at = pos;
     let mut walk = walk;
@@ -433,8 +410,7 @@ pub fn body(
         let own = std::num::wrapping_add_u64(ordinal, i);
         match statement(
             deep,
-            stream,
-            table,
+            section,
             scope,
             actions,
             temporaries,
@@ -451,8 +427,8 @@ pub fn body(
                 ordinal: o,
             },
             Step::Next { next, w: w1 } => {
-                if !forward(at, next, stream.len()) {
-                    return stop(w1, refusal::MALFORMED);
+                if !forward(at, next, section.stream.len()) {
+                    return stop(w1, Refusal::Malformed);
                 }
                 at = next;
                 walk = w1;

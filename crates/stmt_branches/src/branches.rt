@@ -15,8 +15,7 @@ use list_values::value::{Value, absent, no_output};
 use stmt_walk::walk::{Step, Walk, pushed_then, stop};
 
 fn push_label(
-    stream: &[u8],
-    table: &[u16; table::LENGTH],
+    section: Section<'_>,
     actions: &mut [u64],
     temporaries: &mut [u64],
     env: Env,
@@ -24,13 +23,12 @@ fn push_label(
     next: usize,
     walk: Walk,
 ) -> Step
-    ensures { stepped result actions.new temporaries.new ≡ push_label stream.now table.now actions.old temporaries.old env id next walk }
+    ensures { stepped result actions.new temporaries.new ≡ push_label section.entry.stream.now section.entry.table.now actions.old temporaries.old env id next walk }
 {
     let here = labelled(walk, walk.st, id, 1);
     pushed_then(
         push_op(
-            stream,
-            table,
+            section,
             actions,
             temporaries,
             env,
@@ -48,8 +46,7 @@ fn push_label(
 }
 
 pub fn label_statement(
-    stream: &[u8],
-    table: &[u16; table::LENGTH],
+    section: Section<'_>,
     scope: &mut [u64],
     actions: &mut [u64],
     temporaries: &mut [u64],
@@ -57,26 +54,22 @@ pub fn label_statement(
     pos: usize,
     walk: Walk,
 ) -> Step
-    ensures { walked result scope.new actions.new temporaries.new ≡ label_statement stream.now table.now scope.old actions.old temporaries.old env pos walk }
+    ensures { walked result scope.new actions.new temporaries.new ≡ label_statement section.entry.stream.now section.entry.table.now scope.old actions.old temporaries.old env pos walk }
 {
-    match resolve_label(scope, u16_in(stream, pos, 1), walk.labels) {
-        Label::No(n) => stop(walk, n),
-        Label::Is(id) => push_label(
-            stream,
-            table,
+    let id = resolve_label(scope, u16_in(section.stream, pos, 1), walk.labels)?;
+    push_label(
+            section,
             actions,
             temporaries,
             env,
             id,
             after(pos, 3),
             walk,
-        ),
-    }
+        )
 }
 
 fn branch_to(
-    stream: &[u8],
-    table: &[u16; table::LENGTH],
+    section: Section<'_>,
     actions: &mut [u64],
     temporaries: &mut [u64],
     env: Env,
@@ -86,13 +79,12 @@ fn branch_to(
     state: State,
     walk: Walk,
 ) -> Step
-    ensures { stepped result actions.new temporaries.new ≡ branch_to stream.now table.now actions.old temporaries.old env cond address hint state walk }
+    ensures { stepped result actions.new temporaries.new ≡ branch_to section.entry.stream.now section.entry.table.now actions.old temporaries.old env cond address hint state walk }
 {
-    let number = access::byte(stream, hint, 0);
+    let number = access::byte(section.stream, hint, 0);
     pushed_then(
         push_op(
-            stream,
-            table,
+            section,
             actions,
             temporaries,
             env,
@@ -110,8 +102,7 @@ fn branch_to(
 }
 
 fn branch_label(
-    stream: &[u8],
-    table: &[u16; table::LENGTH],
+    section: Section<'_>,
     actions: &mut [u64],
     temporaries: &mut [u64],
     env: Env,
@@ -121,13 +112,12 @@ fn branch_label(
     state: State,
     walk: Walk,
 ) -> Step
-    ensures { stepped result actions.new temporaries.new ≡ branch_label stream.now table.now actions.old temporaries.old env id cond next state walk }
+    ensures { stepped result actions.new temporaries.new ≡ branch_label section.entry.stream.now section.entry.table.now actions.old temporaries.old env id cond next state walk }
 {
     let here = labelled(walk, state, id, 0);
     pushed_then(
         push_op(
-            stream,
-            table,
+            section,
             actions,
             temporaries,
             env,
@@ -145,8 +135,7 @@ fn branch_label(
 }
 
 fn label_branch(
-    stream: &[u8],
-    table: &[u16; table::LENGTH],
+    section: Section<'_>,
     scope: &mut [u64],
     actions: &mut [u64],
     temporaries: &mut [u64],
@@ -156,13 +145,11 @@ fn label_branch(
     state: State,
     walk: Walk,
 ) -> Step
-    ensures { walked result scope.new actions.new temporaries.new ≡ label_branch stream.now table.now scope.old actions.old temporaries.old env pos cond state walk }
+    ensures { walked result scope.new actions.new temporaries.new ≡ label_branch section.entry.stream.now section.entry.table.now scope.old actions.old temporaries.old env pos cond state walk }
 {
-    match get_or_insert_label(scope, u16_in(stream, pos, 1), walk.labels) {
-        Label::No(n) => stop(walk, n),
-        Label::Is(id) => branch_label(
-            stream,
-            table,
+    let id = get_or_insert_label(scope, u16_in(section.stream, pos, 1), walk.labels)?;
+    branch_label(
+            section,
             actions,
             temporaries,
             env,
@@ -171,26 +158,24 @@ fn label_branch(
             after(pos, 4),
             state,
             walk,
-        ),
-    }
+        )
 }
 
 // What a jump goes to: a name, or an integer with a size.
 fn jump_value(
-    stream: &[u8],
-    table: &[u16; table::LENGTH],
+    section: Section<'_>,
     scope: &[u64],
     pos: usize,
     env: Env,
-) -> Meaning
-    ensures { result ≡ jump_value stream.now table.now scope.now pos env }
+) -> Result<ExprValue, Refusal>
+    ensures { to_meaning result ≡ jump_value section.entry.stream.now section.entry.table.now scope.now pos env }
 {
-    if access::byte(stream, pos, 0) == statement::JUMP_IDENT {
-        return resolve_ident(stream, table, scope, env, u16_in(stream, pos, 1));
+    if access::byte(section.stream, pos, 0) == statement::JUMP_IDENT {
+        return resolve_ident(section, scope, env, u16_in(section.stream, pos, 1));
     }
-    Meaning::Means(ExprValue::Const {
-        value: access::u64_at(stream, after(pos, 1)),
-        size: u16_in(stream, pos, 9),
+    Ok(ExprValue::Const {
+        value: access::u64_at(section.stream, after(pos, 1)),
+        size: u16_in(section.stream, pos, 9),
     })
 }
 
@@ -219,8 +204,7 @@ fn direct_address(value: Value, pointer: u64) -> Value
 }
 
 fn direct(
-    stream: &[u8],
-    table: &[u16; table::LENGTH],
+    section: Section<'_>,
     actions: &mut [u64],
     temporaries: &mut [u64],
     env: Env,
@@ -230,12 +214,11 @@ fn direct(
     state: State,
     walk: Walk,
 ) -> Step
-    ensures { stepped result actions.new temporaries.new ≡ direct stream.now table.now actions.old temporaries.old env expr cond hint state walk }
+    ensures { stepped result actions.new temporaries.new ≡ direct section.entry.stream.now section.entry.table.now actions.old temporaries.old env expr cond hint state walk }
 {
     match expr {
         ExprValue::Local(v) => branch_to(
-            stream,
-            table,
+            section,
             actions,
             temporaries,
             env,
@@ -245,13 +228,12 @@ fn direct(
             state,
             walk,
         ),
-        _ => stop(walk, refusal::JUMP_TO_NON_LOCAL),
+        _ => stop(walk, Refusal::JumpToNonLocal),
     }
 }
 
 fn indirect(
-    stream: &[u8],
-    table: &[u16; table::LENGTH],
+    section: Section<'_>,
     actions: &mut [u64],
     temporaries: &mut [u64],
     env: Env,
@@ -261,13 +243,11 @@ fn indirect(
     state: State,
     walk: Walk,
 ) -> Step
-    ensures { stepped result actions.new temporaries.new ≡ indirect stream.now table.now actions.old temporaries.old env expr cond hint state walk }
+    ensures { stepped result actions.new temporaries.new ≡ indirect section.entry.stream.now section.entry.table.now actions.old temporaries.old env expr cond hint state walk }
 {
-    match read_operand(stream, table, actions, temporaries, env, expr, state) {
-        Read::No(n) => stop(walk, n),
-        Read::Value { v, st: st1 } => branch_to(
-            stream,
-            table,
+    let (v, st1) = read_operand(section, actions, temporaries, env, expr, state)?;
+    branch_to(
+            section,
             actions,
             temporaries,
             env,
@@ -276,14 +256,12 @@ fn indirect(
             hint,
             st1,
             walk,
-        ),
-    }
+        )
 }
 
 fn jump_to(
     code: u64,
-    stream: &[u8],
-    table: &[u16; table::LENGTH],
+    section: Section<'_>,
     actions: &mut [u64],
     temporaries: &mut [u64],
     env: Env,
@@ -293,12 +271,11 @@ fn jump_to(
     state: State,
     walk: Walk,
 ) -> Step
-    ensures { stepped result actions.new temporaries.new ≡ jump_to code stream.now table.now actions.old temporaries.old env expr cond hint state walk }
+    ensures { stepped result actions.new temporaries.new ≡ jump_to code section.entry.stream.now section.entry.table.now actions.old temporaries.old env expr cond hint state walk }
 {
     if code == statement::DST_DIRECT {
         return direct(
-            stream,
-            table,
+            section,
             actions,
             temporaries,
             env,
@@ -310,8 +287,7 @@ fn jump_to(
         );
     }
     indirect(
-        stream,
-        table,
+        section,
         actions,
         temporaries,
         env,
@@ -324,8 +300,7 @@ fn jump_to(
 }
 
 fn jump(
-    stream: &[u8],
-    table: &[u16; table::LENGTH],
+    section: Section<'_>,
     scope: &[u64],
     actions: &mut [u64],
     temporaries: &mut [u64],
@@ -335,31 +310,27 @@ fn jump(
     state: State,
     walk: Walk,
 ) -> Step
-    ensures { stepped result actions.new temporaries.new ≡ jump stream.now table.now scope.now actions.old temporaries.old env pos cond state walk }
+    ensures { stepped result actions.new temporaries.new ≡ jump section.entry.stream.now section.entry.table.now scope.now actions.old temporaries.old env pos cond state walk }
 {
     let target = after(pos, 1);
-    let code = access::byte(stream, pos, 0);
-    match jump_value(stream, table, scope, target, env) {
-        Meaning::Wrong(n) => stop(walk, n),
-        Meaning::Means(x) => jump_to(
+    let code = access::byte(section.stream, pos, 0);
+    let x = jump_value(section, scope, target, env)?;
+    jump_to(
             code,
-            stream,
-            table,
+            section,
             actions,
             temporaries,
             env,
             x,
             cond,
-            after_jump(stream, target),
+            after_jump(section.stream, target),
             state,
             walk,
-        ),
-    }
+        )
 }
 
 fn resolve_branch(
-    stream: &[u8],
-    table: &[u16; table::LENGTH],
+    section: Section<'_>,
     scope: &mut [u64],
     actions: &mut [u64],
     temporaries: &mut [u64],
@@ -369,12 +340,11 @@ fn resolve_branch(
     state: State,
     walk: Walk,
 ) -> Step
-    ensures { walked result scope.new actions.new temporaries.new ≡ resolve_branch stream.now table.now scope.old actions.old temporaries.old env pos cond state walk }
+    ensures { walked result scope.new actions.new temporaries.new ≡ resolve_branch section.entry.stream.now section.entry.table.now scope.old actions.old temporaries.old env pos cond state walk }
 {
-    if access::byte(stream, pos, 0) == statement::DST_LABEL {
+    if access::byte(section.stream, pos, 0) == statement::DST_LABEL {
         return label_branch(
-            stream,
-            table,
+            section,
             scope,
             actions,
             temporaries,
@@ -386,8 +356,7 @@ fn resolve_branch(
         );
     }
     jump(
-        stream,
-        table,
+        section,
         scope,
         actions,
         temporaries,
@@ -400,8 +369,7 @@ fn resolve_branch(
 }
 
 pub fn branch(
-    stream: &[u8],
-    table: &[u16; table::LENGTH],
+    section: Section<'_>,
     scope: &mut [u64],
     actions: &mut [u64],
     temporaries: &mut [u64],
@@ -409,11 +377,10 @@ pub fn branch(
     pos: usize,
     walk: Walk,
 ) -> Step
-    ensures { walked result scope.new actions.new temporaries.new ≡ branch stream.now table.now scope.old actions.old temporaries.old env pos walk }
+    ensures { walked result scope.new actions.new temporaries.new ≡ branch section.entry.stream.now section.entry.table.now scope.old actions.old temporaries.old env pos walk }
 {
     resolve_branch(
-        stream,
-        table,
+        section,
         scope,
         actions,
         temporaries,
@@ -426,8 +393,7 @@ pub fn branch(
 }
 
 pub fn cond_branch(
-    stream: &[u8],
-    table: &[u16; table::LENGTH],
+    section: Section<'_>,
     scope: &mut [u64],
     actions: &mut [u64],
     temporaries: &mut [u64],
@@ -435,23 +401,20 @@ pub fn cond_branch(
     pos: usize,
     walk: Walk,
 ) -> Step
-    ensures { walked result scope.new actions.new temporaries.new ≡ cond_branch stream.now table.now scope.old actions.old temporaries.old env pos walk }
+    ensures { walked result scope.new actions.new temporaries.new ≡ cond_branch section.entry.stream.now section.entry.table.now scope.old actions.old temporaries.old env pos walk }
 {
-    match expr_value(
+    let (v, next, st) = expr_value(
         DEPTH,
-        stream,
-        table,
+        section,
         scope,
         after(pos, 1),
         env,
         actions,
         temporaries,
         walk.st,
-    ) {
-        Operand::No(n) => stop(walk, n),
-        Operand::Value { v, next, st } => resolve_branch(
-            stream,
-            table,
+    )?;
+    resolve_branch(
+            section,
             scope,
             actions,
             temporaries,
@@ -460,6 +423,5 @@ pub fn cond_branch(
             v,
             st,
             walk,
-        ),
-    }
+        )
 }

@@ -27,41 +27,39 @@ fn label_place(name: u64) -> usize
 }
 
 // The label of a name in a scope, else the next one, up to 256.
-pub fn get_or_insert_label(scope: &mut [u64], name: u64, count: u64) -> Label
-    ensures { listed result scope.new ≡ get_or_insert_label scope.old name count }
+pub fn get_or_insert_label(scope: &mut [u64], name: u64, count: u64) -> Result<u64, Refusal>
+    ensures { listed (to_label result) scope.new ≡ get_or_insert_label scope.old name count }
 {
     let at = label_place(name);
     let n = small(scope, at) % PLACED;
     if n != 0 {
-        return Label::Is(n - 1);
+        return Ok(n - 1);
     }
     if MOST_LABELS <= count {
-        return Label::No(refusal::TOO_MANY_LABELS);
+        return Err(Refusal::TooManyLabels);
     }
     put_small(scope, at, count + 1);
-    Label::Is(count)
+    Ok(count)
 }
 
-fn place_label(scope: &mut [u64], id: u64, name: u64) -> Label
-    ensures { listed result scope.new ≡ place_label scope.old id name }
+fn place_label(scope: &mut [u64], id: u64, name: u64) -> Result<u64, Refusal>
+    ensures { listed (to_label result) scope.new ≡ place_label scope.old id name }
 {
     let at = label_place(name);
     let n = small(scope, at);
     if PLACED <= n {
-        return Label::No(refusal::LABEL_TWICE);
+        return Err(Refusal::LabelTwice);
     }
     put_small(scope, at, n + PLACED);
-    Label::Is(id)
+    Ok(id)
 }
 
 // A label is placed once.
-pub fn resolve_label(scope: &mut [u64], name: u64, count: u64) -> Label
-    ensures { listed result scope.new ≡ resolve_label scope.old name count }
+pub fn resolve_label(scope: &mut [u64], name: u64, count: u64) -> Result<u64, Refusal>
+    ensures { listed (to_label result) scope.new ≡ resolve_label scope.old name count }
 {
-    match get_or_insert_label(scope, name, count) {
-        Label::No(k) => Label::No(k),
-        Label::Is(id) => place_label(scope, id, name),
-    }
+    let id = get_or_insert_label(scope, name, count)?;
+    place_label(scope, id, name)
 }
 
 fn labels_after(id: u64, labels: u64) -> u64

@@ -22,13 +22,13 @@ use Rattle.definition.specs.ActionList.{or_none}
 use Rattle.definition.proofs.Openers.{base_opens}
 use Rattle.list_pushes.specs.declared.push.State.{State as WordState}
 use Rattle.list_pushes.specs.declared.push.Env.{Env as WordEnv}
-use Rattle.list_pushes.specs.declared.push.Read.{Read}
+use Rattle.list_pushes.specs.Outcomes.{Read}
 use Rattle.list_pushes.specs.Pushes.{ReadOut, read}
 use Rattle.list_refinement.specs.Encoding.{enc_v, Sound, first_of, second_of}
 use Rattle.list_refinement.proofs.Settled.{size_is, known_small}
 use Rattle.list_refinement.proofs.Seen.{Seen, no, yes, seen_read}
 use Rattle.list_values.specs.Values as words
-use Rattle.list_values.specs.declared.value.Slice.{Slice}
+use Rattle.list_values.specs.Outcomes.{Slice}
 use Rattle.expr_reading.specs.Reading.{byte_aligned, slice_read, sliced, read_value}
 use Rattle.stmt_walk.specs.declared.walk.Walk.{Walk}
 use Rattle.stmt_walk.specs.Walks.{Stepped, stepped, step_read, stop, read_then}

@@ -24,7 +24,7 @@ use Rattle.definition_guarantee.proofs.Entries.{find-last}
 use Rattle.list_values.specs.declared.value.Value.{Value as WordValue}
 use Rattle.list_pushes.specs.declared.push.State.{State as WordState}
 use Rattle.list_pushes.specs.declared.push.Env.{Env as WordEnv}
-use Rattle.list_pushes.specs.declared.push.Read.{Read}
+use Rattle.list_pushes.specs.Outcomes.{Read}
 use Rattle.list_values.specs.Base.{Listed, listed}
 use Rattle.list_pushes.specs.Pushes.{ReadOut, read, on_read, on_tmp}
 use Rattle.list_refinement.specs.Encoding.{enc_v, actions_in, Sound}

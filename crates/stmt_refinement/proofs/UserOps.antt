@@ -27,7 +27,7 @@ use Rattle.definition.proofs.Openers.{base_opens, operations_opens, sizes_opens}
 use Rattle.list_values.specs.declared.value.Value.{Value as WordValue}
 use Rattle.list_pushes.specs.declared.push.State.{State as WordState}
 use Rattle.list_pushes.specs.declared.push.Env.{Env as WordEnv}
-use Rattle.list_pushes.specs.declared.push.Pushed.{Pushed}
+use Rattle.list_pushes.specs.Outcomes.{Pushed}
 use Rattle.list_values.specs.Base.{Listed, listed, then_l}
 use Rattle.access.specs.Loops.{run}
 use Rattle.list_values.specs.Values.{absent, no_output, word, value_of, value_at, put_value}

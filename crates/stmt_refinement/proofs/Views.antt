@@ -10,8 +10,8 @@ use Rattle.definition.specs.Value.{Export}
 use Rattle.definition.specs.Ast.{Section}
 use Rattle.definition.specs.Walk as walks
 use Rattle.definition.specs.Walk.{State, Env, Outcome, done, stopped, on}
-use Rattle.list_pushes.specs.declared.push.Read.{Read}
-use Rattle.list_pushes.specs.declared.push.Pushed.{Pushed}
+use Rattle.list_pushes.specs.Outcomes.{Read}
+use Rattle.list_pushes.specs.Outcomes.{Pushed}
 use Rattle.list_values.specs.Base.{Listed, listed, then_l}
 use Rattle.prelude.specs.Base.{when◌then◌else◌}
 use Rattle.list_pushes.specs.Pushes.{ReadOut, read, PushedOut, pushed}

@@ -31,20 +31,20 @@ fn symbol_called(symbol: Symbol) -> Called
     ensures { result ≡ symbol_called symbol }
 {
     match symbol {
-        Symbol::Undefined => Called::No(refusal::UNDEFINED),
+        Symbol::Undefined => Called::No(Refusal::Undefined),
         Symbol::UserOp(id) => Called::UserOp(id),
         Symbol::Macro(id) => Called::Macro(id),
-        _ => Called::No(refusal::WRONG_KIND),
+        _ => Called::No(Refusal::WrongKind),
     }
 }
 
-pub fn called_of(stream: &[u8], table: &[u16; table::LENGTH], name: u64) -> Called
-    ensures { result ≡ called_of stream.now table.now name }
+pub fn called_of(section: Section<'_>, name: u64) -> Called
+    ensures { result ≡ called_of section.entry.stream.now section.entry.table.now name }
 {
-    if name == access::u16_at(stream, header::DELAY_SLOT) {
+    if name == access::u16_at(section.stream, header::DELAY_SLOT) {
         return Called::DelaySlot;
     }
-    symbol_called(lookup(table, name))
+    symbol_called(lookup(section.table, name))
 }
 
 pub fn delay_slot(stream: &[u8], actions: &mut [u64], pos: usize, count: u64, walk: Walk) -> Step
@@ -67,41 +67,35 @@ pub fn delay_slot(stream: &[u8], actions: &mut [u64], pos: usize, count: u64, wa
             walk,
         );
     }
-    stop(walk, refusal::DELAY_SLOT_ARGUMENT)
+    stop(walk, Refusal::DelaySlotArgument)
 }
 
 // Reads n arguments in place: each slot's value becomes an operand.
 fn read_args(
-    stream: &[u8],
-    table: &[u16; table::LENGTH],
+    section: Section<'_>,
     actions: &mut [u64],
     temporaries: &mut [u64],
     args: &mut [u64],
     count: u64,
     env: Env,
     state: State,
-) -> Pushed
-    ensures { args_read result actions.new temporaries.new args.new ≡ read_args count 0 stream.now table.now actions.old temporaries.old args.old env state }
+) -> Result<State, Refusal>
+    ensures { args_read (to_pushed result) actions.new temporaries.new args.new ≡ read_args count 0 section.entry.stream.now section.entry.table.now actions.old temporaries.old args.old env state }
 {
     let mut state = state;
     for i in 0..count {
-        match read_operand(
-            stream,
-            table,
+        let (v, st1) = read_operand(
+            section,
             actions,
             temporaries,
             env,
             arg_at(args, i),
             state,
-        ) {
-            Read::No(k) => return Pushed::No(k),
-            Read::Value { v, st: st1 } => {
-                put_value(args, param_place(i as usize), SLOT_A, v);
+        )?;
+    put_value(args, param_place(i as usize), SLOT_A, v);
                 state = st1;
-            }
-        }
     }
-    Pushed::Done(state)
+    Ok(state)
 }
 
 // The operands that n arguments became, as the inputs of the action at a position.
@@ -114,10 +108,10 @@ fn write_inputs(actions: &mut [u64], at: usize, args: &[u64], count: u64)
     }
 }
 
-fn push_user_op(actions: &mut [u64], args: &[u64], id: u64, count: u64, state: State) -> Pushed
-    ensures { listed result actions.new ≡ push_user_op actions.old args.now id count state }
+fn push_user_op(actions: &mut [u64], args: &[u64], id: u64, count: u64, state: State) -> Result<State, Refusal>
+    ensures { listed (to_pushed result) actions.new ≡ push_user_op actions.old args.now id count state }
 {
-    match push(
+    let st1 = push(
         actions,
         action_kind::OP,
         operation::PCODE_OP,
@@ -127,18 +121,13 @@ fn push_user_op(actions: &mut [u64], args: &[u64], id: u64, count: u64, state: S
         absent(),
         absent(),
         state,
-    ) {
-        Pushed::No(k) => Pushed::No(k),
-        Pushed::Done(st1) => {
-            write_inputs(actions, state.end, args, count);
-            Pushed::Done(st1)
-        }
-    }
+    )?;
+    write_inputs(actions, state.end, args, count);
+            Ok(st1)
 }
 
 fn user_op_args(
-    stream: &[u8],
-    table: &[u16; table::LENGTH],
+    section: Section<'_>,
     actions: &mut [u64],
     temporaries: &mut [u64],
     args: &mut [u64],
@@ -146,18 +135,15 @@ fn user_op_args(
     count: u64,
     env: Env,
     state: State,
-) -> Pushed
-    ensures { args_read result actions.new temporaries.new args.new ≡ user_op_args stream.now table.now actions.old temporaries.old args.old id count env state }
+) -> Result<State, Refusal>
+    ensures { args_read (to_pushed result) actions.new temporaries.new args.new ≡ user_op_args section.entry.stream.now section.entry.table.now actions.old temporaries.old args.old id count env state }
 {
-    match read_args(stream, table, actions, temporaries, args, count, env, state) {
-        Pushed::No(k) => Pushed::No(k),
-        Pushed::Done(st1) => push_user_op(actions, args, id, count, st1),
-    }
+    let st1 = read_args(section, actions, temporaries, args, count, env, state)?;
+    push_user_op(actions, args, id, count, st1)
 }
 
 pub fn user_op_statement(
-    stream: &[u8],
-    table: &[u16; table::LENGTH],
+    section: Section<'_>,
     scope: &[u64],
     actions: &mut [u64],
     temporaries: &mut [u64],
@@ -167,13 +153,12 @@ pub fn user_op_statement(
     count: u64,
     walk: Walk,
 ) -> Step
-    ensures { stepped result actions.new temporaries.new ≡ user_op_statement stream.now table.now scope.now actions.old temporaries.old env pos id count walk }
+    ensures { stepped result actions.new temporaries.new ≡ user_op_statement section.entry.stream.now section.entry.table.now scope.now actions.old temporaries.old env pos id count walk }
 {
     let mut args = [0u64; 64];
-    match resolve_args(
+    let (next, st) = resolve_args(
         DEPTH,
-        stream,
-        table,
+        section,
         scope,
         after(pos, 4),
         count,
@@ -182,12 +167,10 @@ pub fn user_op_statement(
         temporaries,
         &mut args,
         walk.st,
-    ) {
-        Args::No(k) => stop(walk, k),
-        Args::Done { next, st } => pushed_then(
+    )?;
+    pushed_then(
             user_op_args(
-                stream,
-                table,
+                section,
                 actions,
                 temporaries,
                 &mut args,
@@ -198,8 +181,7 @@ pub fn user_op_statement(
             ),
             next,
             walk,
-        ),
-    }
+        )
 }
 
 // Where macro number `id` stands.
@@ -221,25 +203,23 @@ fn bind_names(stream: &[u8], args: &mut [u64], names: usize, count: usize)
 
 // As many arguments as the macro has parameters.
 fn counted(
-    stream: &[u8],
-    table: &[u16; table::LENGTH],
+    section: Section<'_>,
     id: u64,
     count: u64,
     next: usize,
     state: State,
-) -> Args
-    ensures { result ≡ counted stream.now table.now id count next state }
+) -> Result<(usize, State), Refusal>
+    ensures { to_args result ≡ counted section.entry.stream.now section.entry.table.now id count next state }
 {
-    if access::byte(stream, macro_at(table, id), 0) == count {
-        return Args::Done { next, st: state };
+    if access::byte(section.stream, macro_at(section.table, id), 0) == count {
+        return Ok((next, state));
     }
-    Args::No(refusal::MACRO_ARGUMENTS)
+    Err(Refusal::MacroArguments)
 }
 
 // The arguments of a macro call, as its parameters.
 pub fn macro_args(
-    stream: &[u8],
-    table: &[u16; table::LENGTH],
+    section: Section<'_>,
     scope: &[u64],
     actions: &mut [u64],
     temporaries: &mut [u64],
@@ -249,13 +229,12 @@ pub fn macro_args(
     id: u64,
     count: u64,
     state: State,
-) -> Args
-    ensures { passed result actions.new temporaries.new args.new ≡ macro_args stream.now table.now scope.now actions.old temporaries.old args.old env pos id count state }
+) -> Result<(usize, State), Refusal>
+    ensures { passed (to_args result) actions.new temporaries.new args.new ≡ macro_args section.entry.stream.now section.entry.table.now scope.now actions.old temporaries.old args.old env pos id count state }
 {
-    match resolve_args(
+    let (next, st1) = resolve_args(
         DEPTH,
-        stream,
-        table,
+        section,
         scope,
         after(pos, 4),
         count,
@@ -264,11 +243,7 @@ pub fn macro_args(
         temporaries,
         args,
         state,
-    ) {
-        Args::No(k) => Args::No(k),
-        Args::Done { next, st: st1 } => {
-            bind_names(stream, args, after(macro_at(table, id), 1), count as usize);
-            counted(stream, table, id, count, next, st1)
-        }
-    }
+    )?;
+    bind_names(section.stream, args, after(macro_at(section.table, id), 1), count as usize);
+            counted(section, id, count, next, st1)
 }

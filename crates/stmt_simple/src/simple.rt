@@ -17,20 +17,18 @@ use list_values::value::{Value, absent, no_output};
 use stmt_walk::walk::{Export, Step, Walk, pushed_then, read_then, stop};
 
 pub fn unimplemented(
-    stream: &[u8],
-    table: &[u16; codes::table::LENGTH],
+    section: Section<'_>,
     actions: &mut [u64],
     temporaries: &mut [u64],
     env: Env,
     pos: usize,
     walk: Walk,
 ) -> Step
-    ensures { stepped result actions.new temporaries.new ≡ unimplemented stream.now table.now actions.old temporaries.old env pos walk }
+    ensures { stepped result actions.new temporaries.new ≡ unimplemented section.entry.stream.now section.entry.table.now actions.old temporaries.old env pos walk }
 {
     pushed_then(
         push_op(
-            stream,
-            table,
+            section,
             actions,
             temporaries,
             env,
@@ -69,16 +67,13 @@ fn exported(walk: Walk, kind: u64, value: Value, size: u64, state: State, next: 
 fn export_value(answer: Read, next: usize, walk: Walk) -> Step
     ensures { result ≡ export_value next walk answer }
 {
-    match answer {
-        Read::No(n) => stop(walk, n),
-        Read::Value { v, st } => exported(walk, export_kind::VALUE, v, 0, st, next),
-    }
+    let (v, st) = answer?;
+    exported(walk, export_kind::VALUE, v, 0, st, next)
 }
 
 // A reference stays one, anything else is read.
 fn export_of(
-    stream: &[u8],
-    table: &[u16; codes::table::LENGTH],
+    section: Section<'_>,
     actions: &mut [u64],
     temporaries: &mut [u64],
     env: Env,
@@ -87,7 +82,7 @@ fn export_of(
     state: State,
     walk: Walk,
 ) -> Step
-    ensures { stepped result actions.new temporaries.new ≡ export_of stream.now table.now actions.old temporaries.old env expr next state walk }
+    ensures { stepped result actions.new temporaries.new ≡ export_of section.entry.stream.now section.entry.table.now actions.old temporaries.old env expr next state walk }
 {
     match expr {
         ExprValue::RamRef { pointer, size } => exported(
@@ -107,7 +102,7 @@ fn export_of(
             next,
         ),
         _ => export_value(
-            read_operand(stream, table, actions, temporaries, env, expr, state),
+            read_operand(section, actions, temporaries, env, expr, state),
             next,
             walk,
         ),
@@ -115,8 +110,7 @@ fn export_of(
 }
 
 pub fn export_statement(
-    stream: &[u8],
-    table: &[u16; codes::table::LENGTH],
+    section: Section<'_>,
     scope: &[u64],
     actions: &mut [u64],
     temporaries: &mut [u64],
@@ -124,23 +118,20 @@ pub fn export_statement(
     pos: usize,
     walk: Walk,
 ) -> Step
-    ensures { stepped result actions.new temporaries.new ≡ export_statement stream.now table.now scope.now actions.old temporaries.old env pos walk }
+    ensures { stepped result actions.new temporaries.new ≡ export_statement section.entry.stream.now section.entry.table.now scope.now actions.old temporaries.old env pos walk }
 {
-    match resolve_expr(
+    let (next, x, st) = resolve_expr(
         DEPTH,
-        stream,
-        table,
+        section,
         scope,
         after(pos, 1),
         env,
         actions,
         temporaries,
         walk.st,
-    ) {
-        Expr::No(n) => stop(walk, n),
-        Expr::Value { x, next, st } => export_of(
-            stream,
-            table,
+    )?;
+    export_of(
+            section,
             actions,
             temporaries,
             env,
@@ -148,25 +139,23 @@ pub fn export_statement(
             next,
             st,
             walk,
-        ),
-    }
+        )
 }
 
 pub fn local_statement(
-    stream: &[u8],
-    table: &[u16; codes::table::LENGTH],
+    section: Section<'_>,
     scope: &mut [u64],
     temporaries: &mut [u64],
     env: Env,
     pos: usize,
     walk: Walk,
 ) -> Step
-    ensures { stepped result scope.new temporaries.new ≡ local_statement stream.now table.now scope.old temporaries.old env pos walk }
+    ensures { stepped result scope.new temporaries.new ≡ local_statement section.entry.stream.now section.entry.table.now scope.old temporaries.old env pos walk }
 {
-    let name = u16_in(stream, pos, 1);
-    let size = u16_in(stream, pos, 3);
+    let name = u16_in(section.stream, pos, 1);
+    let size = u16_in(section.stream, pos, 3);
     read_then(
-        named_tmp(table, scope, temporaries, env, name, size, walk.st),
+        named_tmp(section.table, scope, temporaries, env, name, size, walk.st),
         after(pos, 5),
         walk,
     )
@@ -174,8 +163,7 @@ pub fn local_statement(
 
 // An expression at a position read into a target.
 fn assign(
-    stream: &[u8],
-    table: &[u16; codes::table::LENGTH],
+    section: Section<'_>,
     scope: &[u64],
     actions: &mut [u64],
     temporaries: &mut [u64],
@@ -185,31 +173,27 @@ fn assign(
     state: State,
     walk: Walk,
 ) -> Step
-    ensures { stepped result actions.new temporaries.new ≡ assign stream.now table.now scope.now actions.old temporaries.old env pos to state walk }
+    ensures { stepped result actions.new temporaries.new ≡ assign section.entry.stream.now section.entry.table.now scope.now actions.old temporaries.old env pos to state walk }
 {
-    match resolve_expr(
+    let (next, x, st1) = resolve_expr(
         DEPTH,
-        stream,
-        table,
+        section,
         scope,
         pos,
         env,
         actions,
         temporaries,
         state,
-    ) {
-        Expr::No(n) => stop(walk, n),
-        Expr::Value { x, next, st: st1 } => read_then(
-            read_value(stream, table, actions, temporaries, env, x, true, to, st1),
+    )?;
+    read_then(
+            read_value(section, actions, temporaries, env, x, true, to, st1),
             next,
             walk,
-        ),
-    }
+        )
 }
 
 pub fn local_assignment(
-    stream: &[u8],
-    table: &[u16; codes::table::LENGTH],
+    section: Section<'_>,
     scope: &mut [u64],
     actions: &mut [u64],
     temporaries: &mut [u64],
@@ -217,15 +201,13 @@ pub fn local_assignment(
     pos: usize,
     walk: Walk,
 ) -> Step
-    ensures { walked result scope.new actions.new temporaries.new ≡ local_assignment stream.now table.now scope.old actions.old temporaries.old env pos walk }
+    ensures { walked result scope.new actions.new temporaries.new ≡ local_assignment section.entry.stream.now section.entry.table.now scope.old actions.old temporaries.old env pos walk }
 {
-    let name = u16_in(stream, pos, 1);
-    let size = u16_in(stream, pos, 3);
-    match named_tmp(table, scope, temporaries, env, name, size, walk.st) {
-        Read::No(n) => stop(walk, n),
-        Read::Value { v, st } => assign(
-            stream,
-            table,
+    let name = u16_in(section.stream, pos, 1);
+    let size = u16_in(section.stream, pos, 3);
+    let (v, st) = named_tmp(section.table, scope, temporaries, env, name, size, walk.st)?;
+    assign(
+            section,
             scope,
             actions,
             temporaries,
@@ -234,19 +216,18 @@ pub fn local_assignment(
             v,
             st,
             walk,
-        ),
-    }
+        )
 }
 
 // The first of n subtables that has this table, or n.
-fn find_subtable(stream: &[u8], table: &[u16; codes::table::LENGTH], count: u64, wanted: u64) -> u64
-    ensures { result ≡ find_subtable count 0 stream.now table.now wanted }
+fn find_subtable(section: Section<'_>, count: u64, wanted: u64) -> u64
+    ensures { result ≡ find_subtable count 0 section.entry.stream.now section.entry.table.now wanted }
 {
     let mut i = 0;
     while i < count {
         if u16_in(
-            stream,
-            entry(table, codes::table::SUBTABLES, i % 65536 * 4),
+            section.stream,
+            entry(section.table, codes::table::SUBTABLES, i % 65536 * 4),
             2,
         ) == wanted
         {
@@ -258,17 +239,16 @@ fn find_subtable(stream: &[u8], table: &[u16; codes::table::LENGTH], count: u64,
 }
 
 fn build_table(
-    stream: &[u8],
-    table: &[u16; codes::table::LENGTH],
+    section: Section<'_>,
     actions: &mut [u64],
     wanted: u64,
     pos: usize,
     walk: Walk,
 ) -> Step
-    ensures { listed result actions.new ≡ build_table stream.now table.now actions.old wanted pos walk }
+    ensures { listed result actions.new ≡ build_table section.entry.stream.now section.entry.table.now actions.old wanted pos walk }
 {
-    let n = access::u16_at(stream, header::SUBTABLES);
-    let i = find_subtable(stream, table, n, wanted);
+    let n = access::u16_at(section.stream, header::SUBTABLES);
+    let i = find_subtable(section, n, wanted);
     if i < n {
         return pushed_then(
             push(
@@ -286,21 +266,20 @@ fn build_table(
             walk,
         );
     }
-    stop(walk, refusal::ABSENT_TABLE)
+    stop(walk, Refusal::AbsentTable)
 }
 
 pub fn build(
-    stream: &[u8],
-    table: &[u16; codes::table::LENGTH],
+    section: Section<'_>,
     actions: &mut [u64],
     pos: usize,
     walk: Walk,
 ) -> Step
-    ensures { listed result actions.new ≡ build stream.now table.now actions.old pos walk }
+    ensures { listed result actions.new ≡ build section.entry.stream.now section.entry.table.now actions.old pos walk }
 {
-    match lookup(table, u16_in(stream, pos, 1)) {
-        Symbol::Undefined => stop(walk, refusal::UNDEFINED),
-        Symbol::Table(wanted) => build_table(stream, table, actions, wanted, pos, walk),
-        _ => stop(walk, refusal::WRONG_KIND),
+    match lookup(section.table, u16_in(section.stream, pos, 1)) {
+        Symbol::Undefined => stop(walk, Refusal::Undefined),
+        Symbol::Table(wanted) => build_table(section, actions, wanted, pos, walk),
+        _ => stop(walk, Refusal::WrongKind),
     }
 }

@@ -3,8 +3,8 @@ use mathlib.Core.Path.{◌≡◌}
 use Prim.Native.Nat.{ℕ}
 use Rattle.list_values.specs.declared.value.Value.{Value}
 use Rattle.list_pushes.specs.declared.push.State.{State}
-use Rattle.list_pushes.specs.declared.push.Read.{Read}
-use Rattle.list_pushes.specs.declared.push.Pushed.{Pushed}
+use Rattle.list_pushes.specs.Outcomes.{Read}
+use Rattle.list_pushes.specs.Outcomes.{Pushed}
 use Rattle.stmt_walk.specs.declared.walk.Walk.{Walk}
 use Rattle.stmt_walk.specs.declared.walk.Step.{Step}
 use Rattle.stmt_walk.specs.Walks.{with_state, stop, pushed_then, read_then}

@@ -2,8 +2,8 @@
 -- section's table, p the scope's list, a the actions, m the temporaries.
 use Rattle.std.specs.Prelude.{ℕ, List}
 use Rattle.list_pushes.specs.declared.push.State.{State}
-use Rattle.list_pushes.specs.declared.push.Read.{Read}
-use Rattle.list_pushes.specs.declared.push.Pushed.{Pushed}
+use Rattle.list_pushes.specs.Outcomes.{Read}
+use Rattle.list_pushes.specs.Outcomes.{Pushed}
 use Rattle.list_pushes.specs.Pushes.{ReadOut, read, PushedOut, pushed}
 use Rattle.stmt_walk.specs.declared.walk.Walk.{Walk}
 use Rattle.stmt_walk.specs.declared.walk.Step.{Step}

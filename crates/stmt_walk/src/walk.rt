@@ -55,23 +55,19 @@ pub fn stop(walk: Walk, refusal: u64) -> Step
 pub fn pushed_then(answer: Pushed, next: usize, walk: Walk) -> Step
     ensures { result ≡ pushed_then next walk answer }
 {
-    match answer {
-        Pushed::No(n) => stop(walk, n),
-        Pushed::Done(st) => Step::Next {
+    let st = answer?;
+    Step::Next {
             next,
             w: with_state(walk, st),
-        },
-    }
+        }
 }
 
 pub fn read_then(answer: Read, next: usize, walk: Walk) -> Step
     ensures { result ≡ read_then next walk answer }
 {
-    match answer {
-        Read::No(n) => stop(walk, n),
-        Read::Value { v: _, st } => Step::Next {
+    let (_, st) = answer?;
+    Step::Next {
             next,
             w: with_state(walk, st),
-        },
-    }
+        }
 }
