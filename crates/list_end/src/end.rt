@@ -1,13 +1,16 @@
 // The end: sizes fixed, subpieces turned into copies, the implicit Builds in front, unused words zero.
 ghost use Rattle.std.specs.Prelude.{◌≡◌, ◌<◌};
+ghost use Rattle.codes.specs.Refusals.{number_or_zero};
 ghost use Rattle.list_values.specs.Base.{listed};
+ghost use Rattle.list_end.specs.Outcomes.{to_finished};
 ghost use Rattle.list_end.specs.End.{fix_size, fix_operand, fix_inputs, fix_output, fix_operands, write_copy, subpiece_copy, finish_op, finish_actions, mark_build, mark_built, zero_action, write_build, implicit_builds, implicit_build, move_action, move_down, assemble};
 
-use codes::{NONE, action, action_kind, operation, refusal, table};
+use codes::refusal::Refusal;
+use codes::{NONE, action, action_kind, operation};
+use list_values::section::Section;
 use list_values::sizes::{Sizing, falls_back, record_errors, size_of};
 use list_values::value::{
-    NO_OUTPUT, SIZE_PLACE, Slice, Value, get, place, put, put_value, slice_bytes, value_at,
-    with_size,
+    NO_OUTPUT, SIZE_PLACE, Value, get, place, put, put_value, slice_bytes, value_at, with_size,
 };
 
 // The second word of an output.
@@ -157,30 +160,29 @@ fn write_copy(actions: &mut [u64], at: usize, part: Value)
     put_value(actions, at, action::INPUT_0, part);
 }
 
-// A subpiece becomes a Copy of part of its input: a refusal, or 0.
-fn subpiece_copy(actions: &mut [u64], at: usize) -> u64
-    ensures { listed result actions.new ≡ subpiece_copy actions.old at }
+// A subpiece becomes a Copy of part of its input.
+#[tactic(auto, unfolding(crate::specs::End::subpiece_copy, crate::specs::End::copy_of))]
+fn subpiece_copy(actions: &mut [u64], at: usize) -> Result<(), Refusal>
+    ensures { listed (number_or_zero result) actions.new ≡ subpiece_copy actions.old at }
 {
     let size = value_at(actions, at, action::OUTPUT).size;
     if size == NONE {
-        return Refusal::SubpieceSize;
+        return Err(Refusal::SubpieceSize);
     }
-    let v = value_at(actions, at, action::INPUT_0);
-    match slice_bytes(v, get(actions, at, action::NUMBER) % 65536, size) {
-        Err(n) => n,
-        Ok(part) => {
-            write_copy(actions, at, part);
-            0
-        }
-    }
+    let value = value_at(actions, at, action::INPUT_0);
+    let part = slice_bytes(value, get(actions, at, action::NUMBER) % 65536, size)?;
+    write_copy(actions, at, part);
+    Ok(())
 }
 
+// A refusal at the end, and the sizing until then.
 #[derive(Clone, Copy)]
-pub struct Finished {
-    pub refusal: u64,
-    pub z: Sizing,
+pub struct Unfinished {
+    pub refusal: Refusal,
+    pub sizing: Sizing,
 }
 
+#[tactic(auto, unfolding(crate::specs::End::finish_op, crate::specs::End::finish_fixed, list_values::specs::Base::then_l))]
 fn finish_op(
     section: Section<'_>,
     actions: &mut [u64],
@@ -188,22 +190,19 @@ fn finish_op(
     at: usize,
     pointer: u64,
     sizing: Sizing,
-) -> Finished
-    ensures { listed result actions.new ≡ finish_op section.entry.stream.now section.entry.table.now actions.old temporaries.now at pointer sizing }
+) -> Result<Sizing, Unfinished>
+    ensures { listed (to_finished result) actions.new ≡ finish_op section.entry.stream.now section.entry.table.now actions.old temporaries.now at pointer sizing }
 {
     if get(actions, at, action::KIND) != action_kind::OP {
-        return Finished {
-            refusal: 0,
-            z: sizing,
-        };
+        return Ok(sizing);
     }
-    let y = fix_operands(section, actions, temporaries, at, pointer, sizing);
+    let sizing = fix_operands(section, actions, temporaries, at, pointer, sizing);
     if get(actions, at, action::OPERATION) != operation::SUBPIECE {
-        return Finished { refusal: 0, z: y };
+        return Ok(sizing);
     }
-    Finished {
-        refusal: subpiece_copy(actions, at),
-        z: y,
+    match subpiece_copy(actions, at) {
+        Ok(()) => Ok(sizing),
+        Err(refusal) => Err(Unfinished { refusal, sizing }),
     }
 }
 
@@ -215,28 +214,15 @@ pub fn finish_actions(
     count: usize,
     pointer: u64,
     sizing: Sizing,
-) -> Finished
-    ensures { listed result actions.new ≡ finish_actions section.entry.stream.now section.entry.table.now actions.old temporaries.now base count pointer sizing }
+) -> Result<Sizing, Unfinished>
+    ensures { listed (to_finished result) actions.new ≡ finish_actions section.entry.stream.now section.entry.table.now actions.old temporaries.now base count pointer sizing }
 {
     let mut sizing = sizing;
     for i in 0..count {
-        let f = finish_op(
-            section,
-            actions,
-            temporaries,
-            place(base, i),
-            pointer,
-            sizing,
-        );
-        if f.refusal != 0 {
-            return f;
-        }
-        sizing = f.z;
+        let at = place(base, i);
+        sizing = finish_op(section, actions, temporaries, at, pointer, sizing)?;
     }
-    Finished {
-        refusal: 0,
-        z: sizing,
-    }
+    Ok(sizing)
 }
 
 // Marks the subtables that one of the n actions from a position on builds.

@@ -3,8 +3,8 @@ ghost use Rattle.std.specs.Prelude.{◌≡◌};
 ghost use Rattle.list_values.specs.Sizes.{sized};
 ghost use Rattle.list_end.specs.Passes.{backward_pass, forward_pass};
 
-use codes::table;
 use list_pushes::passes::pass;
+use list_values::section::Section;
 use list_values::sizes::{Sizing, record_errors};
 
 pub fn backward_pass(
@@ -18,15 +18,7 @@ pub fn backward_pass(
 ) -> Sizing
     ensures { sized result actions.new temporaries.new ≡ backward_pass section.entry.stream.now section.entry.table.now actions.old temporaries.old base count pointer sizing }
 {
-    let k = pass(
-        section,
-        false,
-        actions,
-        temporaries,
-        base,
-        count,
-        pointer,
-    );
+    let k = pass(section, false, actions, temporaries, base, count, pointer);
     record_errors(sizing, k)
 }
 
@@ -41,14 +33,6 @@ pub fn forward_pass(
 ) -> Sizing
     ensures { sized result actions.new temporaries.new ≡ forward_pass section.entry.stream.now section.entry.table.now actions.old temporaries.old base count pointer sizing }
 {
-    let k = pass(
-        section,
-        true,
-        actions,
-        temporaries,
-        base,
-        count,
-        pointer,
-    );
+    let k = pass(section, true, actions, temporaries, base, count, pointer);
     record_errors(sizing, k)
 }

@@ -23,7 +23,7 @@ use Rattle.definition.specs.ActionList.{or_none, input_words, value_words, actio
 use Rattle.definition.proofs.Openers.{base_opens}
 use Rattle.list_values.specs.declared.value.Value.{Value as WordValue}
 use Rattle.list_values.specs.declared.sizes.Sizing.{Sizing as WordSizing}
-use Rattle.list_end.specs.declared.end.Finished.{Finished}
+use Rattle.list_end.specs.Outcomes.{Finished}
 use Rattle.list_values.specs.Base.{Listed, listed, then_l}
 use Rattle.list_values.specs.Outcomes.{Slice}
 use Rattle.list_values.specs.Values as words

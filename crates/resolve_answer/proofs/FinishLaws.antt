@@ -6,7 +6,7 @@ use borrow.Author.Tests.{eq-eqb, ne_eqb, lt-ltb, le-ltb}
 use Rattle.access.specs.Le.{le16}
 use Rattle.list_values.specs.declared.sizes.Sizing.{Sizing}
 use Rattle.list_end.specs.declared.end.Fixed.{Fixed}
-use Rattle.list_end.specs.declared.end.Finished.{Finished}
+use Rattle.list_end.specs.Outcomes.{Finished}
 use Rattle.list_values.specs.Base.{listed, then_l}
 use Rattle.prelude.specs.Base.{when◌then◌else◌}
 use Rattle.list_values.specs.Values.{place}

@@ -3,7 +3,7 @@ use Rattle.std.specs.Prelude.{ℕ, ◌-◌, ◌/◌, List, eqb, ltb}
 use Rattle.access.specs.Le.{le16}
 use Rattle.list_values.specs.declared.sizes.Sizing.{Sizing}
 use Rattle.list_end.specs.declared.end.Fixed.{Fixed}
-use Rattle.list_end.specs.declared.end.Finished.{Finished}
+use Rattle.list_end.specs.Outcomes.{Finished}
 use Rattle.list_values.specs.Base.{then_l}
 use Rattle.prelude.specs.Base.{when◌then◌else◌}
 use Rattle.list_values.specs.Values.{place}

@@ -24,7 +24,7 @@ use Rattle.definition_guarantee.proofs.Finish as ends
 use Rattle.definition_guarantee.proofs.Layouts.{backward_rough, forward_rough, SmallSection, Rough}
 use Rattle.definition_guarantee.proofs.Kept.{Kept}
 use Rattle.list_values.specs.declared.sizes.Sizing.{Sizing as WordSizing}
-use Rattle.list_end.specs.declared.end.Finished.{Finished}
+use Rattle.list_end.specs.Outcomes.{Finished}
 use Rattle.list_values.specs.Base.{Listed, listed, then_l}
 use Rattle.prelude.specs.Base.{when◌then◌else◌}
 use Rattle.list_values.specs.Values.{place}

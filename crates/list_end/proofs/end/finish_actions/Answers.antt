@@ -1,17 +1,18 @@
 use Rattle.std.proofs.Common.{refl, arith, rules}
+use Rattle.std.proofs.lemmas.Result.{err_from_is_err_and}
+use Rattle.codes.proofs.Numbers.{number-nonzero}
 use Rattle.list_end.proofs.EndLaws.{finish_start, finish-stop, finish_more, finish-end}
 use Rattle.list_end.proofs.end.finish_actions.Goals as goal
 
 pub loop-i-init : goal.loop-i-init
 loop-i-init c = (search rules, refl, finish_start _ _ _ _ _ _ _ _)
 
-pub returns-then-f-ne0 : goal.returns-then-f-ne0
-returns-then-f-ne0 c =
-    finish-stop _ _ _ _ _ _ _ _ _ _ c.loop-i.invariant.2 _ _ _ (omega arith) c.place.ensures c.finish_op-f.ensures c.if-f-ne0.true
+pub returns-in_err-sizing : goal.returns-in_err-sizing
+returns-in_err-sizing c = let p = err_from_is_err_and c.from_residual.result c.from_residual.ensures.1 in rw (p.1, p.2) (finish-stop _ _ _ _ _ _ _ _ _ _ c.loop-i.invariant.2 _ _ _ (omega arith) c.place-at.ensures c.in_err-sizing.ensures (number-nonzero _))
 
 pub loop-i-preserved : goal.loop-i-preserved
 loop-i-preserved c =
-    (search rules, search rules, finish_more _ _ _ _ _ _ _ _ _ _ c.loop-i.invariant.2 _ _ _ (omega arith) c.place.ensures c.finish_op-f.ensures c.if-f-ne0.false)
+    (search rules, search rules, finish_more _ _ _ _ _ _ _ _ _ _ c.loop-i.invariant.2 _ _ _ (omega arith) c.place-at.ensures c.in_ok-sizing.ensures refl)
 
 pub returns : goal.returns
 returns c = finish-end _ _ _ _ _ _ _ _ _ _ c.loop-i.invariant.2 (omega arith)

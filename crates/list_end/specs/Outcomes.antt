@@ -1,0 +1,13 @@
+-- What finishing actions gives, as the words have it: the number of a refusal, 0 where there is none, and the sizing.
+use Rattle.std.specs.Prelude.{ℕ, Result, Ok, Err}
+use Rattle.codes.specs.Refusals.{number}
+use Rattle.list_values.specs.declared.sizes.Sizing.{Sizing}
+use Rattle.list_end.specs.declared.end.Unfinished.{Unfinished}
+
+pub record Finished : Type 0 where
+  pub refusal : ℕ
+  pub z : Sizing
+
+abbrev pub to_finished : Result Sizing Unfinished → Finished
+to_finished (Ok sizing) = record { refusal = 0; z = sizing }
+to_finished (Err e) = record { refusal = number e.refusal; z = e.sizing }
