@@ -1,59 +1,33 @@
 -- The spellings, and a name as a part of the stream.
-use mathlib.Core.Path.{◌≡◌, refl, sym}
-use mathlib.Core.Bool.{Bool, true, false}
+use mathlib.Core.Path.{◌≡◌, refl, ap, ◌∙◌}
+use mathlib.Core.Bool.{Bool, true, false, cond, ◌&&◌}
+use lib.Pointwise.{pointwise}
+use Rattle.std.specs.Prelude.{nat_eq}
 use mathlib.Core.List.{List, [], ◌∷◌}
 use Prim.Native.Nat.{ℕ, ◌+◌, ◌-◌, ◌≤◌, ◌<◌}
 use native.Mathlib.Omega.{arith}
 use lib.ListN.{length, get_or, take, drop, length-drop, get_or-eq_default}
 use lib.Seq.{take_all}
 use lib.Dec.{eqb}
-use borrow.Author.Tests.{eqb-true, eq-eqb}
-use Rattle.prelude.specs.Base.{when◌then◌else◌, same_numbers}
-use Rattle.expr_inbuilts.specs.declared.inbuilt.Inbuilt.{Inbuilt}
-use Rattle.expr_inbuilts.specs.Inbuilts.{attempt, logical, carries, extensions, roundings, conversions, inbuilt_of, inbuilt_at}
+use Rattle.prelude.specs.Base.{same_numbers}
+use Rattle.expr_inbuilts.specs.Outcomes.{Inbuilt}
+use Rattle.expr_inbuilts.specs.Inbuilts.{attempt, inbuilt_of, inbuilt_at}
 
-same_refl : (a : List ℕ) → same_numbers a a ≡ true
+and_cond : (a b : Bool) → (a && b) ≡ cond a b false
+and_cond true b = refl
+and_cond false b = refl
+
+-- the library's equality of slices is the definition's
+same_pointwise : (a b : List ℕ) → pointwise nat_eq a b ≡ same_numbers a b
 unfolding same_numbers
-same_refl [] = refl
-same_refl (x ∷ xs) = rw (eq-eqb x x refl) (same_refl xs)
+same_pointwise [] [] = refl
+same_pointwise [] (y ∷ ys) = refl
+same_pointwise (x ∷ xs) [] = refl
+same_pointwise (x ∷ xs) (y ∷ ys) = and_cond (eqb x y) (pointwise nat_eq xs ys) ∙ ap (λ b. cond (eqb x y) b false) (same_pointwise xs ys)
 
-if_first : (a b : Bool) → (when a then b else false) ≡ true → a ≡ true
-if_first true b e = refl
-if_first false b e = e
-
-if_second : (a b : Bool) → (when a then b else false) ≡ true → b ≡ true
-if_second true b e = e
-if_second false b e = absurd (let z : ◌≡◌ {A = ℕ} 0 1 = cc in omega arith)
-
-same_eq : (a b : List ℕ) → same_numbers a b ≡ true → a ≡ b
-unfolding same_numbers
-same_eq [] [] e = refl
-same_eq [] (y ∷ ys) e = absurd (let z : ◌≡◌ {A = ℕ} 0 1 = cc in omega arith)
-same_eq (x ∷ xs) [] e = absurd (let z : ◌≡◌ {A = ℕ} 0 1 = cc in omega arith)
-same_eq (x ∷ xs) (y ∷ ys) e =
-    let p : x ≡ y = eqb-true x y (if_first (eqb x y) (same_numbers xs ys) e) in
-    let q : xs ≡ ys = same_eq xs ys (if_second (eqb x y) (same_numbers xs ys) e) in
-    λ i. p i ∷ q i
-
-pub same_law : (a b : List ℕ) (r : Bool) → (r ≡ true → a ≡ b) → (a ≡ b → r ≡ true) → r ≡ same_numbers a b
-same_law a b true f g = let e = f refl in rw (← e) (sym (same_refl a))
-same_law a b false f g = go (same_numbers a b) refl
-  where
-    go : (t : Bool) → same_numbers a b ≡ t → false ≡ same_numbers a b
-    go true e = absurd (let h : false ≡ true = g (same_eq a b e) in let z : ◌≡◌ {A = ℕ} 0 1 = cc in omega arith)
-    go false e = sym e
-
-pub attempt_hit : (w x : List ℕ) (o n : ℕ) (r : Inbuilt) (h : Bool) → h ≡ same_numbers w x → h ≡ true → ◌≡◌ {A = Inbuilt} (record { op = o; arguments = n }) (attempt w x o n r)
+pub attempt_law : (w x : List ℕ) (o n : ℕ) (r : Inbuilt) → cond (pointwise nat_eq w x) (record { op = o; arguments = n }) r ≡ attempt w x o n r
 unfolding attempt
-attempt_hit w x o n r h e k = rw (← e, k)
-
-pub attempt_miss : (w x : List ℕ) (o n : ℕ) (r : Inbuilt) (h : Bool) → h ≡ same_numbers w x → h ≡ false → r ≡ attempt w x o n r
-unfolding attempt
-attempt_miss w x o n r h e k = rw (← e, k)
-
-pub inbuilt_law : (w : List ℕ) (a b c d e : Inbuilt) → a ≡ conversions w (record { op = 0; arguments = 0 }) → b ≡ roundings w a → c ≡ extensions w b → d ≡ carries w c → e ≡ logical w d → e ≡ inbuilt_of w
-unfolding inbuilt_of
-inbuilt_law w a b c d e pa pb pc pd pe = rw (pd, pc, pb, pa) at pe
+attempt_law w x o n r = ap (λ b. cond b (record { op = o; arguments = n }) r) (same_pointwise w x)
 
 pub at_whole : (s : List ℕ) (at n : ℕ) (r : Inbuilt) → n ≡ get_or s at 0 → r ≡ inbuilt_of (take (at + 1 + n - (at + 1)) (drop (at + 1) s)) → r ≡ inbuilt_at s at
 unfolding inbuilt_at
@@ -69,4 +43,4 @@ pub at_none : (s : List ℕ) (at : ℕ) (r : Inbuilt) → length s ≤ at → r 
 unfolding inbuilt_at
 at_none s at r l h = rw (get_or-eq_default s 0 {n = at} l) h
 
-pub ruleset inbuilt_laws = (attempt_hit, attempt_miss, inbuilt_law, at_whole, at_cut, at_none)
+pub ruleset inbuilt_laws = (at_whole, at_cut, at_none)

@@ -1,7 +1,7 @@
 -- The built-in functions by the bytes of their names: an operation's number and its count of arguments, both 0 for other names.
 use Rattle.std.specs.Prelude.{ℕ, ◌+◌, List, [], ◌∷◌, get_or, take, drop}
 use Rattle.prelude.specs.Base.{when◌then◌else◌, same_numbers}
-use Rattle.expr_inbuilts.specs.declared.inbuilt.Inbuilt.{Inbuilt}
+use Rattle.expr_inbuilts.specs.Outcomes.{Inbuilt}
 
 unfoldable pub attempt : List ℕ → List ℕ → ℕ → ℕ → Inbuilt → Inbuilt
 attempt w spelling op arguments other = when same_numbers w spelling then record { op = op; arguments = arguments } else other

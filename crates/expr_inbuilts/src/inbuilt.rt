@@ -1,34 +1,30 @@
 // The 22 spellings of `translate_inbuilt_func`, compared byte for byte with a name of the stream.
-ghost use Rattle.std.specs.Prelude.{◌≡◌};
-ghost use Rattle.prelude.specs.Base.{same_numbers};
+ghost use Rattle.std.specs.Prelude.{◌≡◌, ◌<◌};
+ghost use Rattle.expr_inbuilts.specs.Outcomes.{to_inbuilt};
 ghost use Rattle.expr_inbuilts.specs.Inbuilts.{attempt, logical, carries, extensions, roundings, conversions, inbuilt_of, inbuilt_at};
 
+use crate::function::Inbuilt;
 use codes::operation;
 
-// An operation's number, and its count of arguments; no arguments where the name is none.
-#[derive(Clone, Copy)]
-pub struct Inbuilt {
-    pub op: u64,
-    pub arguments: u64,
-}
-
-fn same(left: &[u8], right: &[u8]) -> bool
-    ensures { result ≡ same_numbers left.now right.now }
+fn attempt(
+    word: &[u8],
+    spelling: &[u8],
+    op: u64,
+    arguments: u64,
+    other: Option<Inbuilt>,
+) -> Option<Inbuilt>
+    requires { 0 < arguments }
+    ensures { to_inbuilt result ≡ attempt word.now spelling.now op arguments (to_inbuilt other) }
 {
-    check::same(left, right)
-}
-
-fn attempt(word: &[u8], spelling: &[u8], op: u64, arguments: u64, other: Inbuilt) -> Inbuilt
-    ensures { result ≡ attempt word.now spelling.now op arguments other }
-{
-    if same(word, spelling) {
-        return Inbuilt { op, arguments };
+    if word == spelling {
+        return Some(Inbuilt { op, arguments });
     }
     other
 }
 
-fn logical(word: &[u8], found: Inbuilt) -> Inbuilt
-    ensures { result ≡ logical word.now found }
+#[tactic(auto, unfolding(crate::specs::Inbuilts::logical))]
+fn logical(word: &[u8], found: Option<Inbuilt>) -> Option<Inbuilt>
+    ensures { to_inbuilt result ≡ logical word.now (to_inbuilt found) }
 {
     let found = attempt(word, b"nan", operation::FLOAT_IS_NAN, 1, found);
     let found = attempt(word, b"-", operation::INT_NEGATE, 1, found);
@@ -36,16 +32,18 @@ fn logical(word: &[u8], found: Inbuilt) -> Inbuilt
     attempt(word, b"!", operation::BOOL_NOT, 1, found)
 }
 
-fn carries(word: &[u8], found: Inbuilt) -> Inbuilt
-    ensures { result ≡ carries word.now found }
+#[tactic(auto, unfolding(crate::specs::Inbuilts::carries))]
+fn carries(word: &[u8], found: Option<Inbuilt>) -> Option<Inbuilt>
+    ensures { to_inbuilt result ≡ carries word.now (to_inbuilt found) }
 {
     let found = attempt(word, b"sborrow", operation::INT_SIGNED_BORROW, 2, found);
     let found = attempt(word, b"scarry", operation::INT_SIGNED_CARRY, 2, found);
     attempt(word, b"carry", operation::INT_CARRY, 2, found)
 }
 
-fn extensions(word: &[u8], found: Inbuilt) -> Inbuilt
-    ensures { result ≡ extensions word.now found }
+#[tactic(auto, unfolding(crate::specs::Inbuilts::extensions))]
+fn extensions(word: &[u8], found: Option<Inbuilt>) -> Option<Inbuilt>
+    ensures { to_inbuilt result ≡ extensions word.now (to_inbuilt found) }
 {
     let found = attempt(word, b"abs", operation::FLOAT_ABS, 1, found);
     let found = attempt(word, b"f-", operation::FLOAT_NEGATE, 1, found);
@@ -54,8 +52,9 @@ fn extensions(word: &[u8], found: Inbuilt) -> Inbuilt
     attempt(word, b"zext", operation::ZERO_EXTEND, 1, found)
 }
 
-fn roundings(word: &[u8], found: Inbuilt) -> Inbuilt
-    ensures { result ≡ roundings word.now found }
+#[tactic(auto, unfolding(crate::specs::Inbuilts::roundings))]
+fn roundings(word: &[u8], found: Option<Inbuilt>) -> Option<Inbuilt>
+    ensures { to_inbuilt result ≡ roundings word.now (to_inbuilt found) }
 {
     let found = attempt(word, b"trunc", operation::FLOAT_TO_INT, 1, found);
     let found = attempt(word, b"round", operation::FLOAT_ROUND, 1, found);
@@ -64,8 +63,9 @@ fn roundings(word: &[u8], found: Inbuilt) -> Inbuilt
     attempt(word, b"sqrt", operation::FLOAT_SQRT, 1, found)
 }
 
-fn conversions(word: &[u8], found: Inbuilt) -> Inbuilt
-    ensures { result ≡ conversions word.now found }
+#[tactic(auto, unfolding(crate::specs::Inbuilts::conversions))]
+fn conversions(word: &[u8], found: Option<Inbuilt>) -> Option<Inbuilt>
+    ensures { to_inbuilt result ≡ conversions word.now (to_inbuilt found) }
 {
     let found = attempt(
         word,
@@ -81,25 +81,20 @@ fn conversions(word: &[u8], found: Inbuilt) -> Inbuilt
 }
 
 // The built-in function of a name.
-fn inbuilt_of(word: &[u8]) -> Inbuilt
-    ensures { result ≡ inbuilt_of word.now }
+#[tactic(auto, unfolding(crate::specs::Inbuilts::inbuilt_of))]
+fn inbuilt_of(word: &[u8]) -> Option<Inbuilt>
+    ensures { to_inbuilt result ≡ inbuilt_of word.now }
 {
-    let none = Inbuilt {
-        op: 0,
-        arguments: 0,
-    };
-    logical(
-        word,
-        carries(
-            word,
-            extensions(word, roundings(word, conversions(word, none))),
-        ),
-    )
+    let found = conversions(word, None);
+    let found = roundings(word, found);
+    let found = extensions(word, found);
+    let found = carries(word, found);
+    logical(word, found)
 }
 
 // The built-in function of the name whose length byte stands at a position.
-pub fn translate_inbuilt_func(stream: &[u8], at: usize) -> Inbuilt
-    ensures { result ≡ inbuilt_at stream.now at }
+pub fn translate_inbuilt_func(stream: &[u8], at: usize) -> Option<Inbuilt>
+    ensures { to_inbuilt result ≡ inbuilt_at stream.now at }
 {
     if at < stream.len() {
         let from = at + 1;

@@ -8,7 +8,7 @@ use Rattle.prelude.specs.Base.{when◌then◌else◌, first, ◌or◌, same_numb
 use Rattle.definition.specs.Operations.{operation_number}
 use Rattle.definition.specs.Spellings.{bytes_of, inbuilt, inbuilts, translate_inbuilt_func}
 use Rattle.definition.specs.Spellings as definition
-use Rattle.expr_inbuilts.specs.declared.inbuilt.Inbuilt.{Inbuilt}
+use Rattle.expr_inbuilts.specs.Outcomes.{Inbuilt}
 use Rattle.expr_inbuilts.specs.Inbuilts.{attempt, logical, carries, extensions, roundings, conversions, inbuilt_of}
 
 -- the words of the definition's answer: the operation's number and the count of arguments; both 0 where there is none

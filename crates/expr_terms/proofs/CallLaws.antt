@@ -8,7 +8,7 @@ use types.Run.{OneOf, miss}
 use denote.Enum.Declared.{tag_of}
 use borrow.Author.Tests.{eq-eqb, ne_eqb, lt-ltb, le-ltb}
 use Rattle.access.specs.Le.{le64}
-use Rattle.expr_inbuilts.specs.declared.inbuilt.Inbuilt.{Inbuilt}
+use Rattle.expr_inbuilts.specs.Outcomes.{Inbuilt}
 use Rattle.expr_inbuilts.specs.Inbuilts.{inbuilt_at}
 use Rattle.list_values.specs.declared.value.Value.{Value}
 use Rattle.list_pushes.specs.declared.push.State.{State}

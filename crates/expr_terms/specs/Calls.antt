@@ -3,7 +3,7 @@
 -- st the state.
 use Rattle.std.specs.Prelude.{ℕ, zero, suc, ◌+◌, ◌-◌, ◌%◌, List, get_or, eqb, ltb}
 use Rattle.access.specs.Le.{le64}
-use Rattle.expr_inbuilts.specs.declared.inbuilt.Inbuilt.{Inbuilt}
+use Rattle.expr_inbuilts.specs.Outcomes.{Inbuilt}
 use Rattle.expr_inbuilts.specs.Inbuilts.{inbuilt_at}
 use Rattle.list_values.specs.declared.value.Value.{Value}
 use Rattle.list_pushes.specs.declared.push.State.{State}

@@ -1,12 +1,9 @@
-use Rattle.std.proofs.Common.{rules}
-use Rattle.expr_inbuilts.proofs.InbuiltLaws.{inbuilt_laws}
+use Rattle.std.proofs.Common.{refl}
+use Rattle.expr_inbuilts.proofs.InbuiltLaws.{attempt_law}
 use Rattle.expr_inbuilts.proofs.inbuilt.attempt.Goals as goal
 
-pub same-requires : goal.same-requires
-same-requires c = search (inbuilt_laws, rules)
-
-pub returns-then-same : goal.returns-then-same
-returns-then-same c = search (inbuilt_laws, rules)
+pub returns-then-eq : goal.returns-then-eq
+returns-then-eq c = rw (← attempt_law c.args.word.now c.args.spelling.now c.args.op c.args.arguments _, ← c.if-eq.ensures) refl
 
 pub returns : goal.returns
-returns c = search (inbuilt_laws, rules)
+returns c = rw (← attempt_law c.args.word.now c.args.spelling.now c.args.op c.args.arguments _, ← c.if-eq.ensures) refl

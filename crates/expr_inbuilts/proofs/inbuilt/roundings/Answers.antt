@@ -1,8 +1,0 @@
-use mathlib.Core.Path.{◌∙◌, ap}
-use Rattle.expr_inbuilts.specs.Inbuilts.{attempt, roundings}
-use Rattle.expr_inbuilts.proofs.inbuilt.roundings.Goals as goal
-
-pub returns : goal.returns
-unfolding roundings
-returns c =
-    c.attempt.ensures ∙ ap (attempt _ _ _ _) (c.attempt-found-4.ensures ∙ ap (attempt _ _ _ _) (c.attempt-found-3.ensures ∙ ap (attempt _ _ _ _) (c.attempt-found-2.ensures ∙ ap (attempt _ _ _ _) c.attempt-found.ensures)))
