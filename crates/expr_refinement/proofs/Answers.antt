@@ -22,7 +22,7 @@ use Rattle.list_refinement.proofs.Seen.{Seen, no, yes, seen_read, seen_pushed, s
 use Rattle.expr_scope.specs.declared.scope.ExprValue.{ExprValue as WordExpr}
 use Rattle.expr_terms.specs.declared.answers.Expr.{Expr}
 use Rattle.expr_terms.specs.declared.answers.Operand.{Operand}
-use Rattle.expr_scope.specs.declared.args.Args.{Args}
+use Rattle.expr_scope.specs.Outcomes.{Args}
 use Rattle.expr_terms.specs.Answers.{ExprOut, resolved, on_expr, OperandOut, operand, on_operand, ArgsOut, passed, on_args}
 use Rattle.expr_refinement.proofs.Encodings.{later_refl, later_trans}
 use Rattle.expr_refinement.specs.Encoding.{count, Stood, Later}

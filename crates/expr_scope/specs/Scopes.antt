@@ -11,7 +11,7 @@ use Rattle.list_values.specs.Values.{local}
 use Rattle.list_values.specs.Sizes.{entry}
 use Rattle.list_pushes.specs.Pushes.{ReadOut, read, add_tmp, on_tmp}
 use Rattle.expr_scope.specs.declared.scope.ExprValue.{ExprValue}
-use Rattle.expr_scope.specs.declared.scope.Meaning.{Meaning}
+use Rattle.expr_scope.specs.Outcomes.{Meaning, Found}
 use Rattle.expr_scope.specs.declared.symbols.Symbol.{Symbol}
 use Rattle.expr_scope.specs.Slots.{of_slot, slot_at, param_place}
 use Rattle.expr_scope.specs.Smalls.{small, put_small}
@@ -22,11 +22,6 @@ unfoldable pub find_param : ℕ → List ℕ → ℕ → ℕ
 find_param zero p name = 0
 find_param (suc i) p name =
     when eqb (get_or p (param_place i + 0) 0) name then suc i else find_param i p name
-
--- what a search for a local gives
-pub data Found : Type 0 where
-  Is : Value → Found
-  Nothing : Found
 
 -- a field is 1 + 2 × its number, a subtable 2 + 2 × its number
 unfoldable pub own_of : ℕ → Found
@@ -87,39 +82,6 @@ param_or i p other = when ltb 0 i then Meaning.Means (of_slot (slot_at p (param_
 
 unfoldable pub resolve_ident : List ℕ → List ℕ → List ℕ → Env → ℕ → Meaning
 resolve_ident s t p e name = param_or (find_param e.count p name) p (inner_meaning s t p e name)
-
--- A plain local as one number. 0 and 1 are left for what is none.
-abbrev pub plain : ℕ → ℕ → ℕ
-plain kind number = kind + 8 * (number + 1)
-
--- 0 where none is found
-unfoldable pub plain_found : Found → ℕ
-plain_found (Found.Is v) = plain v.kind v.number
-plain_found Found.Nothing = 0
-
--- of globals only a register is plain: 0 for a bit range, 1 for what is wrong
-unfoldable pub plain_global : Symbol → ℕ
-plain_global (Symbol.Register i) = plain 2 i
-plain_global (Symbol.BitRange i) = 0
-plain_global Symbol.Undefined = 1
-plain_global (Symbol.Space i) = 1
-plain_global (Symbol.Table i) = 1
-plain_global (Symbol.UserOp i) = 1
-plain_global (Symbol.Macro i) = 1
-plain_global (Symbol.Other i) = 1
-
-unfoldable pub plain_or : ℕ → ℕ → ℕ
-plain_or q other = when eqb q 0 then other else q
-
-unfoldable pub plain_inner : List ℕ → List ℕ → List ℕ → Env → ℕ → ℕ
-plain_inner s t p e name =
-    when eqb name (le16 s 28) then plain 1 0
-    else when eqb name (le16 s 26) then plain 0 0
-    else plain_or (plain_found (lookup_local t p e.own name)) (plain_global (lookup t name))
-
--- what a name means, where that is a plain local or wrong; 0 for a parameter
-unfoldable pub plain_local : List ℕ → List ℕ → List ℕ → Env → ℕ → ℕ
-plain_local s t p e name = when ltb 0 (find_param e.count p name) then 0 else plain_inner s t p e name
 
 -- 21 where there was one of this name, else the scope's words that declare it
 unfoldable pub undeclared : Found → Value → State → List ℕ → List ℕ → List ℕ → ReadOut

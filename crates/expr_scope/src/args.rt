@@ -3,13 +3,6 @@ ghost use Rattle.std.specs.Prelude.{◌≡◌};
 ghost use Rattle.expr_scope.specs.Slots.{arg_at, put_arg};
 
 use crate::scope::{ExprValue, of_slot, param_place, put_slot, slot_at, slot_of};
-use list_pushes::push::State;
-
-#[derive(Clone, Copy)]
-pub enum Args {
-    Done { next: usize, st: State },
-    No(u64),
-}
 
 pub fn put_arg(args: &mut [u64], index: u64, expr: ExprValue)
     ensures { args.new ≡ put_arg args.old index expr }

@@ -1,15 +1,18 @@
 // What a name means: a macro parameter, inst_next, inst_start, a local, a global register or bit range. And the slots that
 // hold a scope's parameters.
 ghost use Rattle.std.specs.Prelude.{◌≡◌};
+ghost use Rattle.list_pushes.specs.Outcomes.{to_read};
 ghost use Rattle.list_pushes.specs.Pushes.{read};
+ghost use Rattle.expr_scope.specs.Outcomes.{to_meaning, to_found, one_more};
 ghost use Rattle.expr_scope.specs.Slots.{one_value, slot_of, of_slot, put_slot, slot_at, param_place};
-ghost use Rattle.expr_scope.specs.Scopes.{find_param, own_local, tmp_local, lookup_local, bit_range, global_meaning, resolve_ident, plain_found, plain_global, plain_inner, plain_local, named_tmp};
-ghost use Rattle.expr_scope.specs.Symbols.{lookup};
+ghost use Rattle.expr_scope.specs.Scopes.{find_param, own_local, tmp_local, lookup_local, bit_range, global_meaning, inner_meaning, resolve_ident, named_tmp};
 
 use crate::smalls::{put_small, small};
 use crate::symbols::{Symbol, lookup};
-use codes::{header, refusal, table, value_kind};
-use list_pushes::push::{Env, Read, State, add_tmp};
+use codes::refusal::Refusal;
+use codes::{header, table, value_kind};
+use list_pushes::push::{Env, State, add_tmp};
+use list_values::section::Section;
 use list_values::sizes::entry;
 use list_values::value::{Value, absent, get, local, put, put_value, value_at};
 
@@ -42,11 +45,6 @@ const REGISTER_REF: u64 = 5;
 const ADDRESS_OF: u64 = 6;
 
 const BIT_RANGE: u64 = 7;
-
-// The numbers of inst_next and inst_start, as of plain locals.
-const INST_NEXT: u64 = value_kind::INST_NEXT + 8;
-
-const INST_START: u64 = value_kind::INST_START + 8;
 
 // What an expression means before it is read.
 #[derive(Clone, Copy)]
@@ -83,12 +81,6 @@ pub enum ExprValue {
     },
 }
 
-#[derive(Clone, Copy)]
-pub enum Meaning {
-    Means(ExprValue),
-    Wrong(u64),
-}
-
 // An expression's value as a parameter's slot of eight words keeps it: its name, which constructor, two numbers, two
 // values.
 #[derive(Clone, Copy)]
@@ -112,6 +104,7 @@ fn one_value(tag: u64, first: u64, second: u64, value: Value) -> Slot
     }
 }
 
+#[tactic(auto, unfolding(crate::specs::Slots::slot_of))]
 pub fn slot_of(expr: ExprValue) -> Slot
     ensures { result ≡ slot_of expr }
 {
@@ -139,6 +132,7 @@ pub fn slot_of(expr: ExprValue) -> Slot
     }
 }
 
+#[tactic(auto, unfolding(crate::specs::Slots::of_slot, crate::specs::Slots::of_parts))]
 pub fn of_slot(slot: Slot) -> ExprValue
     ensures { result ≡ of_slot slot }
 {
@@ -175,6 +169,7 @@ pub fn of_slot(slot: Slot) -> ExprValue
     }
 }
 
+#[tactic(auto, unfolding(crate::specs::Slots::put_slot))]
 pub fn put_slot(params: &mut [u64], at: usize, slot: Slot)
     ensures { params.new ≡ put_slot params.old at slot }
 {
@@ -185,6 +180,7 @@ pub fn put_slot(params: &mut [u64], at: usize, slot: Slot)
     put_value(params, at, SLOT_B, slot.b);
 }
 
+#[tactic(auto, unfolding(crate::specs::Slots::slot_at))]
 pub fn slot_at(params: &[u64], at: usize) -> Slot
     ensures { result ≡ slot_at params.now at }
 {
@@ -204,57 +200,58 @@ pub fn param_place(index: usize) -> usize
     index % 8 * 8
 }
 
-// One more than the number of the last parameter of that name, or 0.
-fn find_param(scope: &[u64], count: usize, name: u64) -> usize
-    ensures { result ≡ find_param count scope.now name }
+// The last parameter of that name.
+fn find_param(scope: &[u64], count: usize, name: u64) -> Option<usize>
+    ensures { one_more result ≡ find_param count scope.now name }
 {
-    let mut i = count;
-    while 0 < i {
-        if get(scope, param_place(i - 1), SLOT_NAME) == name {
-            return i;
+    for i in (0..count).rev() {
+        if get(scope, param_place(i), SLOT_NAME) == name {
+            return Some(i);
         }
-        i -= 1;
     }
-    0
+    None
 }
 
-// A field or a subtable as one number: kind + 8 × (1 + number), or 0 where there is none.
-fn plain_own(table: &[u16; table::LENGTH], name: u64) -> u64
-    ensures { result ≡ plain_found (own_local table.now name) }
+// A field or a subtable.
+#[tactic(auto, unfolding(crate::specs::Scopes::own_local, crate::specs::Scopes::own_of))]
+fn own_local(table: &[u16; table::LENGTH], name: u64) -> Option<Value>
+    ensures { to_found result ≡ own_local table.now name }
 {
-    let k = access::get_u16(table, table::LOCALS + (name % 1024) as usize) as u64;
-    if k == 0 {
-        return 0;
+    let own = access::get_u16(table, table::LOCALS + (name % 1024) as usize) as u64;
+    if own == 0 {
+        return None;
     }
-    if k % 2 == 1 {
-        return value_kind::FIELD + 8 * (k / 2 + 1);
+    if own % 2 == 1 {
+        return Some(local(value_kind::FIELD, own / 2));
     }
-    value_kind::SUBTABLE + 8 * (k / 2)
+    Some(local(value_kind::SUBTABLE, own / 2 - 1))
 }
 
-fn plain_tmp(scope: &[u64], name: u64) -> u64
-    ensures { result ≡ plain_found (tmp_local scope.now name) }
+#[tactic(auto, unfolding(crate::specs::Scopes::tmp_local, crate::specs::Scopes::tmp_of))]
+fn tmp_local(scope: &[u64], name: u64) -> Option<Value>
+    ensures { to_found result ≡ tmp_local scope.now name }
 {
-    let k = small(scope, (name % 1024) as usize);
-    if k == 0 {
-        return 0;
+    let more = small(scope, (name % 1024) as usize);
+    if more == 0 {
+        return None;
     }
-    value_kind::PCODE_TMP + 8 * k
+    Some(local(value_kind::PCODE_TMP, more - 1))
 }
 
-fn plain_found(table: &[u16; table::LENGTH], scope: &[u64], own: bool, name: u64) -> u64
-    ensures { result ≡ plain_found (lookup_local table.now scope.now own name) }
+// Fields and subtables are the section's own.
+#[tactic(auto, unfolding(crate::specs::Scopes::lookup_local, crate::specs::Scopes::or_tmp))]
+fn lookup_local(table: &[u16; table::LENGTH], scope: &[u64], own: bool, name: u64) -> Option<Value>
+    ensures { to_found result ≡ lookup_local table.now scope.now own name }
 {
     if own {
-        let q = plain_own(table, name);
-        if q == 0 {
-            return plain_tmp(scope, name);
+        if let Some(value) = own_local(table, name) {
+            return Some(value);
         }
-        return q;
     }
-    plain_tmp(scope, name)
+    tmp_local(scope, name)
 }
 
+#[tactic(auto, unfolding(crate::specs::Scopes::bit_range, crate::specs::Scopes::bits_at))]
 fn bit_range(section: Section<'_>, index: u64) -> ExprValue
     ensures { result ≡ bit_range section.entry.stream.now section.entry.table.now index }
 {
@@ -266,54 +263,7 @@ fn bit_range(section: Section<'_>, index: u64) -> ExprValue
     }
 }
 
-// A global register as one number; 0 for a bit range, 1 where a name means nothing or a wrong thing.
-fn plain_global(table: &[u16; table::LENGTH], name: u64) -> u64
-    ensures { result ≡ plain_global (lookup table.now name) }
-{
-    match lookup(table, name) {
-        Symbol::Register(i) => value_kind::REGISTER + 8 * (i + 1),
-        Symbol::BitRange(_) => 0,
-        _ => 1,
-    }
-}
-
-fn plain_inner(
-    section: Section<'_>,
-    scope: &[u64],
-    env: Env,
-    name: u64,
-) -> u64
-    ensures { result ≡ plain_inner section.entry.stream.now section.entry.table.now scope.now env name }
-{
-    if name == access::u16_at(section.stream, header::INST_NEXT) {
-        return INST_NEXT;
-    }
-    if name == access::u16_at(section.stream, header::INST_START) {
-        return INST_START;
-    }
-    let q = plain_found(section.table, scope, env.own, name);
-    if q == 0 {
-        return plain_global(section.table, name);
-    }
-    q
-}
-
-// The usual name, a plain local, as one number in place of a large `Meaning`: kind + 8 × (1 + number). 1 stands for `Wrong`, and
-// 0 for what only `resolve_ident` tells.
-pub fn plain_local(
-    section: Section<'_>,
-    scope: &[u64],
-    env: Env,
-    name: u64,
-) -> u64
-    ensures { result ≡ plain_local section.entry.stream.now section.entry.table.now scope.now env name }
-{
-    if 0 < find_param(scope, env.count, name) {
-        return 0;
-    }
-    plain_inner(section, scope, env, name)
-}
-
+#[tactic(auto, unfolding(crate::specs::Scopes::global_meaning))]
 fn global_meaning(section: Section<'_>, symbol: Symbol) -> Result<ExprValue, Refusal>
     ensures { to_meaning result ≡ global_meaning section.entry.stream.now section.entry.table.now symbol }
 {
@@ -321,10 +271,37 @@ fn global_meaning(section: Section<'_>, symbol: Symbol) -> Result<ExprValue, Ref
         Symbol::Undefined => Err(Refusal::Undefined),
         Symbol::Register(i) => Ok(ExprValue::Local(local(value_kind::REGISTER, i))),
         Symbol::BitRange(i) => Ok(bit_range(section, i)),
-        _ => Err(Refusal::WrongKind),
+        Symbol::Space(_)
+        | Symbol::Table(_)
+        | Symbol::UserOp(_)
+        | Symbol::Macro(_)
+        | Symbol::Other(_) => Err(Refusal::WrongKind),
     }
 }
 
+// inst_next, else inst_start, else a local, else a global.
+#[tactic(auto, unfolding(crate::specs::Scopes::inner_meaning, crate::specs::Scopes::found_or))]
+fn inner_meaning(
+    section: Section<'_>,
+    scope: &[u64],
+    env: Env,
+    name: u64,
+) -> Result<ExprValue, Refusal>
+    ensures { to_meaning result ≡ inner_meaning section.entry.stream.now section.entry.table.now scope.now env name }
+{
+    if name == access::u16_at(section.stream, header::INST_NEXT) {
+        return Ok(ExprValue::Local(local(value_kind::INST_NEXT, 0)));
+    }
+    if name == access::u16_at(section.stream, header::INST_START) {
+        return Ok(ExprValue::Local(local(value_kind::INST_START, 0)));
+    }
+    match lookup_local(section.table, scope, env.own, name) {
+        Some(value) => Ok(ExprValue::Local(value)),
+        None => global_meaning(section, lookup(section.table, name)),
+    }
+}
+
+#[tactic(auto, unfolding(crate::specs::Scopes::resolve_ident, crate::specs::Scopes::param_or))]
 pub fn resolve_ident(
     section: Section<'_>,
     scope: &[u64],
@@ -333,18 +310,14 @@ pub fn resolve_ident(
 ) -> Result<ExprValue, Refusal>
     ensures { to_meaning result ≡ resolve_ident section.entry.stream.now section.entry.table.now scope.now env name }
 {
-    let i = find_param(scope, env.count, name);
-    if 0 < i {
-        return Ok(of_slot(slot_at(scope, param_place(i - 1))));
+    match find_param(scope, env.count, name) {
+        Some(i) => Ok(of_slot(slot_at(scope, param_place(i)))),
+        None => inner_meaning(section, scope, env, name),
     }
-    let q = plain_inner(section, scope, env, name);
-    if 8 <= q {
-        return Ok(ExprValue::Local(local(q % 8, q / 8 - 1)));
-    }
-    global_meaning(section, lookup(section.table, name))
 }
 
 // A named temporary is made, then declared: the scope has one more than its number.
+#[tactic(auto, unfolding(crate::specs::Scopes::named_tmp, crate::specs::Scopes::undeclared, list_pushes::specs::Pushes::on_tmp))]
 pub fn named_tmp(
     table: &[u16; table::LENGTH],
     scope: &mut [u64],
@@ -356,10 +329,12 @@ pub fn named_tmp(
 ) -> Result<(Value, State), Refusal>
     ensures { read (to_read result) scope.new temporaries.new ≡ named_tmp table.now scope.old temporaries.old env name size state }
 {
-    let (v, next) = add_tmp(temporaries, name, size, state)?;
-    if plain_found(table, scope, env.own, name) != 0 {
-                return Err(Refusal::Redeclared);
-            }
+    let (value, next) = add_tmp(temporaries, name, size, state)?;
+    match lookup_local(table, scope, env.own, name) {
+        Some(_) => Err(Refusal::Redeclared),
+        None => {
             put_small(scope, (name % 1024) as usize, next.temporaries as u64);
-            Ok((v, next))
+            Ok((value, next))
+        }
+    }
 }

@@ -9,7 +9,7 @@ use Rattle.list_pushes.specs.Pushes.{ReadOut, read}
 use Rattle.expr_scope.specs.declared.scope.ExprValue.{ExprValue}
 use Rattle.expr_terms.specs.declared.answers.Expr.{Expr}
 use Rattle.expr_terms.specs.declared.answers.Operand.{Operand}
-use Rattle.expr_scope.specs.declared.args.Args.{Args}
+use Rattle.expr_scope.specs.Outcomes.{Args}
 
 -- an answer, the actions and the temporaries
 pub data ExprOut : Type 0 where

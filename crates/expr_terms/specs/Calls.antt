@@ -14,7 +14,7 @@ use Rattle.prelude.specs.Base.{when◌then◌else◌}
 use Rattle.list_values.specs.Values.{absent, no_output}
 use Rattle.list_pushes.specs.Pushes.{PushedOut, pushed, push_op, on_read, on_pushed}
 use Rattle.expr_scope.specs.declared.scope.ExprValue.{ExprValue}
-use Rattle.expr_scope.specs.declared.scope.Meaning.{Meaning}
+use Rattle.expr_scope.specs.Outcomes.{Meaning}
 use Rattle.expr_scope.specs.declared.symbols.Symbol.{Symbol}
 use Rattle.expr_terms.specs.declared.answers.Expr.{Expr}
 use Rattle.expr_terms.specs.declared.calls.Callee.{Callee}

@@ -6,7 +6,7 @@ use Rattle.list_pushes.specs.declared.push.State.{State}
 use Rattle.list_pushes.specs.declared.push.Env.{Env}
 use Rattle.list_values.specs.Base.{listed, then_l}
 use Rattle.prelude.specs.Base.{when◌then◌else◌}
-use Rattle.expr_scope.specs.declared.args.Args.{Args}
+use Rattle.expr_scope.specs.Outcomes.{Args}
 use Rattle.expr_terms.specs.Answers.{passed, on_args, after}
 use Rattle.stmt_walk.specs.declared.walk.Walk.{Walk}
 use Rattle.stmt_walk.specs.declared.walk.Step.{Step}

@@ -10,7 +10,7 @@ use Rattle.prelude.specs.Base.{when◌then◌else◌}
 use Rattle.list_values.specs.Values.{absent, no_output}
 use Rattle.list_pushes.specs.Pushes.{on_read, push_op}
 use Rattle.expr_scope.specs.declared.scope.ExprValue.{ExprValue}
-use Rattle.expr_scope.specs.declared.scope.Meaning.{Meaning}
+use Rattle.expr_scope.specs.Outcomes.{Meaning}
 use Rattle.expr_scope.specs.Scopes.{resolve_ident}
 use Rattle.expr_reading.specs.Reading.{constant, read_operand}
 use Rattle.expr_terms.specs.Answers.{on_operand, after}

@@ -10,7 +10,7 @@ use Rattle.prelude.specs.Base.{when◌then◌else◌}
 use Rattle.access.specs.Loops.{run}
 use Rattle.list_values.specs.Values.{absent, no_output, value_at, put_value}
 use Rattle.list_pushes.specs.Pushes.{on_read, on_push, push}
-use Rattle.expr_scope.specs.declared.args.Args.{Args}
+use Rattle.expr_scope.specs.Outcomes.{Args}
 use Rattle.expr_scope.specs.Slots.{param_place, arg_at}
 use Rattle.expr_scope.specs.declared.symbols.Symbol.{Symbol}
 use Rattle.expr_scope.specs.Symbols.{lookup}

@@ -1,0 +1,38 @@
+-- What a name means and what a search for it gives, as the words have it.
+use Rattle.std.specs.Prelude.{ℕ, suc, Option, Some, None, Result, Ok, Err}
+use Rattle.codes.specs.declared.refusal.Refusal.{Refusal}
+use Rattle.codes.specs.Refusals.{number}
+use Rattle.list_values.specs.declared.value.Value.{Value}
+use Rattle.list_pushes.specs.declared.push.State.{State}
+use Rattle.expr_scope.specs.declared.scope.ExprValue.{ExprValue}
+
+pub data Meaning : Type 0 where
+  Means : ExprValue → Meaning
+  Wrong : ℕ → Meaning
+
+abbrev pub to_meaning : Result ExprValue Refusal → Meaning
+to_meaning (Ok x) = Meaning.Means x
+to_meaning (Err refusal) = Meaning.Wrong (number refusal)
+
+-- arguments resolved: where they end, and the state
+pub data Args : Type 0 where
+  Done : ℕ → State → Args
+  No : ℕ → Args
+
+abbrev pub to_args : Result (ℕ × State) Refusal → Args
+to_args (Ok x) = Args.Done x.0 x.1
+to_args (Err refusal) = Args.No (number refusal)
+
+-- what a search for a local gives
+pub data Found : Type 0 where
+  Is : Value → Found
+  Nothing : Found
+
+abbrev pub to_found : Option Value → Found
+to_found (Some v) = Found.Is v
+to_found None = Found.Nothing
+
+-- one more than an index, 0 where there is none
+abbrev pub one_more : Option ℕ → ℕ
+one_more (Some i) = suc i
+one_more None = 0
