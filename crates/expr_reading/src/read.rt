@@ -1,15 +1,18 @@
 // Reading: an expression's value becomes an operand, in the output where one is given.
-ghost use Rattle.std.specs.Prelude.{◌≡◌};
+ghost use Rattle.std.specs.Prelude.{◌≡◌, is_some, unwrap_or};
 ghost use Rattle.list_values.specs.Base.{listed};
-ghost use Rattle.list_values.specs.Values.{local};
-ghost use Rattle.list_pushes.specs.Pushes.{read, with_sizing};
-ghost use Rattle.expr_reading.specs.Reading.{needed_bytes, constant, set_size, set_stated, take_stated, copy_to, byte_aligned, sliced, shift_to, shift_and_mask, part_of, read_slice, pushed_to, read_address, load, load_register, read_value, read_operand};
+ghost use Rattle.list_values.specs.Values.{local, absent};
+ghost use Rattle.list_pushes.specs.Outcomes.{to_read};
+ghost use Rattle.list_pushes.specs.Pushes.{read};
+ghost use Rattle.expr_reading.specs.Reading.{needed_bytes, constant, set_size, set_stated, take_stated, copy_to, byte_aligned, sliced, shift_to, shift_and_mask, part_of, read_slice, read_address, load, load_register, read_value, read_operand};
 
-use codes::{NONE, action_kind, operation, refusal, table, value_kind};
+use codes::refusal::Refusal;
+use codes::{NONE, action_kind, operation, value_kind};
 use expr_scope::scope::ExprValue;
-use list_pushes::push::{Env, Pushed, Read, State, add_tmp, op, op_to, output_or, push};
-use list_values::sizes::{Sizing, record_errors, settle, size_of};
-use list_values::value::{Slice, Value, absent, local, slice_bytes, with_size};
+use list_pushes::push::{Env, Operation, State, add_tmp, op, op_to, output_or, push};
+use list_values::section::Section;
+use list_values::sizes::{record_errors, settle, size_of};
+use list_values::value::{Value, absent, local, slice_bytes, with_size};
 
 pub fn needed_bytes(bits: u64) -> u64
     ensures { result ≡ needed_bytes bits }
@@ -23,22 +26,14 @@ pub fn constant(count: u64) -> Value
     local(value_kind::CONSTANT, count)
 }
 
-fn with_sizing(state: State, sizing: Sizing) -> State
-    ensures { result ≡ with_sizing sizing state }
-{
-    State {
-        end: state.end,
-        temporaries: state.temporaries,
-        sizing: sizing,
-    }
-}
-
+// A value whose size was set, and the state then.
 #[derive(Clone, Copy)]
 pub struct Stated {
     pub v: Value,
     pub st: State,
 }
 
+#[tactic(auto, unfolding(crate::specs::Reading::set_size, list_values::specs::Base::then_l))]
 fn set_size(
     section: Section<'_>,
     temporaries: &mut [u64],
@@ -49,15 +44,18 @@ fn set_size(
     ensures { listed result temporaries.new ≡ set_size section.entry.stream.now section.entry.table.now temporaries.old value size state }
 {
     let known = size_of(section, temporaries, value);
-    let k = settle(temporaries, value, known, size);
-    let z = record_errors(state.sizing, k);
+    let errors = settle(temporaries, value, known, size);
     Stated {
         v: with_size(value, size),
-        st: with_sizing(state, z),
+        st: State {
+            sizing: record_errors(state.sizing, errors),
+            ..state
+        },
     }
 }
 
 // A register access's stated size is set; 0 sets none.
+#[tactic(auto, unfolding(crate::specs::Reading::set_stated))]
 pub fn set_stated(
     section: Section<'_>,
     temporaries: &mut [u64],
@@ -77,6 +75,7 @@ pub fn set_stated(
 }
 
 // A RAM access's stated size is taken silently; 0 sets none.
+#[tactic(auto, unfolding(crate::specs::Reading::take_stated))]
 pub fn take_stated(
     section: Section<'_>,
     temporaries: &mut [u64],
@@ -101,50 +100,44 @@ pub fn take_stated(
     set_size(section, temporaries, value, size, state)
 }
 
+#[tactic(auto, unfolding(crate::specs::Reading::copy_to))]
 fn copy_to(
     section: Section<'_>,
     actions: &mut [u64],
     temporaries: &mut [u64],
     env: Env,
-    given: bool,
-    to: Value,
+    to: Option<Value>,
     value: Value,
     state: State,
 ) -> Result<(Value, State), Refusal>
-    ensures { read (to_read result) actions.new temporaries.new ≡ copy_to section.entry.stream.now section.entry.table.now actions.old temporaries.old env given to value state }
+    ensures { read (to_read result) actions.new temporaries.new ≡ copy_to section.entry.stream.now section.entry.table.now actions.old temporaries.old env (is_some to) (unwrap_or to absent) value state }
 {
-    if given {
-        return op_to(
-            section,
-            actions,
-            temporaries,
-            env,
-            operation::COPY,
-            0,
-            1,
-            to,
-            value,
-            absent(),
-            state,
-        );
+    match to {
+        Some(output) => {
+            let copy = Operation::unary(operation::COPY, value);
+            op_to(section, actions, temporaries, env, copy, output, state)
+        }
+        None => Ok((value, state)),
     }
-    Ok((value, state))
 }
 
+#[tactic(auto, unfolding(crate::specs::Reading::byte_aligned))]
 pub fn byte_aligned(from: u64, bits: u64) -> bool
     ensures { result ≡ byte_aligned from bits }
 {
-    if from % 8 == 0 { bits % 8 == 0 } else { false }
+    from % 8 == 0 && bits % 8 == 0
 }
 
 // The slice, unless its offset passes 65,535.
+#[tactic(auto, unfolding(crate::specs::Reading::sliced, crate::specs::Reading::slice_read))]
 pub fn sliced(value: Value, more: u64, size: u64, state: State) -> Result<(Value, State), Refusal>
     ensures { to_read result ≡ sliced value more size state }
 {
-    let v = slice_bytes(value, more, size)?;
-    Ok((v, state))
+    let slice = slice_bytes(value, more, size)?;
+    Ok((slice, state))
 }
 
+#[tactic(auto, unfolding(crate::specs::Reading::shift_to, list_pushes::specs::Pushes::on_read))]
 fn shift_to(
     section: Section<'_>,
     actions: &mut [u64],
@@ -158,34 +151,13 @@ fn shift_to(
 ) -> Result<(Value, State), Refusal>
     ensures { read (to_read result) actions.new temporaries.new ≡ shift_to section.entry.stream.now section.entry.table.now actions.old temporaries.old env value tmp from bits state }
 {
-    let (_, next) = op_to(
-        section,
-        actions,
-        temporaries,
-        env,
-        operation::INT_RIGHT,
-        0,
-        2,
-        tmp,
-        value,
-        constant(from),
-        state,
-    )?;
-    op_to(
-            section,
-            actions,
-            temporaries,
-            env,
-            operation::INT_AND,
-            0,
-            2,
-            tmp,
-            tmp,
-            constant(access::mask(bits)),
-            next,
-        )
+    let shift = Operation::binary(operation::INT_RIGHT, value, constant(from));
+    let (_, next) = op_to(section, actions, temporaries, env, shift, tmp, state)?;
+    let masked = Operation::binary(operation::INT_AND, tmp, constant(access::mask(bits)));
+    op_to(section, actions, temporaries, env, masked, tmp, next)
 }
 
+#[tactic(auto, unfolding(crate::specs::Reading::shift_and_mask, list_pushes::specs::Pushes::on_tmp, list_pushes::specs::Pushes::on_read))]
 fn shift_and_mask(
     section: Section<'_>,
     actions: &mut [u64],
@@ -201,19 +173,20 @@ fn shift_and_mask(
     let size = size_of(section, temporaries, value);
     let (tmp, next) = add_tmp(temporaries, NONE, size, state)?;
     let (_, last) = shift_to(
-            section,
-            actions,
-            temporaries,
-            env,
-            value,
-            tmp,
-            from,
-            bits,
-            next,
-        )?;
+        section,
+        actions,
+        temporaries,
+        env,
+        value,
+        tmp,
+        from,
+        bits,
+        next,
+    )?;
     Ok((with_size(tmp, needed_bytes(bits)), last))
 }
 
+#[tactic(auto, unfolding(crate::specs::Reading::part_of))]
 fn part_of(
     section: Section<'_>,
     actions: &mut [u64],
@@ -229,18 +202,10 @@ fn part_of(
     if byte_aligned(from, bits) {
         return sliced(value, from / 8, bits / 8, state);
     }
-    shift_and_mask(
-        section,
-        actions,
-        temporaries,
-        env,
-        value,
-        from,
-        bits,
-        state,
-    )
+    shift_and_mask(section, actions, temporaries, env, value, from, bits, state)
 }
 
+#[tactic(auto, unfolding(crate::specs::Reading::read_slice, list_pushes::specs::Pushes::on_read))]
 pub fn read_slice(
     section: Section<'_>,
     actions: &mut [u64],
@@ -249,72 +214,36 @@ pub fn read_slice(
     value: Value,
     from: u64,
     bits: u64,
-    given: bool,
-    to: Value,
+    to: Option<Value>,
     state: State,
 ) -> Result<(Value, State), Refusal>
-    ensures { read (to_read result) actions.new temporaries.new ≡ read_slice section.entry.stream.now section.entry.table.now actions.old temporaries.old env value from bits given to state }
+    ensures { read (to_read result) actions.new temporaries.new ≡ read_slice section.entry.stream.now section.entry.table.now actions.old temporaries.old env value from bits (is_some to) (unwrap_or to absent) state }
 {
-    let (part, next) = part_of(
-        section,
-        actions,
-        temporaries,
-        env,
-        value,
-        from,
-        bits,
-        state,
-    )?;
-    copy_to(
-            section,
-            actions,
-            temporaries,
-            env,
-            given,
-            to,
-            part,
-            next,
-        )
+    let (part, next) = part_of(section, actions, temporaries, env, value, from, bits, state)?;
+    copy_to(section, actions, temporaries, env, to, part, next)
 }
 
-fn pushed_to(answer: Pushed, value: Value) -> Result<(Value, State), Refusal>
-    ensures { to_read result ≡ pushed_to answer value }
-{
-    let st = answer?;
-    Ok((value, st))
-}
-
+#[tactic(auto, unfolding(crate::specs::Reading::read_address, crate::specs::Reading::pushed_out, crate::specs::Reading::pushed_to, list_pushes::specs::Pushes::on_tmp))]
 fn read_address(
     actions: &mut [u64],
     temporaries: &mut [u64],
     base: Value,
     size: u64,
-    given: bool,
-    to: Value,
+    to: Option<Value>,
     state: State,
 ) -> Result<(Value, State), Refusal>
-    ensures { read (to_read result) actions.new temporaries.new ≡ read_address actions.old temporaries.old base size given to state }
+    ensures { read (to_read result) actions.new temporaries.new ≡ read_address actions.old temporaries.old base size (is_some to) (unwrap_or to absent) state }
 {
     if base.offset != 0 {
         return Err(Refusal::AddressOfOffset);
     }
-    let (v, next) = output_or(temporaries, given, to, size, state)?;
-    pushed_to(
-            push(
-                actions,
-                action_kind::ADDRESS_OF,
-                0,
-                0,
-                1,
-                v,
-                local(base.kind, base.number),
-                absent(),
-                next,
-            ),
-            v,
-        )
+    let (value, next) = output_or(temporaries, to, size, state)?;
+    let address = Operation::unary(0, local(base.kind, base.number));
+    let last = push(actions, action_kind::ADDRESS_OF, address, value, next)?;
+    Ok((value, last))
 }
 
+#[tactic(auto, unfolding(crate::specs::Reading::load, crate::specs::Reading::load_to, list_pushes::specs::Pushes::on_tmp))]
 fn load(
     section: Section<'_>,
     actions: &mut [u64],
@@ -322,177 +251,93 @@ fn load(
     env: Env,
     pointer: Value,
     size: u64,
-    given: bool,
-    to: Value,
+    to: Option<Value>,
     state: State,
 ) -> Result<(Value, State), Refusal>
-    ensures { read (to_read result) actions.new temporaries.new ≡ load section.entry.stream.now section.entry.table.now actions.old temporaries.old env pointer size given to state }
+    ensures { read (to_read result) actions.new temporaries.new ≡ load section.entry.stream.now section.entry.table.now actions.old temporaries.old env pointer size (is_some to) (unwrap_or to absent) state }
 {
-    let (v, next) = output_or(temporaries, given, to, NONE, state)?;
-    let out = take_stated(section, temporaries, v, size, next);
-            op_to(
-                section,
-                actions,
-                temporaries,
-                env,
-                operation::LOAD,
-                0,
-                1,
-                out.v,
-                pointer,
-                absent(),
-                out.st,
-            )
+    let (value, next) = output_or(temporaries, to, NONE, state)?;
+    let out = take_stated(section, temporaries, value, size, next);
+    let load = Operation::unary(operation::LOAD, pointer);
+    op_to(section, actions, temporaries, env, load, out.v, out.st)
 }
 
+#[tactic(auto, unfolding(crate::specs::Reading::load_register, crate::specs::Reading::load_register_to, crate::specs::Reading::pushed_out, crate::specs::Reading::pushed_to, list_pushes::specs::Pushes::on_tmp))]
 fn load_register(
     section: Section<'_>,
     actions: &mut [u64],
     temporaries: &mut [u64],
     pointer: Value,
     size: u64,
-    given: bool,
-    to: Value,
+    to: Option<Value>,
     state: State,
 ) -> Result<(Value, State), Refusal>
-    ensures { read (to_read result) actions.new temporaries.new ≡ load_register section.entry.stream.now section.entry.table.now actions.old temporaries.old pointer size given to state }
+    ensures { read (to_read result) actions.new temporaries.new ≡ load_register section.entry.stream.now section.entry.table.now actions.old temporaries.old pointer size (is_some to) (unwrap_or to absent) state }
 {
-    let (v, next) = output_or(temporaries, given, to, size, state)?;
-    let out = set_stated(section, temporaries, v, size, next);
-            pushed_to(
-                push(
-                    actions,
-                    action_kind::LOAD_REGISTER,
-                    0,
-                    size,
-                    1,
-                    out.v,
-                    pointer,
-                    absent(),
-                    out.st,
-                ),
-                out.v,
-            )
+    let (value, next) = output_or(temporaries, to, size, state)?;
+    let out = set_stated(section, temporaries, value, size, next);
+    let load = Operation {
+        number: size,
+        ..Operation::unary(0, pointer)
+    };
+    let last = push(actions, action_kind::LOAD_REGISTER, load, out.v, out.st)?;
+    Ok((out.v, last))
 }
 
+#[tactic(auto, unfolding(crate::specs::Reading::read_value))]
 pub fn read_value(
     section: Section<'_>,
     actions: &mut [u64],
     temporaries: &mut [u64],
     env: Env,
     expr: ExprValue,
-    given: bool,
-    to: Value,
+    to: Option<Value>,
     state: State,
 ) -> Result<(Value, State), Refusal>
-    ensures { read (to_read result) actions.new temporaries.new ≡ read_value section.entry.stream.now section.entry.table.now actions.old temporaries.old env expr given to state }
+    ensures { read (to_read result) actions.new temporaries.new ≡ read_value section.entry.stream.now section.entry.table.now actions.old temporaries.old env expr (is_some to) (unwrap_or to absent) state }
 {
     match expr {
-        ExprValue::Local(v) => copy_to(
-            section,
-            actions,
-            temporaries,
-            env,
-            given,
-            to,
-            v,
-            state,
-        ),
-        ExprValue::Unbound(v) => copy_to(
-            section,
-            actions,
-            temporaries,
-            env,
-            given,
-            to,
-            v,
-            state,
-        ),
+        ExprValue::Local(v) => copy_to(section, actions, temporaries, env, to, v, state),
+        ExprValue::Unbound(v) => copy_to(section, actions, temporaries, env, to, v, state),
         ExprValue::Const { value, size } => {
             let v = with_size(constant(value), size);
-            copy_to(
-                section,
-                actions,
-                temporaries,
-                env,
-                given,
-                to,
-                v,
-                state,
-            )
+            copy_to(section, actions, temporaries, env, to, v, state)
         }
         ExprValue::Apply {
             op: code,
             number,
             count,
-            a: expr,
-            b: y,
-        } => op(
-            section,
-            actions,
-            temporaries,
-            env,
-            code,
-            number,
-            count,
-            given,
-            to,
-            expr,
-            y,
-            state,
-        ),
-        ExprValue::RamRef { pointer, size } => load(
-            section,
-            actions,
-            temporaries,
-            env,
-            pointer,
-            size,
-            given,
-            to,
-            state,
-        ),
-        ExprValue::RegisterRef { pointer, size } => {
-            load_register(
-                section,
-                actions,
-                temporaries,
-                pointer,
-                size,
-                given,
-                to,
-                state,
-            )
+            a: first,
+            b: second,
+        } => {
+            let operation = Operation {
+                code,
+                number,
+                count,
+                first,
+                second,
+            };
+            op(section, actions, temporaries, env, operation, to, state)
         }
-        ExprValue::AddressOf { base, size } => read_address(
-            actions,
-            temporaries,
-            base,
-            size,
-            given,
-            to,
-            state,
-        ),
+        ExprValue::RamRef { pointer, size } => {
+            load(section, actions, temporaries, env, pointer, size, to, state)
+        }
+        ExprValue::RegisterRef { pointer, size } => {
+            load_register(section, actions, temporaries, pointer, size, to, state)
+        }
+        ExprValue::AddressOf { base, size } => {
+            read_address(actions, temporaries, base, size, to, state)
+        }
         ExprValue::BitRange { v, from, bits } => {
             // By a name of its own, so that the answers of the other arms need not go through memory.
-            let r = read_slice(
-                section,
-                actions,
-                temporaries,
-                env,
-                v,
-                from,
-                bits,
-                given,
-                to,
-                state,
-            );
+            let r = read_slice(section, actions, temporaries, env, v, from, bits, to, state);
             r
         }
     }
 }
 
 // Read as an operand, with no output given.
+#[tactic(auto, unfolding(crate::specs::Reading::read_operand))]
 pub fn read_operand(
     section: Section<'_>,
     actions: &mut [u64],
@@ -503,14 +348,5 @@ pub fn read_operand(
 ) -> Result<(Value, State), Refusal>
     ensures { read (to_read result) actions.new temporaries.new ≡ read_operand section.entry.stream.now section.entry.table.now actions.old temporaries.old env expr state }
 {
-    read_value(
-        section,
-        actions,
-        temporaries,
-        env,
-        expr,
-        false,
-        absent(),
-        state,
-    )
+    read_value(section, actions, temporaries, env, expr, None, state)
 }
