@@ -30,8 +30,8 @@ use Rattle.definition_guarantee.proofs.Tests.{some_same}
 use Rattle.definition_guarantee.proofs.Globals.{place-below, FoundPlaced, found_placed}
 use Rattle.list_refinement.specs.Encoding.{enc_v, Sound}
 use Rattle.list_refinement.proofs.Seen.{yes, no, seen_read}
-use Rattle.expr_terms.specs.declared.answers.Expr.{Expr}
-use Rattle.expr_terms.specs.declared.address.Space.{Space}
+use Rattle.expr_terms.specs.Outcomes.{Expr}
+use Rattle.expr_terms.specs.Outcomes.{Space}
 use Rattle.expr_terms.specs.Answers.{ExprOut, resolved, expr_of}
 use Rattle.expr_reading.specs.Reading.{read_operand}
 use Rattle.expr_terms.specs.Addresses.{or_size, in_const_space, kind_of_space, space_of, named_space, default_space, resolve_space, reference_to, reference, in_space, address_in, resolve_address}

@@ -20,8 +20,8 @@ use Rattle.list_pushes.specs.Pushes.{ReadOut, read, PushedOut, pushed, on_read, 
 use Rattle.list_refinement.specs.Encoding.{actions_in, temporaries_in, enc_s}
 use Rattle.list_refinement.proofs.Seen.{Seen, no, yes, seen_read, seen_pushed, seen_tmp, outcome}
 use Rattle.expr_scope.specs.declared.scope.ExprValue.{ExprValue as WordExpr}
-use Rattle.expr_terms.specs.declared.answers.Expr.{Expr}
-use Rattle.expr_terms.specs.declared.answers.Operand.{Operand}
+use Rattle.expr_terms.specs.Outcomes.{Expr}
+use Rattle.expr_terms.specs.Outcomes.{Operand}
 use Rattle.expr_scope.specs.Outcomes.{Args}
 use Rattle.expr_terms.specs.Answers.{ExprOut, resolved, on_expr, OperandOut, operand, on_operand, ArgsOut, passed, on_args}
 use Rattle.expr_refinement.proofs.Encodings.{later_refl, later_trans}

@@ -28,7 +28,7 @@ use Rattle.file_refinement.specs.Holds.{Holds, spelled_at}
 use Rattle.expr_inbuilts.specs.Inbuilts.{inbuilt_at}
 use Rattle.list_refinement.specs.Encoding.{enc_v, Sound, Each, first_of, second_of}
 use Rattle.list_refinement.proofs.Seen.{yes, no, seen_read, seen_pushed}
-use Rattle.expr_terms.specs.declared.answers.Expr.{Expr}
+use Rattle.expr_terms.specs.Outcomes.{Expr}
 use Rattle.expr_scope.specs.Slots.{arg_at}
 use Rattle.expr_terms.specs.Answers.{ExprOut, resolved, expr_of, after}
 use Rattle.expr_reading.specs.Reading.{read_operand}

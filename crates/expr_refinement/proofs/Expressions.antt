@@ -38,9 +38,9 @@ use Rattle.file_refinement.proofs.Inversion.{OpAt, CallAt, expr-begun, nothing_d
 use Rattle.list_refinement.specs.Encoding.{enc_v, Sound, Each, first_of, second_of}
 use Rattle.list_refinement.proofs.Seen.{yes, no, seen_read, outcome}
 use Rattle.expr_scope.specs.declared.scope.ExprValue.{ExprValue as WordExpr}
-use Rattle.expr_terms.specs.declared.answers.Expr.{Expr}
-use Rattle.expr_terms.specs.declared.answers.Operand.{Operand}
-use Rattle.expr_terms.specs.declared.calls.Callee.{Callee}
+use Rattle.expr_terms.specs.Outcomes.{Expr}
+use Rattle.expr_terms.specs.Outcomes.{Operand}
+use Rattle.expr_terms.specs.Outcomes.{Callee}
 use Rattle.expr_scope.specs.declared.symbols.Symbol.{Symbol as WordSymbol}
 use Rattle.expr_terms.specs.Answers.{ExprOut, resolved, OperandOut, operand, operand_of, applied_to, after}
 use Rattle.expr_scope.specs.Slots.{arg_at, put_arg}

@@ -22,7 +22,7 @@ use Rattle.list_pushes.specs.Pushes.{ReadOut, read}
 use Rattle.list_refinement.specs.Encoding.{enc_v, Sound}
 use Rattle.list_refinement.proofs.Seen.{yes, no, seen_read}
 use Rattle.expr_scope.specs.declared.scope.ExprValue.{ExprValue as WordExpr}
-use Rattle.expr_terms.specs.declared.answers.Expr.{Expr}
+use Rattle.expr_terms.specs.Outcomes.{Expr}
 use Rattle.expr_terms.specs.Answers.{ExprOut, resolved, expr_of}
 use Rattle.expr_reading.specs.Reading.{needed_bytes, read_slice}
 use Rattle.expr_terms.specs.Slices.{low_bits, unbound_then, slice_read, const_bytes, slice_const, slice_range, slice_bits}

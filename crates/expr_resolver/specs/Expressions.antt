@@ -13,11 +13,11 @@ use Rattle.prelude.specs.Base.{when◌then◌else◌}
 use Rattle.list_values.specs.Values.{absent, local}
 use Rattle.expr_scope.specs.declared.scope.ExprValue.{ExprValue}
 use Rattle.expr_scope.specs.Outcomes.{Meaning}
-use Rattle.expr_terms.specs.declared.answers.Expr.{Expr}
-use Rattle.expr_terms.specs.declared.answers.Operand.{Operand}
+use Rattle.expr_terms.specs.Outcomes.{Expr}
+use Rattle.expr_terms.specs.Outcomes.{Operand}
 use Rattle.expr_resolver.specs.declared.expr.Order.{Order}
 use Rattle.expr_scope.specs.Outcomes.{Args}
-use Rattle.expr_terms.specs.declared.calls.Callee.{Callee}
+use Rattle.expr_terms.specs.Outcomes.{Callee}
 use Rattle.expr_scope.specs.Slots.{put_arg}
 use Rattle.expr_scope.specs.Scopes.{resolve_ident, plain_local}
 use Rattle.expr_reading.specs.Reading.{constant, read_operand}

@@ -11,8 +11,8 @@ use Rattle.list_values.specs.Values.{with_size}
 use Rattle.list_values.specs.Sizes.{entry}
 use Rattle.expr_scope.specs.declared.scope.ExprValue.{ExprValue}
 use Rattle.expr_scope.specs.declared.symbols.Symbol.{Symbol}
-use Rattle.expr_terms.specs.declared.answers.Expr.{Expr}
-use Rattle.expr_terms.specs.declared.address.Space.{Space}
+use Rattle.expr_terms.specs.Outcomes.{Expr}
+use Rattle.expr_terms.specs.Outcomes.{Space}
 use Rattle.expr_scope.specs.Symbols.{lookup}
 use Rattle.expr_reading.specs.Reading.{read_operand}
 use Rattle.expr_terms.specs.Answers.{ExprOut, resolved, expr_of}

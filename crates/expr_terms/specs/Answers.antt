@@ -7,8 +7,8 @@ use Rattle.list_pushes.specs.Outcomes.{Read}
 use Rattle.prelude.specs.Base.{when◌then◌else◌}
 use Rattle.list_pushes.specs.Pushes.{ReadOut, read}
 use Rattle.expr_scope.specs.declared.scope.ExprValue.{ExprValue}
-use Rattle.expr_terms.specs.declared.answers.Expr.{Expr}
-use Rattle.expr_terms.specs.declared.answers.Operand.{Operand}
+use Rattle.expr_terms.specs.Outcomes.{Expr}
+use Rattle.expr_terms.specs.Outcomes.{Operand}
 use Rattle.expr_scope.specs.Outcomes.{Args}
 
 -- an answer, the actions and the temporaries

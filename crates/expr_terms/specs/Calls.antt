@@ -16,8 +16,8 @@ use Rattle.list_pushes.specs.Pushes.{PushedOut, pushed, push_op, on_read, on_pus
 use Rattle.expr_scope.specs.declared.scope.ExprValue.{ExprValue}
 use Rattle.expr_scope.specs.Outcomes.{Meaning}
 use Rattle.expr_scope.specs.declared.symbols.Symbol.{Symbol}
-use Rattle.expr_terms.specs.declared.answers.Expr.{Expr}
-use Rattle.expr_terms.specs.declared.calls.Callee.{Callee}
+use Rattle.expr_terms.specs.Outcomes.{Expr}
+use Rattle.expr_terms.specs.Outcomes.{Callee}
 use Rattle.expr_scope.specs.Slots.{arg_at}
 use Rattle.expr_scope.specs.Symbols.{lookup}
 use Rattle.expr_scope.specs.Scopes.{resolve_ident}

@@ -9,7 +9,7 @@ use Rattle.prelude.specs.Base.{when◌then◌else◌}
 use Rattle.list_values.specs.Values.{absent}
 use Rattle.list_pushes.specs.Pushes.{on_read}
 use Rattle.expr_scope.specs.declared.scope.ExprValue.{ExprValue}
-use Rattle.expr_terms.specs.declared.answers.Expr.{Expr}
+use Rattle.expr_terms.specs.Outcomes.{Expr}
 use Rattle.expr_reading.specs.Reading.{needed_bytes, read_slice, read_operand}
 use Rattle.expr_terms.specs.Answers.{ExprOut, resolved, expr_of}
 

@@ -1,94 +1,116 @@
 // Addresses: the place that a pointer in a space refers to.
 ghost use Rattle.std.specs.Prelude.{◌≡◌};
+ghost use Rattle.expr_terms.specs.Outcomes.{to_expr, to_space};
 ghost use Rattle.expr_terms.specs.Answers.{resolved};
-ghost use Rattle.expr_terms.specs.Addresses.{or_size, in_const_space, kind_of_space, named_space, resolve_space, reference, address_in, resolve_address};
+ghost use Rattle.expr_terms.specs.Addresses.{or_size, in_const_space, kind_of_space, named_space, resolve_space, reference_to, address_in, resolve_address};
 
-use crate::answers::Expr;
-use codes::{NONE, header, refusal, table};
+use crate::answers::Resolved;
+use codes::refusal::Refusal;
+use codes::{NONE, header, table};
 use expr_reading::read::read_operand;
 use expr_scope::scope::ExprValue;
 use expr_scope::symbols::{Symbol, lookup};
-use list_pushes::push::{Env, Read, State};
+use list_pushes::push::{Env, State};
+use list_values::section::Section;
 use list_values::sizes::entry;
-use list_values::value::with_size;
+use list_values::value::{Value, with_size};
 
 // Two of the three kinds of a space.
 const RAM: u64 = 0;
 
 const REGISTERS: u64 = 1;
 
+#[tactic(auto, unfolding(crate::specs::Addresses::or_size))]
 fn or_size(size: u64, other: u64) -> u64
     ensures { result ≡ or_size size other }
 {
     if size == NONE { other } else { size }
 }
 
-fn in_const_space(expr: ExprValue, size: u64, next: usize, state: State) -> Result<(usize, ExprValue, State), Refusal>
+#[tactic(auto, unfolding(crate::specs::Addresses::in_const_space))]
+fn in_const_space(
+    expr: ExprValue,
+    size: u64,
+    next: usize,
+    state: State,
+) -> Result<Resolved, Refusal>
     ensures { to_expr result ≡ in_const_space expr size next state }
 {
-    match expr {
-        ExprValue::Local(v) => Ok((next, ExprValue::Local(with_size(v, or_size(size, v.size))), state)),
-        ExprValue::Const { value, size: old } => Ok((next, ExprValue::Const {
-                value,
-                size: or_size(size, old),
-            }, state)),
-        _ => Err(Refusal::ConstSpace),
-    }
+    let value = match expr {
+        ExprValue::Local(v) => ExprValue::Local(with_size(v, or_size(size, v.size))),
+        ExprValue::Const { value, size: own } => ExprValue::Const {
+            value,
+            size: or_size(size, own),
+        },
+        ExprValue::Unbound(_)
+        | ExprValue::Apply { .. }
+        | ExprValue::RamRef { .. }
+        | ExprValue::RegisterRef { .. }
+        | ExprValue::AddressOf { .. }
+        | ExprValue::BitRange { .. } => return Err(Refusal::ConstSpace),
+    };
+    Ok(Resolved { next, value, state })
 }
 
-#[derive(Clone, Copy)]
-pub enum Space {
-    Kind(u64),
-    No(u64),
-}
-
-fn kind_of_space(section: Section<'_>, index: u64) -> Space
-    ensures { result ≡ kind_of_space section.entry.stream.now section.entry.table.now index }
+#[tactic(auto, unfolding(crate::specs::Addresses::kind_of_space))]
+fn kind_of_space(section: Section<'_>, index: u64) -> Result<u64, Refusal>
+    ensures { to_space result ≡ kind_of_space section.entry.stream.now section.entry.table.now index }
 {
-    Space::Kind(access::byte(section.stream, entry(section.table, table::SPACES, index % 65536 * 5), 2))
+    let at = entry(section.table, table::SPACES, index % 65536 * 5);
+    Ok(access::byte(section.stream, at, 2))
 }
 
-fn named_space(section: Section<'_>, name: u64) -> Space
-    ensures { result ≡ named_space section.entry.stream.now section.entry.table.now name }
+#[tactic(auto, unfolding(crate::specs::Addresses::named_space, crate::specs::Addresses::space_of))]
+fn named_space(section: Section<'_>, name: u64) -> Result<u64, Refusal>
+    ensures { to_space result ≡ named_space section.entry.stream.now section.entry.table.now name }
 {
     match lookup(section.table, name) {
-        Symbol::Undefined => Space::No(Refusal::Undefined),
+        Symbol::Undefined => Err(Refusal::Undefined),
         Symbol::Space(i) => kind_of_space(section, i),
-        _ => Space::No(Refusal::WrongKind),
+        Symbol::Register(_)
+        | Symbol::BitRange(_)
+        | Symbol::Table(_)
+        | Symbol::UserOp(_)
+        | Symbol::Macro(_)
+        | Symbol::Other(_) => Err(Refusal::WrongKind),
     }
 }
 
-// The named space, else the default one.
-fn resolve_space(section: Section<'_>, name: u64) -> Space
-    ensures { result ≡ resolve_space section.entry.stream.now section.entry.table.now name }
+// The kind of the named space, else of the default one.
+#[tactic(auto, unfolding(crate::specs::Addresses::resolve_space, crate::specs::Addresses::default_space))]
+fn resolve_space(section: Section<'_>, name: u64) -> Result<u64, Refusal>
+    ensures { to_space result ≡ resolve_space section.entry.stream.now section.entry.table.now name }
 {
     if name != NONE {
         return named_space(section, name);
     }
     let i = access::u16_at(section.stream, header::DEFAULT_SPACE);
     if i == NONE {
-        return Space::No(Refusal::NoDefaultSpace);
+        return Err(Refusal::NoDefaultSpace);
     }
     kind_of_space(section, i)
 }
 
-fn reference(answer: Read, kind: u64, size: u64, next: usize) -> Result<(usize, ExprValue, State), Refusal>
-    ensures { to_expr result ≡ reference kind size next answer }
+#[tactic(auto, unfolding(crate::specs::Addresses::reference_to))]
+fn reference_to(
+    kind: u64,
+    size: u64,
+    next: usize,
+    pointer: Value,
+    state: State,
+) -> Result<Resolved, Refusal>
+    ensures { to_expr result ≡ reference_to kind size next pointer state }
 {
-    let (v, st) = answer?;
-    match kind {
-            RAM => Ok((next, ExprValue::RamRef {
-                    pointer: v,
-                    size: or_size(size, 0),
-                }, st)),
-            REGISTERS => Ok((next, ExprValue::RegisterRef {
-                    pointer: v,
-                    size: or_size(size, 0),
-                }, st)),
-            _ => Err(Refusal::OtherSpace),
-        }
+    let size = or_size(size, 0);
+    let value = match kind {
+        RAM => ExprValue::RamRef { pointer, size },
+        REGISTERS => ExprValue::RegisterRef { pointer, size },
+        _ => return Err(Refusal::OtherSpace),
+    };
+    Ok(Resolved { next, value, state })
 }
 
+#[tactic(auto, unfolding(crate::specs::Addresses::address_in, crate::specs::Addresses::in_space, crate::specs::Addresses::reference, crate::specs::Answers::expr_of))]
 fn address_in(
     section: Section<'_>,
     actions: &mut [u64],
@@ -99,21 +121,16 @@ fn address_in(
     expr: ExprValue,
     next: usize,
     state: State,
-) -> Result<(usize, ExprValue, State), Refusal>
+) -> Result<Resolved, Refusal>
     ensures { resolved (to_expr result) actions.new temporaries.new ≡ address_in section.entry.stream.now section.entry.table.now actions.old temporaries.old env space size expr next state }
 {
-    match resolve_space(section, space) {
-        Space::No(n) => Err(n),
-        Space::Kind(kind) => reference(
-            read_operand(section, actions, temporaries, env, expr, state),
-            kind,
-            size,
-            next,
-        ),
-    }
+    let kind = resolve_space(section, space)?;
+    let (pointer, state) = read_operand(section, actions, temporaries, env, expr, state)?;
+    reference_to(kind, size, next, pointer, state)
 }
 
 // In the const space a local or a constant is itself.
+#[tactic(auto, unfolding(crate::specs::Addresses::resolve_address))]
 pub fn resolve_address(
     section: Section<'_>,
     actions: &mut [u64],
@@ -124,7 +141,7 @@ pub fn resolve_address(
     expr: ExprValue,
     next: usize,
     state: State,
-) -> Result<(usize, ExprValue, State), Refusal>
+) -> Result<Resolved, Refusal>
     ensures { resolved (to_expr result) actions.new temporaries.new ≡ resolve_address section.entry.stream.now section.entry.table.now actions.old temporaries.old env space size expr next state }
 {
     if space == access::u16_at(section.stream, header::CONST) {

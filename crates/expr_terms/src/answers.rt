@@ -6,24 +6,25 @@ use expr_scope::scope::ExprValue;
 use list_pushes::push::State;
 use list_values::value::Value;
 
-// The place comes first: so the value begins on a boundary of 16 bytes, which makes copies of it faster.
+// An expression that is resolved: where it ends, what it means, and the state then. The place comes first: so the value
+// begins on a boundary of 16 bytes, which makes copies of it faster.
 #[derive(Clone, Copy)]
-pub enum Expr {
-    Value {
-        next: usize,
-        x: ExprValue,
-        st: State,
-    },
-    No(u64),
+pub struct Resolved {
+    pub next: usize,
+    pub value: ExprValue,
+    pub state: State,
 }
 
+// An expression that is read: its value, where it ends, and the state then.
 #[derive(Clone, Copy)]
-pub enum Operand {
-    Value { v: Value, next: usize, st: State },
-    No(u64),
+pub struct Operand {
+    pub value: Value,
+    pub next: usize,
+    pub state: State,
 }
 
 // A position so many bytes on; a stream has fewer than 65,536.
+#[tactic(auto, unfolding(crate::specs::Answers::after))]
 pub fn after(pos: usize, count: usize) -> usize
     ensures { result ≡ after pos count }
 {

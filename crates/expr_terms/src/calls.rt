@@ -1,65 +1,83 @@
 // Calls in expressions: built-in functions come before any symbol, then user ops; the rest is a subpiece of a local.
-ghost use Rattle.std.specs.Prelude.{◌≡◌};
+ghost use Rattle.std.specs.Prelude.{◌≡◌, unwrap_or, Ok};
+ghost use Rattle.list_pushes.specs.Outcomes.{to_pushed};
 ghost use Rattle.list_pushes.specs.Pushes.{pushed};
+ghost use Rattle.expr_inbuilts.specs.Outcomes.{to_inbuilt};
+ghost use Rattle.expr_terms.specs.Outcomes.{to_expr, to_callee};
 ghost use Rattle.expr_terms.specs.Answers.{resolved};
-ghost use Rattle.expr_terms.specs.Calls.{symbol_called, inbuilt_or, callee_of, pass_arg, pass_args, applied, user_op_two, user_op_some, call_user_op, only_integer, subpiece_of, subpiece};
+ghost use Rattle.expr_terms.specs.Calls.{symbol_called, inbuilt_or, callee_of, pass_arg, pass_args, applied, user_op_two, user_op_some, call_user_op, only_integer, subpiece};
 ghost use Rattle.expr_scope.specs.Symbols.{lookup};
 
-use crate::answers::{Expr, after};
-use codes::{expression, operation, refusal, table};
-use expr_inbuilts::inbuilt::{Inbuilt, translate_inbuilt_func};
+use crate::answers::{Resolved, after};
+use codes::refusal::Refusal;
+use codes::{expression, operation, table};
+use expr_inbuilts::function::Inbuilt;
+use expr_inbuilts::inbuilt::translate_inbuilt_func;
 use expr_reading::read::read_operand;
 use expr_scope::args::arg_at;
-use expr_scope::scope::{ExprValue, Meaning, resolve_ident};
+use expr_scope::scope::{ExprValue, resolve_ident};
 use expr_scope::symbols::{Symbol, lookup};
-use list_pushes::push::{Env, Pushed, Read, State, push_op};
+use list_pushes::push::{Env, Operation, State, push_op};
+use list_values::section::Section;
 use list_values::value::{Value, absent, no_output};
-
-// What stands for an argument that is not one integer.
-const NO_INTEGER: u64 = 18446744073709551615;
 
 // The greatest argument of a subpiece.
 const LAST_SUBPIECE: u64 = 255;
 
-// What a call's name is: a built-in function by its operation, a user op by its number, a local, or what is refused.
+// What a call's name is: a built-in function by its operation, a user op by its number, or a local.
 #[derive(Clone, Copy)]
 pub enum Callee {
     Inbuilt(u64),
     UserOp(u64),
     Local,
-    No(u64),
 }
 
 // A global called: a user op, a macro, which no expression calls, or none of these.
-fn symbol_called(symbol: Symbol) -> Callee
-    ensures { result ≡ symbol_called symbol }
+#[tactic(auto, unfolding(crate::specs::Calls::symbol_called))]
+fn symbol_called(symbol: Symbol) -> Result<Callee, Refusal>
+    ensures { to_callee result ≡ symbol_called symbol }
 {
     match symbol {
-        Symbol::UserOp(id) => Callee::UserOp(id),
-        Symbol::Macro(_) => Callee::No(Refusal::MacroInExpression),
-        _ => Callee::Local,
+        Symbol::UserOp(id) => Ok(Callee::UserOp(id)),
+        Symbol::Macro(_) => Err(Refusal::MacroInExpression),
+        Symbol::Undefined
+        | Symbol::Space(_)
+        | Symbol::Register(_)
+        | Symbol::BitRange(_)
+        | Symbol::Table(_)
+        | Symbol::Other(_) => Ok(Callee::Local),
     }
 }
 
-fn inbuilt_or(inbuilt: Inbuilt, table: &[u16; table::LENGTH], name: u64, count: u64) -> Callee
-    ensures { result ≡ inbuilt_or inbuilt (lookup table.now name) count }
+#[tactic(auto, unfolding(crate::specs::Calls::inbuilt_or))]
+fn inbuilt_or(
+    inbuilt: Option<Inbuilt>,
+    table: &[u16; table::LENGTH],
+    name: u64,
+    count: u64,
+) -> Result<Callee, Refusal>
+    ensures { to_callee result ≡ inbuilt_or (to_inbuilt inbuilt) (lookup table.now name) count }
 {
-    if inbuilt.arguments == 0 {
+    let Some(found) = inbuilt else {
         return symbol_called(lookup(table, name));
+    };
+    if found.arguments != count {
+        return Err(Refusal::ArgumentCount);
     }
-    if inbuilt.arguments != count {
-        return Callee::No(Refusal::ArgumentCount);
-    }
-    Callee::Inbuilt(inbuilt.op)
+    Ok(Callee::Inbuilt(found.op))
 }
 
-pub fn callee_of(section: Section<'_>, name: u64, count: u64) -> Callee
-    ensures { result ≡ callee_of section.entry.stream.now section.entry.table.now name count }
+#[tactic(auto, unfolding(crate::specs::Calls::callee_of))]
+pub fn callee_of(section: Section<'_>, name: u64, count: u64) -> Result<Callee, Refusal>
+    ensures { to_callee result ≡ callee_of section.entry.stream.now section.entry.table.now name count }
 {
-    let at = access::get_u16(section.table, (name % 1024) as usize) as usize;
-    inbuilt_or(translate_inbuilt_func(section.stream, at), section.table, name, count)
+    let table = section.table;
+    let at = access::get_u16(table, (name % 1024) as usize) as usize;
+    let inbuilt = translate_inbuilt_func(section.stream, at);
+    inbuilt_or(inbuilt, table, name, count)
 }
 
+#[tactic(auto, unfolding(crate::specs::Calls::pass_arg, list_pushes::specs::Pushes::on_read))]
 fn pass_arg(
     section: Section<'_>,
     actions: &mut [u64],
@@ -71,20 +89,12 @@ fn pass_arg(
 ) -> Result<State, Refusal>
     ensures { pushed (to_pushed result) actions.new temporaries.new ≡ pass_arg section.entry.stream.now section.entry.table.now actions.old temporaries.old expr index env state }
 {
-    let (v, st1) = read_operand(section, actions, temporaries, env, expr, state)?;
-    push_op(
-            section,
-            actions,
-            temporaries,
-            env,
-            operation::ARG,
-            index,
-            1,
-            no_output(),
-            v,
-            absent(),
-            st1,
-        )
+    let (value, state) = read_operand(section, actions, temporaries, env, expr, state)?;
+    let arg = Operation {
+        number: index,
+        ..Operation::unary(operation::ARG, value)
+    };
+    push_op(section, actions, temporaries, env, arg, no_output(), state)
 }
 
 // The arguments from the third on, each followed by its Arg.
@@ -101,7 +111,7 @@ fn pass_args(
 {
     let mut state = state;
     for i in 2..count {
-        let st1 = pass_arg(
+        state = pass_arg(
             section,
             actions,
             temporaries,
@@ -110,32 +120,28 @@ fn pass_args(
             env,
             state,
         )?;
-    state = st1;
     }
     Ok(state)
 }
 
-// An operation of so many values.
-pub fn applied(
-    op: u64,
-    number: u64,
-    count: u64,
-    first: Value,
-    second: Value,
-    next: usize,
-    state: State,
-) -> Result<(usize, ExprValue, State), Refusal>
-    ensures { to_expr result ≡ applied op number count first second next state }
+// An operation on values, as an expression.
+pub fn applied(operation: Operation, next: usize, state: State) -> Resolved
+    ensures { to_expr (Ok result) ≡ applied operation.code operation.number operation.count operation.first operation.second next state }
 {
-    Ok((next, ExprValue::Apply {
-            op,
-            number,
-            count,
-            a: first,
-            b: second,
-        }, state))
+    Resolved {
+        next,
+        value: ExprValue::Apply {
+            op: operation.code,
+            number: operation.number,
+            count: operation.count,
+            a: operation.first,
+            b: operation.second,
+        },
+        state,
+    }
 }
 
+#[tactic(auto, unfolding(crate::specs::Calls::user_op_two, list_pushes::specs::Pushes::on_read))]
 fn user_op_two(
     section: Section<'_>,
     actions: &mut [u64],
@@ -143,23 +149,22 @@ fn user_op_two(
     args: &[u64],
     id: u64,
     next: usize,
-    value: Value,
+    first: Value,
     env: Env,
     state: State,
-) -> Result<(usize, ExprValue, State), Refusal>
-    ensures { resolved (to_expr result) actions.new temporaries.new ≡ user_op_two section.entry.stream.now section.entry.table.now actions.old temporaries.old args.now id next value env state }
+) -> Result<Resolved, Refusal>
+    ensures { resolved (to_expr result) actions.new temporaries.new ≡ user_op_two section.entry.stream.now section.entry.table.now actions.old temporaries.old args.now id next first env state }
 {
-    let (w, st1) = read_operand(
-        section,
-        actions,
-        temporaries,
-        env,
-        arg_at(args, 1),
-        state,
-    )?;
-    applied(operation::PCODE_OP, id, 2, value, w, next, st1)
+    let argument = arg_at(args, 1);
+    let (second, state) = read_operand(section, actions, temporaries, env, argument, state)?;
+    let operation = Operation {
+        number: id,
+        ..Operation::binary(operation::PCODE_OP, first, second)
+    };
+    Ok(applied(operation, next, state))
 }
 
+#[tactic(auto, unfolding(crate::specs::Calls::user_op_some, list_pushes::specs::Pushes::on_read))]
 fn user_op_some(
     section: Section<'_>,
     actions: &mut [u64],
@@ -170,34 +175,33 @@ fn user_op_some(
     next: usize,
     env: Env,
     state: State,
-) -> Result<(usize, ExprValue, State), Refusal>
+) -> Result<Resolved, Refusal>
     ensures { resolved (to_expr result) actions.new temporaries.new ≡ user_op_some section.entry.stream.now section.entry.table.now actions.old temporaries.old args.now count id next env state }
 {
-    let (v, st1) = read_operand(
-        section,
-        actions,
-        temporaries,
-        env,
-        arg_at(args, 0),
-        state,
-    )?;
+    let argument = arg_at(args, 0);
+    let (first, state) = read_operand(section, actions, temporaries, env, argument, state)?;
     if 1 < count {
-                return user_op_two(
-                    section,
-                    actions,
-                    temporaries,
-                    args,
-                    id,
-                    next,
-                    v,
-                    env,
-                    st1,
-                );
-            }
-            applied(operation::PCODE_OP, id, 1, v, absent(), next, st1)
+        return user_op_two(
+            section,
+            actions,
+            temporaries,
+            args,
+            id,
+            next,
+            first,
+            env,
+            state,
+        );
+    }
+    let operation = Operation {
+        number: id,
+        ..Operation::unary(operation::PCODE_OP, first)
+    };
+    Ok(applied(operation, next, state))
 }
 
 // A user op of n arguments that are resolved.
+#[tactic(auto, unfolding(crate::specs::Calls::call_user_op, list_pushes::specs::Pushes::on_pushed))]
 pub fn call_user_op(
     section: Section<'_>,
     actions: &mut [u64],
@@ -208,58 +212,48 @@ pub fn call_user_op(
     next: usize,
     env: Env,
     state: State,
-) -> Result<(usize, ExprValue, State), Refusal>
+) -> Result<Resolved, Refusal>
     ensures { resolved (to_expr result) actions.new temporaries.new ≡ call_user_op section.entry.stream.now section.entry.table.now actions.old temporaries.old args.now count id next env state }
 {
-    let st1 = pass_args(section, actions, temporaries, args, count, env, state)?;
+    let state = pass_args(section, actions, temporaries, args, count, env, state)?;
     if count == 0 {
-                return applied(operation::PCODE_OP, id, 0, absent(), absent(), next, st1);
-            }
-            user_op_some(
-                section,
-                actions,
-                temporaries,
-                args,
-                count,
-                id,
-                next,
-                env,
-                st1,
-            )
+        let operation = Operation {
+            code: operation::PCODE_OP,
+            number: id,
+            count: 0,
+            first: absent(),
+            second: absent(),
+        };
+        return Ok(applied(operation, next, state));
+    }
+    user_op_some(
+        section,
+        actions,
+        temporaries,
+        args,
+        count,
+        id,
+        next,
+        env,
+        state,
+    )
 }
 
-// The one argument that is an integer, or 2^64 - 1.
-pub fn only_integer(stream: &[u8], pos: usize, count: u64) -> u64
-    ensures { result ≡ only_integer stream.now pos count }
+// The one argument, where it is an integer.
+#[tactic(auto, unfolding(crate::specs::Calls::only_integer))]
+pub fn only_integer(stream: &[u8], pos: usize, count: u64) -> Option<u64>
+    ensures { unwrap_or result 18446744073709551615 ≡ only_integer stream.now pos count }
 {
     if count != 1 {
-        return NO_INTEGER;
+        return None;
     }
     if access::byte(stream, pos, 4) != expression::INTEGER {
-        return NO_INTEGER;
+        return None;
     }
-    access::u64_at(stream, after(pos, 5))
+    Some(access::u64_at(stream, after(pos, 5)))
 }
 
-fn subpiece_of(stream: &[u8], pos: usize, count: u64, answer: Read) -> Result<(usize, ExprValue, State), Refusal>
-    ensures { to_expr result ≡ subpiece_of stream.now pos count answer }
-{
-    let (v, st) = answer?;
-    let offset = only_integer(stream, pos, count);
-            if LAST_SUBPIECE < offset {
-                return Err(Refusal::SubpieceArgument);
-            }
-            applied(
-                operation::SUBPIECE,
-                offset,
-                1,
-                v,
-                absent(),
-                after(pos, 13),
-                st,
-            )
-}
-
+#[tactic(auto, unfolding(crate::specs::Calls::subpiece, crate::specs::Calls::subpiece_meant, crate::specs::Calls::subpiece_of, crate::specs::Calls::subpiece_from, crate::specs::Answers::expr_of))]
 pub fn subpiece(
     section: Section<'_>,
     scope: &[u64],
@@ -270,14 +264,19 @@ pub fn subpiece(
     count: u64,
     env: Env,
     state: State,
-) -> Result<(usize, ExprValue, State), Refusal>
+) -> Result<Resolved, Refusal>
     ensures { resolved (to_expr result) actions.new temporaries.new ≡ subpiece section.entry.stream.now section.entry.table.now scope.now actions.old temporaries.old pos name count env state }
 {
-    let x = resolve_ident(section, scope, env, name)?;
-    subpiece_of(
-            section.stream,
-            pos,
-            count,
-            read_operand(section, actions, temporaries, env, x, state),
-        )
+    let meant = resolve_ident(section, scope, env, name)?;
+    let (value, state) = read_operand(section, actions, temporaries, env, meant, state)?;
+    match only_integer(section.stream, pos, count) {
+        Some(offset) if offset <= LAST_SUBPIECE => {
+            let operation = Operation {
+                number: offset,
+                ..Operation::unary(operation::SUBPIECE, value)
+            };
+            Ok(applied(operation, after(pos, 13), state))
+        }
+        _ => Err(Refusal::SubpieceArgument),
+    }
 }

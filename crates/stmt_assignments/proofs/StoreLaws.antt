@@ -14,8 +14,8 @@ use Rattle.list_values.specs.Values.{absent, no_output}
 use Rattle.list_pushes.specs.Pushes.{pushed, push, push_op}
 use Rattle.expr_scope.specs.declared.scope.ExprValue.{ExprValue}
 use Rattle.expr_scope.specs.contracts.scope.ExprValue as expr_value
-use Rattle.expr_terms.specs.declared.answers.Expr.{Expr}
-use Rattle.expr_terms.specs.declared.answers.Operand.{Operand}
+use Rattle.expr_terms.specs.Outcomes.{Expr}
+use Rattle.expr_terms.specs.Outcomes.{Operand}
 use Rattle.expr_reading.specs.declared.read.Stated.{Stated}
 use Rattle.expr_reading.specs.Reading.{set_stated, take_stated}
 use Rattle.expr_terms.specs.Answers.{resolved, on_expr, operand, on_operand, after}

@@ -14,7 +14,7 @@ use Rattle.list_values.specs.Sizes.{size_of}
 use Rattle.list_pushes.specs.Pushes.{ReadOut, read, on_read, on_tmp, add_tmp, op_to}
 use Rattle.expr_scope.specs.declared.scope.ExprValue.{ExprValue}
 use Rattle.expr_scope.specs.Outcomes.{Meaning}
-use Rattle.expr_terms.specs.declared.answers.Expr.{Expr}
+use Rattle.expr_terms.specs.Outcomes.{Expr}
 use Rattle.expr_scope.specs.Scopes.{resolve_ident, plain_local, named_tmp}
 use Rattle.expr_reading.specs.Reading.{constant, byte_aligned, sliced, read_value, read_operand}
 use Rattle.expr_terms.specs.Answers.{ExprOut, resolved, on_expr, after}

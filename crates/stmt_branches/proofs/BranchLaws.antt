@@ -15,7 +15,7 @@ use Rattle.list_pushes.specs.Pushes.{read, pushed, on_read, push_op}
 use Rattle.expr_scope.specs.declared.scope.ExprValue.{ExprValue}
 use Rattle.expr_scope.specs.contracts.scope.ExprValue as expr_value
 use Rattle.expr_scope.specs.Outcomes.{Meaning}
-use Rattle.expr_terms.specs.declared.answers.Operand.{Operand}
+use Rattle.expr_terms.specs.Outcomes.{Operand}
 use Rattle.expr_scope.specs.Scopes.{resolve_ident}
 use Rattle.expr_reading.specs.Reading.{constant, read_operand}
 use Rattle.expr_terms.specs.Answers.{operand, on_operand, after}

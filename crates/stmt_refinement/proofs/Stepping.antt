@@ -21,8 +21,8 @@ use Rattle.prelude.specs.Base.{when◌then◌else◌}
 use Rattle.list_refinement.specs.Encoding.{enc_v, Sound, EachOption}
 use Rattle.list_refinement.proofs.Seen.{Seen, no, yes, outcome}
 use Rattle.expr_scope.specs.declared.scope.ExprValue.{ExprValue as WordExpr}
-use Rattle.expr_terms.specs.declared.answers.Expr.{Expr}
-use Rattle.expr_terms.specs.declared.answers.Operand.{Operand}
+use Rattle.expr_terms.specs.Outcomes.{Expr}
+use Rattle.expr_terms.specs.Outcomes.{Operand}
 use Rattle.expr_terms.specs.Answers.{ExprOut, resolved, on_expr, OperandOut, operand, on_operand}
 use Rattle.stmt_walk.specs.declared.walk.Step.{Step}
 use Rattle.stmt_walk.specs.Walks.{Stepped, stepped, Walked, walked, beside_p}

@@ -29,7 +29,7 @@ use Rattle.file_refinement.proofs.Inversion.{LocalAssignmentAt, CopyAt}
 use Rattle.file_refinement.proofs.Inversion as at
 use Rattle.list_refinement.specs.Encoding.{enc_v, actions_in, Sound}
 use Rattle.expr_scope.specs.declared.scope.ExprValue.{ExprValue as WordExpr}
-use Rattle.expr_terms.specs.declared.answers.Expr.{Expr}
+use Rattle.expr_terms.specs.Outcomes.{Expr}
 use Rattle.expr_terms.specs.Answers.{ExprOut, resolved, on_expr}
 use Rattle.expr_scope.specs.Scopes.{named_tmp}
 use Rattle.expr_resolver.specs.Expressions.{resolve_expr}

@@ -19,7 +19,7 @@ use Rattle.list_values.specs.Values.{absent, no_output}
 use Rattle.list_values.specs.Sizes.{entry}
 use Rattle.list_pushes.specs.Pushes.{read, pushed, on_read, push, push_op}
 use Rattle.expr_scope.specs.declared.scope.ExprValue.{ExprValue}
-use Rattle.expr_terms.specs.declared.answers.Expr.{Expr}
+use Rattle.expr_terms.specs.Outcomes.{Expr}
 use Rattle.expr_scope.specs.declared.symbols.Symbol.{Symbol}
 use Rattle.expr_scope.specs.contracts.symbols.Symbol as symbol
 use Rattle.expr_scope.specs.Symbols.{place_of, lookup}

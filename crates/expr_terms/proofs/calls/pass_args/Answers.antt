@@ -1,41 +1,21 @@
-use Rattle.expr_terms.proofs.CallLaws.{call_laws, args_start, args_no, args_more, args_done}
-use Rattle.std.proofs.Common.{rules}
 use mathlib.Core.Path.{refl}
 use native.Mathlib.Omega.{arith}
+use Rattle.std.proofs.Common.{rules}
+use Rattle.std.proofs.lemmas.Result.{err_from_is_err_and}
+use Rattle.expr_terms.proofs.CallLaws.{args_start, args_no, args_more, args_done}
 use Rattle.expr_terms.proofs.calls.pass_args.Goals as goal
 
 pub loop-i-init : goal.loop-i-init
 loop-i-init c = (omega arith, refl, refl, args_start _ _ _ _ _ _ _ _)
 
-pub arg_at-requires : goal.arg_at-requires
-arg_at-requires c = search (call_laws, rules)
-
-pub pass_arg-requires : goal.pass_arg-requires
-pass_arg-requires c = search (call_laws, rules)
-
-pub enum_known-k : goal.enum_known-k
-enum_known-k c = search (call_laws, rules)
-
-pub shape_of-actions-in-No : goal.shape_of-actions-in-No
-shape_of-actions-in-No c = search (call_laws, rules)
-
-pub shape_of-temporaries-in-No : goal.shape_of-temporaries-in-No
-shape_of-temporaries-in-No c = search (call_laws, rules)
-
-pub returns-in-No : goal.returns-in-No
-returns-in-No c = search (args_no, rules)
-
-pub enum_known-st1 : goal.enum_known-st1
-enum_known-st1 c = search (call_laws, rules)
+pub returns-in_err-state : goal.returns-in_err-state
+returns-in_err-state c =
+    let p = err_from_is_err_and c.from_residual.result c.from_residual.ensures.1 in
+    rw (p.1, p.2) (args_no _ _ _ _ _ _ _ _ _ _ c.loop-i-test.true c.loop-i.invariant.3 _ _ _ c.arg_at.ensures _ c.in_err-state.ensures)
 
 pub loop-i-preserved : goal.loop-i-preserved
-loop-i-preserved c = (omega arith, search rules, search rules, search (args_more, rules))
-
-pub shape_of-actions : goal.shape_of-actions
-shape_of-actions c = search (call_laws, rules)
-
-pub shape_of-temporaries : goal.shape_of-temporaries
-shape_of-temporaries c = search (call_laws, rules)
+loop-i-preserved c =
+    (omega arith, search rules, search rules, args_more _ _ _ _ _ _ _ _ _ _ c.loop-i-test.true c.loop-i.invariant.3 _ _ _ c.arg_at.ensures _ c.in_ok-state.ensures)
 
 pub returns : goal.returns
-returns c = search (args_done, rules)
+returns c = args_done _ _ _ _ _ _ _ _ _ _ c.loop-i-test.false c.loop-i.invariant.3

@@ -1,9 +1,0 @@
-use Rattle.expr_terms.proofs.SliceLaws.{address_laws}
-use Rattle.std.proofs.Common.{rules}
-use Rattle.expr_terms.proofs.address.or_size.Goals as goal
-
-pub returns-then-size-eq-NONE : goal.returns-then-size-eq-NONE
-returns-then-size-eq-NONE c = search (address_laws, rules)
-
-pub returns-else-size-eq-NONE : goal.returns-else-size-eq-NONE
-returns-else-size-eq-NONE c = search (address_laws, rules)
