@@ -19,7 +19,7 @@ use Rattle.expr_resolver.specs.declared.expr.Order.{Order}
 use Rattle.expr_scope.specs.Outcomes.{Args}
 use Rattle.expr_terms.specs.Outcomes.{Callee}
 use Rattle.expr_scope.specs.Slots.{put_arg}
-use Rattle.expr_scope.specs.Scopes.{resolve_ident, plain_local}
+use Rattle.expr_scope.specs.Scopes.{resolve_ident}
 use Rattle.expr_reading.specs.Reading.{constant, read_operand}
 use Rattle.expr_terms.specs.Answers.{ExprOut, resolved, on_expr, OperandOut, operand, on_operand, ArgsOut, passed, on_args, operand_of, applied_to, after}
 use Rattle.expr_terms.specs.Slices.{slice_bits}
@@ -58,20 +58,6 @@ atom code s t p pos e st =
     when eqb code 0 then means_at (resolve_ident s t p e (le16 s (pos + 1))) (after pos 3) st
     else when eqb code 1 then Expr.Value (after pos 9) (ExprValue.Const (le64 s (after pos 1)) 65535) st
     else address_of s t p pos e st
-
--- what stands at a position as one number: that of a plain local, or 7 for an integer; less for what has to be resolved
-unfoldable pub plain_at : ℕ → List ℕ → List ℕ → List ℕ → ℕ → Env → ℕ
-plain_at deep s t p pos e =
-    when eqb deep 0 then 0
-    else when eqb (get_or s (pos + 0) 0) 0 then plain_local s t p e (le16 s (pos + 1))
-    else when eqb (get_or s (pos + 0) 0) 1 then 7
-    else 0
-
--- the operand of such a number
-unfoldable pub plain_operand : ℕ → List ℕ → ℕ → State → Operand
-plain_operand q s pos st =
-    when ltb q 8 then Operand.Value (constant (le64 s (after pos 1))) (after pos 9) st
-    else Operand.Value (local (q % 8) (q / 8 - 1)) (after pos 3) st
 
 -- the operation of an operator: the six greater ones are the lesser ones swapped
 unfoldable pub operation_of : ℕ → ℕ

@@ -1,26 +1,26 @@
 // Expressions, resolved by a walk over their prefix code: each part one level deeper.
 ghost use Rattle.std.specs.Prelude.{◌≡◌};
+ghost use Rattle.expr_scope.specs.Outcomes.{to_args};
+ghost use Rattle.expr_terms.specs.Outcomes.{to_expr, to_operand};
 ghost use Rattle.expr_terms.specs.Answers.{resolved, operand, passed};
-ghost use Rattle.expr_resolver.specs.Expressions.{value_then, means_at, local_address, address_of, atom, plain_at, plain_operand, operation_of, later, skip_expr, operands_of, apply1, apply2, part_at, with_part, expr_value, part, resolve_op, call_inbuilt, resolve_args, user_op, resolve_call, resolve_expr};
+ghost use Rattle.expr_resolver.specs.Expressions.{local_address, address_of, atom, operation_of, later, skip_expr, operands_of, part_at, with_part, expr_value, part, resolve_op, call_inbuilt, resolve_args, user_op, resolve_call, resolve_expr};
 
 use access::u16_in;
-use codes::{NONE, expression, header, operation, refusal, table};
-use expr_reading::read::{constant, read_operand};
-use expr_scope::args::{Args, put_arg};
-use expr_scope::scope::{ExprValue, Meaning, plain_local, resolve_ident};
+use codes::refusal::Refusal;
+use codes::{NONE, expression, header, operation};
+use expr_reading::read::read_operand;
+use expr_scope::args::put_arg;
+use expr_scope::scope::{ExprValue, resolve_ident};
 use expr_terms::address::resolve_address;
-use expr_terms::answers::{Expr, Operand, after};
+use expr_terms::answers::{Operand, Resolved, after};
 use expr_terms::calls::{Callee, applied, call_user_op, callee_of, subpiece};
 use expr_terms::slices::slice_bits;
 use file_syntax::cursor::Cursor;
-use list_pushes::push::{Env, Read, State};
-use list_values::value::{Value, absent, local};
+use list_pushes::push::{Env, Operation, State};
+use list_values::section::Section;
 
 // How deep expressions are nested at most.
 pub const DEPTH: u64 = 32;
-
-// What stands for an integer among the numbers of plain locals, which are 8 and more.
-const INTEGER: u64 = 7;
 
 // Where the operands of an operator stand, in the order in which they are resolved.
 #[derive(Clone, Copy)]
@@ -30,65 +30,42 @@ pub struct Order {
     pub second: usize,
 }
 
-fn value_then(answer: Read, next: usize) -> Result<(Value, usize, State), Refusal>
-    ensures { to_operand result ≡ value_then next answer }
-{
-    let (v, st) = answer?;
-    Ok((v, next, st))
-}
-
-fn means_at(answer: Meaning, next: usize, state: State) -> Result<(usize, ExprValue, State), Refusal>
-    ensures { to_expr result ≡ means_at answer next state }
-{
-    let x = answer?;
-    Ok((next, x, state))
-}
-
-fn local_address(expr: ExprValue, size: u64, next: usize, state: State) -> Result<(usize, ExprValue, State), Refusal>
+#[tactic(auto, unfolding(crate::specs::Expressions::local_address))]
+fn local_address(expr: ExprValue, size: u64, next: usize, state: State) -> Result<Resolved, Refusal>
     ensures { to_expr result ≡ local_address expr size next state }
 {
     match expr {
-        ExprValue::Local(v) => Ok((next, ExprValue::AddressOf { base: v, size }, state)),
-        _ => Err(Refusal::AddressOfNonLocal),
+        ExprValue::Local(base) => Ok(Resolved {
+            next,
+            value: ExprValue::AddressOf { base, size },
+            state,
+        }),
+        ExprValue::Unbound(_)
+        | ExprValue::Const { .. }
+        | ExprValue::Apply { .. }
+        | ExprValue::RamRef { .. }
+        | ExprValue::RegisterRef { .. }
+        | ExprValue::AddressOf { .. }
+        | ExprValue::BitRange { .. } => Err(Refusal::AddressOfNonLocal),
     }
 }
 
+#[tactic(auto, unfolding(crate::specs::Expressions::address_of, crate::specs::Expressions::address_meant))]
 fn address_of(
     section: Section<'_>,
     scope: &[u64],
     pos: usize,
     env: Env,
     state: State,
-) -> Result<(usize, ExprValue, State), Refusal>
+) -> Result<Resolved, Refusal>
     ensures { to_expr result ≡ address_of section.entry.stream.now section.entry.table.now scope.now pos env state }
 {
-    let x = resolve_ident(section, scope, env, u16_in(section.stream, pos, 3))?;
-    local_address(x, u16_in(section.stream, pos, 1), after(pos, 5), state)
-}
-
-// The name at a position. A plain local needs no `Meaning`.
-fn name_at(
-    section: Section<'_>,
-    scope: &[u64],
-    pos: usize,
-    env: Env,
-    state: State,
-) -> Result<(usize, ExprValue, State), Refusal>
-    ensures { to_expr result ≡ atom 0 section.entry.stream.now section.entry.table.now scope.now pos env state }
-{
-    let name = u16_in(section.stream, pos, 1);
-    let q = plain_local(section, scope, env, name);
-    if 8 <= q {
-        return Ok((after(pos, 3), ExprValue::Local(local(q % 8, q / 8 - 1)), state));
-    }
-    means_at(
-        resolve_ident(section, scope, env, name),
-        after(pos, 3),
-        state,
-    )
+    let base = resolve_ident(section, scope, env, u16_in(section.stream, pos, 3))?;
+    local_address(base, u16_in(section.stream, pos, 1), after(pos, 5), state)
 }
 
 // A name, an integer or the address of a local.
+#[tactic(auto, unfolding(crate::specs::Expressions::atom, crate::specs::Expressions::means_at))]
 fn atom(
     code: u64,
     section: Section<'_>,
@@ -96,20 +73,32 @@ fn atom(
     pos: usize,
     env: Env,
     state: State,
-) -> Result<(usize, ExprValue, State), Refusal>
+) -> Result<Resolved, Refusal>
     ensures { to_expr result ≡ atom code section.entry.stream.now section.entry.table.now scope.now pos env state }
 {
     match code {
-        expression::IDENT => name_at(section, scope, pos, env, state),
-        expression::INTEGER => Ok((after(pos, 9), ExprValue::Const {
+        expression::IDENT => {
+            let value = resolve_ident(section, scope, env, u16_in(section.stream, pos, 1))?;
+            Ok(Resolved {
+                next: after(pos, 3),
+                value,
+                state,
+            })
+        }
+        expression::INTEGER => Ok(Resolved {
+            next: after(pos, 9),
+            value: ExprValue::Const {
                 value: access::u64_at(section.stream, after(pos, 1)),
                 size: NONE,
-            }, state)),
+            },
+            state,
+        }),
         _ => address_of(section, scope, pos, env, state),
     }
 }
 
 // The operation of an operator: the six greater ones are the lesser ones swapped.
+#[tactic(auto, unfolding(crate::specs::Expressions::operation_of))]
 fn operation_of(code: u64) -> u64
     ensures { result ≡ operation_of code }
 {
@@ -124,6 +113,7 @@ fn operation_of(code: u64) -> u64
     }
 }
 
+#[tactic(auto, unfolding(crate::specs::Expressions::later))]
 fn later(place: usize, other: usize) -> usize
     ensures { result ≡ later place other }
 {
@@ -131,23 +121,21 @@ fn later(place: usize, other: usize) -> usize
 }
 
 // Where the expression at a position ends.
+#[tactic(auto, unfolding(crate::specs::Expressions::skip_expr))]
 pub fn skip_expr(stream: &[u8], pos: usize) -> usize
     ensures { result ≡ skip_expr stream.now pos }
 {
-    let c = file_syntax::expressions::expr(
-        DEPTH,
-        stream,
-        access::u16_at(stream, header::NAMES),
-        Cursor {
-            at: pos,
-            bad: 0,
-            val: 0,
-        },
-    );
-    c.at
+    let start = Cursor {
+        at: pos,
+        bad: 0,
+        val: 0,
+    };
+    let names = access::u16_at(stream, header::NAMES);
+    file_syntax::expressions::expr(DEPTH, stream, names, start).at
 }
 
 // The six greater operators swap their operands before either is resolved.
+#[tactic(auto, unfolding(crate::specs::Expressions::operands_of, crate::specs::Expressions::operands_around, crate::specs::Expressions::order_of))]
 fn operands_of(stream: &[u8], pos: usize) -> Order
     ensures { result ≡ operands_of stream.now pos }
 {
@@ -169,22 +157,8 @@ fn operands_of(stream: &[u8], pos: usize) -> Order
     }
 }
 
-fn apply1(op: u64, answer: Operand) -> Result<(usize, ExprValue, State), Refusal>
-    ensures { to_expr result ≡ apply1 op answer }
-{
-    let (v, next, st) = answer?;
-    applied(op, 0, 1, v, absent(), next, st)
-}
-
-// A second operand, after a first that ends at a position.
-fn apply2(op: u64, value: Value, end: usize, answer: Operand) -> Result<(usize, ExprValue, State), Refusal>
-    ensures { to_expr result ≡ apply2 op value end answer }
-{
-    let (w, next, st) = answer?;
-    applied(op, 0, 2, value, w, later(end, next), st)
-}
-
 // Where the part of a truncation, a slice or a dereference stands, after its code.
+#[tactic(auto, unfolding(crate::specs::Expressions::part_at))]
 fn part_at(code: u64) -> usize
     ensures { result ≡ part_at code }
 {
@@ -192,6 +166,7 @@ fn part_at(code: u64) -> usize
 }
 
 // A truncation, a slice or a dereference of a part that is resolved.
+#[tactic(auto, unfolding(crate::specs::Expressions::with_part))]
 fn with_part(
     code: u64,
     section: Section<'_>,
@@ -202,12 +177,13 @@ fn with_part(
     expr: ExprValue,
     next: usize,
     state: State,
-) -> Result<(usize, ExprValue, State), Refusal>
+) -> Result<Resolved, Refusal>
     ensures { resolved (to_expr result) actions.new temporaries.new ≡ with_part code section.entry.stream.now section.entry.table.now actions.old temporaries.old pos env expr next state }
 {
     match code {
         expression::TRUNCATE => {
             let bits = 8 * u16_in(section.stream, next, 0);
+            let end = after(next, 2);
             slice_bits(
                 section,
                 actions,
@@ -216,13 +192,14 @@ fn with_part(
                 expr,
                 0,
                 bits,
-                after(next, 2),
+                end,
                 state,
             )
         }
         expression::SLICE_BITS => {
             let from = u16_in(section.stream, next, 0);
             let bits = u16_in(section.stream, next, 2);
+            let end = after(next, 4);
             slice_bits(
                 section,
                 actions,
@@ -231,7 +208,7 @@ fn with_part(
                 expr,
                 from,
                 bits,
-                after(next, 4),
+                end,
                 state,
             )
         }
@@ -253,39 +230,9 @@ fn with_part(
     }
 }
 
-// What stands at a position as one number: that of a plain local, or 7 for an integer; less for what has to be resolved.
-fn plain_at(
-    deep: u64,
-    section: Section<'_>,
-    scope: &[u64],
-    pos: usize,
-    env: Env,
-) -> u64
-    ensures { result ≡ plain_at deep section.entry.stream.now section.entry.table.now scope.now pos env }
-{
-    if deep == 0 {
-        return 0;
-    }
-    let code = access::byte(section.stream, pos, 0);
-    match code {
-        expression::IDENT => plain_local(section, scope, env, u16_in(section.stream, pos, 1)),
-        expression::INTEGER => INTEGER,
-        _ => 0,
-    }
-}
-
-// The operand of such a number, which is the value itself: reading it pushes nothing.
-fn plain_operand(plain: u64, stream: &[u8], pos: usize, state: State) -> Result<(Value, usize, State), Refusal>
-    ensures { to_operand result ≡ plain_operand plain stream.now pos state }
-{
-    if 8 <= plain {
-        return Ok((local(plain % 8, plain / 8 - 1), after(pos, 3), state));
-    }
-    Ok((constant(access::u64_at(stream, after(pos, 1))), after(pos, 9), state))
-}
-
 // An expression resolved, then read.
 #[cycle(call_inbuilt_expr_value_part_resolve_args_resolve_call_resolve_expr_resolve_op_user_op)]
+#[tactic(auto, unfolding(crate::specs::Expressions::expr_value, crate::specs::Expressions::value_then, expr_terms::specs::Answers::on_expr, expr_terms::specs::Answers::operand_of))]
 pub fn expr_value(
     deep: u64,
     section: Section<'_>,
@@ -295,31 +242,21 @@ pub fn expr_value(
     actions: &mut [u64],
     temporaries: &mut [u64],
     state: State,
-) -> Result<(Value, usize, State), Refusal>
+) -> Result<Operand, Refusal>
     ensures { operand (to_operand result) actions.new temporaries.new ≡ expr_value (resolve_expr deep section.entry.stream.now section.entry.table.now scope.now env) section.entry.stream.now section.entry.table.now env pos actions.old temporaries.old state }
 {
-    let q = plain_at(deep, section, scope, pos, env);
-    if INTEGER <= q {
-        return plain_operand(q, section.stream, pos, state);
-    }
-    let (next, x, st1) = resolve_expr(
-        deep,
-        section,
-        scope,
-        pos,
-        env,
-        actions,
-        temporaries,
+    let expr = resolve_expr(deep, section, scope, pos, env, actions, temporaries, state)?;
+    let (value, state) = read_operand(section, actions, temporaries, env, expr.value, expr.state)?;
+    Ok(Operand {
+        value,
+        next: expr.next,
         state,
-    )?;
-    value_then(
-            read_operand(section, actions, temporaries, env, x, st1),
-            next,
-        )
+    })
 }
 
 // What has one part: a truncation, a slice or a dereference.
 #[cycle(call_inbuilt_expr_value_part_resolve_args_resolve_call_resolve_expr_resolve_op_user_op)]
+#[tactic(auto, unfolding(crate::specs::Expressions::part, expr_terms::specs::Answers::on_expr))]
 fn part(
     deep: u64,
     code: u64,
@@ -330,33 +267,26 @@ fn part(
     actions: &mut [u64],
     temporaries: &mut [u64],
     state: State,
-) -> Result<(usize, ExprValue, State), Refusal>
+) -> Result<Resolved, Refusal>
     ensures { resolved (to_expr result) actions.new temporaries.new ≡ part (resolve_expr deep section.entry.stream.now section.entry.table.now scope.now env) code section.entry.stream.now section.entry.table.now env pos actions.old temporaries.old state }
 {
-    let (next, x, st1) = resolve_expr(
-        deep,
+    let at = after(pos, part_at(code));
+    let part = resolve_expr(deep, section, scope, at, env, actions, temporaries, state)?;
+    with_part(
+        code,
         section,
-        scope,
-        after(pos, part_at(code)),
-        env,
         actions,
         temporaries,
-        state,
-    )?;
-    with_part(
-            code,
-            section,
-            actions,
-            temporaries,
-            pos,
-            env,
-            x,
-            next,
-            st1,
-        )
+        pos,
+        env,
+        part.value,
+        part.next,
+        part.state,
+    )
 }
 
 #[cycle(call_inbuilt_expr_value_part_resolve_args_resolve_call_resolve_expr_resolve_op_user_op)]
+#[tactic(auto, unfolding(crate::specs::Expressions::resolve_op, crate::specs::Expressions::binary, crate::specs::Expressions::apply2, expr_terms::specs::Answers::on_operand, expr_terms::specs::Answers::applied_to))]
 fn resolve_op(
     deep: u64,
     section: Section<'_>,
@@ -366,39 +296,37 @@ fn resolve_op(
     actions: &mut [u64],
     temporaries: &mut [u64],
     state: State,
-) -> Result<(usize, ExprValue, State), Refusal>
+) -> Result<Resolved, Refusal>
     ensures { resolved (to_expr result) actions.new temporaries.new ≡ resolve_op (resolve_expr deep section.entry.stream.now section.entry.table.now scope.now env) section.entry.stream.now section.entry.table.now env pos actions.old temporaries.old state }
 {
-    let o = operands_of(section.stream, pos);
-    let (v, next, st1) = expr_value(
+    let order = operands_of(section.stream, pos);
+    let first = expr_value(
         deep,
         section,
         scope,
-        o.first,
+        order.first,
         env,
         actions,
         temporaries,
         state,
     )?;
-    apply2(
-            o.op,
-            v,
-            next,
-            expr_value(
-                deep,
-                section,
-                scope,
-                o.second,
-                env,
-                actions,
-                temporaries,
-                st1,
-            ),
-        )
+    let second = expr_value(
+        deep,
+        section,
+        scope,
+        order.second,
+        env,
+        actions,
+        temporaries,
+        first.state,
+    )?;
+    let operation = Operation::binary(order.op, first.value, second.value);
+    Ok(applied(operation, later(first.next, second.next), second.state))
 }
 
 // A built-in function: each argument is read before the next is resolved.
 #[cycle(call_inbuilt_expr_value_part_resolve_args_resolve_call_resolve_expr_resolve_op_user_op)]
+#[tactic(auto, unfolding(crate::specs::Expressions::call_inbuilt, crate::specs::Expressions::second_of, crate::specs::Expressions::apply1, crate::specs::Expressions::apply2, expr_terms::specs::Answers::on_operand, expr_terms::specs::Answers::applied_to))]
 fn call_inbuilt(
     deep: u64,
     section: Section<'_>,
@@ -410,38 +338,27 @@ fn call_inbuilt(
     actions: &mut [u64],
     temporaries: &mut [u64],
     state: State,
-) -> Result<(usize, ExprValue, State), Refusal>
+) -> Result<Resolved, Refusal>
     ensures { resolved (to_expr result) actions.new temporaries.new ≡ call_inbuilt (resolve_expr deep section.entry.stream.now section.entry.table.now scope.now env) section.entry.stream.now section.entry.table.now env pos op count actions.old temporaries.old state }
 {
-    let first = expr_value(
+    let at = after(pos, 4);
+    let first = expr_value(deep, section, scope, at, env, actions, temporaries, state)?;
+    if count != 2 {
+        let operation = Operation::unary(op, first.value);
+        return Ok(applied(operation, first.next, first.state));
+    }
+    let second = expr_value(
         deep,
         section,
         scope,
-        after(pos, 4),
+        first.next,
         env,
         actions,
         temporaries,
-        state,
-    );
-    if count != 2 {
-        return apply1(op, first);
-    }
-    let (v, next, st1) = first?;
-    apply2(
-            op,
-            v,
-            0,
-            expr_value(
-                deep,
-                section,
-                scope,
-                next,
-                env,
-                actions,
-                temporaries,
-                st1,
-            ),
-        )
+        first.state,
+    )?;
+    let operation = Operation::binary(op, first.value, second.value);
+    Ok(applied(operation, later(0, second.next), second.state))
 }
 
 // n arguments, resolved only, into the slots of `args`.
@@ -463,24 +380,16 @@ pub fn resolve_args(
     let mut at = pos;
     let mut state = state;
     for i in 0..count {
-        let (next, x, st1) = resolve_expr(
-            deep,
-            section,
-            scope,
-            at,
-            env,
-            actions,
-            temporaries,
-            state,
-        )?;
-    put_arg(args, i, x);
-                at = next;
-                state = st1;
+        let arg = resolve_expr(deep, section, scope, at, env, actions, temporaries, state)?;
+        put_arg(args, i, arg.value);
+        at = arg.next;
+        state = arg.state;
     }
     Ok((at, state))
 }
 
 #[cycle(call_inbuilt_expr_value_part_resolve_args_resolve_call_resolve_expr_resolve_op_user_op)]
+#[tactic(auto, unfolding(crate::specs::Expressions::user_op, expr_terms::specs::Answers::on_args))]
 fn user_op(
     deep: u64,
     section: Section<'_>,
@@ -492,11 +401,11 @@ fn user_op(
     actions: &mut [u64],
     temporaries: &mut [u64],
     state: State,
-) -> Result<(usize, ExprValue, State), Refusal>
+) -> Result<Resolved, Refusal>
     ensures { resolved (to_expr result) actions.new temporaries.new ≡ user_op (resolve_expr deep section.entry.stream.now section.entry.table.now scope.now env) section.entry.stream.now section.entry.table.now env pos id count actions.old temporaries.old state }
 {
     let mut args = [0u64; 64];
-    let (next, st1) = resolve_args(
+    let (next, state) = resolve_args(
         deep,
         section,
         scope,
@@ -509,19 +418,20 @@ fn user_op(
         state,
     )?;
     call_user_op(
-            section,
-            actions,
-            temporaries,
-            &args,
-            count,
-            id,
-            next,
-            env,
-            st1,
-        )
+        section,
+        actions,
+        temporaries,
+        &args,
+        count,
+        id,
+        next,
+        env,
+        state,
+    )
 }
 
 #[cycle(call_inbuilt_expr_value_part_resolve_args_resolve_call_resolve_expr_resolve_op_user_op)]
+#[tactic(auto, unfolding(crate::specs::Expressions::resolve_call, crate::specs::Expressions::call_named))]
 fn resolve_call(
     deep: u64,
     section: Section<'_>,
@@ -531,37 +441,40 @@ fn resolve_call(
     actions: &mut [u64],
     temporaries: &mut [u64],
     state: State,
-) -> Result<(usize, ExprValue, State), Refusal>
+) -> Result<Resolved, Refusal>
     ensures { resolved (to_expr result) actions.new temporaries.new ≡ resolve_call (resolve_expr deep section.entry.stream.now section.entry.table.now scope.now env) section.entry.stream.now section.entry.table.now scope.now env pos actions.old temporaries.old state }
 {
     let name = u16_in(section.stream, pos, 1);
     let n = access::byte(section.stream, pos, 3);
-    match callee_of(section, name, n) {
-        Callee::Inbuilt(op) => call_inbuilt(
-            deep,
-            section,
-            scope,
-            pos,
-            op,
-            n,
-            env,
-            actions,
-            temporaries,
-            state,
-        ),
-        Callee::UserOp(id) => user_op(
-            deep,
-            section,
-            scope,
-            pos,
-            id,
-            n,
-            env,
-            actions,
-            temporaries,
-            state,
-        ),
-        Callee::No(k) => Err(k),
+    match callee_of(section, name, n)? {
+        Callee::Inbuilt(op) => {
+            call_inbuilt(
+                deep,
+                section,
+                scope,
+                pos,
+                op,
+                n,
+                env,
+                actions,
+                temporaries,
+                state,
+            )
+        }
+        Callee::UserOp(id) => {
+            user_op(
+                deep,
+                section,
+                scope,
+                pos,
+                id,
+                n,
+                env,
+                actions,
+                temporaries,
+                state,
+            )
+        }
         Callee::Local => subpiece(
             section,
             scope,
@@ -586,7 +499,7 @@ pub fn resolve_expr(
     actions: &mut [u64],
     temporaries: &mut [u64],
     state: State,
-) -> Result<(usize, ExprValue, State), Refusal>
+) -> Result<Resolved, Refusal>
     ensures { resolved (to_expr result) actions.new temporaries.new ≡ resolve_expr deep section.entry.stream.now section.entry.table.now scope.now env pos actions.old temporaries.old state }
 {
     if deep == 0 {
