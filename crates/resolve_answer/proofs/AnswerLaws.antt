@@ -8,8 +8,8 @@ use Rattle.list_values.specs.Base.{listed, then_l}
 use Rattle.prelude.specs.Base.{when◌then◌else◌}
 use Rattle.list_values.specs.Values.{word}
 use Rattle.list_end.specs.End.{zero_from, assemble}
-use Rattle.stmt_walk.specs.declared.walk.Walk.{Walk}
-use Rattle.stmt_walk.specs.declared.walk.Export.{Export}
+use Rattle.stmt_walk.specs.Outcomes.{Walk}
+use Rattle.stmt_walk.specs.Outcomes.{Export}
 use Rattle.resolve_answer.specs.declared.answer.Words.{Words}
 use Rattle.resolve_answer.specs.Answers.{resolved_to, refused_answer, refused, points_of, words, export_words, accepted}
 

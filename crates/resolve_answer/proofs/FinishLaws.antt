@@ -13,8 +13,8 @@ use Rattle.list_values.specs.Values.{place}
 use Rattle.list_values.specs.Sizes.{sized, then_s}
 use Rattle.list_end.specs.Passes.{backward_pass, forward_pass}
 use Rattle.list_end.specs.End.{fix_size, finish_actions}
-use Rattle.stmt_walk.specs.declared.walk.Walk.{Walk}
-use Rattle.stmt_walk.specs.declared.walk.Export.{Export}
+use Rattle.stmt_walk.specs.Outcomes.{Walk}
+use Rattle.stmt_walk.specs.Outcomes.{Export}
 use Rattle.resolve_answer.specs.declared.answer.Answer.{Answer}
 use Rattle.resolve_answer.specs.Answers.{resolved_to, refused, accepted}
 use Rattle.resolve_answer.specs.Ends.{judged, export_fixed, judged_fixed, finish_export, finish_done, finish_sized, actions_between, both_passes, finish_all, finish}

@@ -4,8 +4,8 @@ use Rattle.list_values.specs.Base.{then_l}
 use Rattle.prelude.specs.Base.{when◌then◌else◌}
 use Rattle.list_values.specs.Values.{word}
 use Rattle.list_end.specs.End.{zero_from, assemble}
-use Rattle.stmt_walk.specs.declared.walk.Walk.{Walk}
-use Rattle.stmt_walk.specs.declared.walk.Export.{Export}
+use Rattle.stmt_walk.specs.Outcomes.{Walk}
+use Rattle.stmt_walk.specs.Outcomes.{Export}
 use Rattle.resolve_answer.specs.declared.answer.Answer.{Answer}
 use Rattle.resolve_answer.specs.declared.answer.Words.{Words}
 

@@ -10,8 +10,8 @@ use Rattle.list_values.specs.Values.{place}
 use Rattle.list_values.specs.Sizes.{Sized, then_s}
 use Rattle.list_end.specs.Passes.{backward_pass, forward_pass}
 use Rattle.list_end.specs.End.{fix_size, finish_actions}
-use Rattle.stmt_walk.specs.declared.walk.Walk.{Walk}
-use Rattle.stmt_walk.specs.declared.walk.Export.{Export}
+use Rattle.stmt_walk.specs.Outcomes.{Walk}
+use Rattle.stmt_walk.specs.Outcomes.{Export}
 use Rattle.resolve_answer.specs.Answers.{Resolved, refused, accepted}
 
 -- size errors refuse the section

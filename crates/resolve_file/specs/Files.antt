@@ -8,8 +8,8 @@ use Rattle.list_pushes.specs.declared.push.Env.{Env}
 use Rattle.prelude.specs.Base.{when◌then◌else◌}
 use Rattle.list_values.specs.Values.{absent, place}
 use Rattle.list_values.specs.Sizes.{entry}
-use Rattle.stmt_walk.specs.declared.walk.Walk.{Walk}
-use Rattle.stmt_walk.specs.declared.walk.Step.{Step}
+use Rattle.stmt_walk.specs.Outcomes.{Walk}
+use Rattle.stmt_walk.specs.Outcomes.{Step}
 use Rattle.stmt_walk.specs.Walks.{Stepped, stepped, without_p}
 use Rattle.stmt_bodies.specs.Statements.{resolve_body}
 use Rattle.resolve_answer.specs.Answers.{Resolved, refused}

@@ -16,8 +16,8 @@ use Rattle.definition.specs.ActionList as d
 use Rattle.definition.specs.ActionList.{labels_placed, points, filled, list_words, Answer, export_kind_number}
 use Rattle.list_values.specs.Base.{then_l}
 use Rattle.list_values.specs.Values.{word}
-use Rattle.stmt_walk.specs.declared.walk.Walk.{Walk}
-use Rattle.stmt_walk.specs.declared.walk.Export.{Export as WordExport}
+use Rattle.stmt_walk.specs.Outcomes.{Walk}
+use Rattle.stmt_walk.specs.Outcomes.{Export as WordExport}
 use Rattle.resolve_answer.specs.declared.answer.Words.{Words}
 use Rattle.resolve_answer.specs.Answers.{points_of, words, export_words, accepted}
 use Rattle.list_refinement.specs.Encoding.{enc_v, packed, actions_in, temporaries_in, EachOption}

@@ -30,8 +30,8 @@ use Rattle.prelude.specs.Base.{when◌then◌else◌}
 use Rattle.list_values.specs.Values.{place}
 use Rattle.list_values.specs.Sizes.{then_s}
 use Rattle.list_end.specs.End.{fix_size, finish_actions}
-use Rattle.stmt_walk.specs.declared.walk.Walk.{Walk}
-use Rattle.stmt_walk.specs.declared.walk.Export.{Export as WordExport}
+use Rattle.stmt_walk.specs.Outcomes.{Walk}
+use Rattle.stmt_walk.specs.Outcomes.{Export as WordExport}
 use Rattle.resolve_answer.specs.Answers.{Resolved, refused, accepted}
 use Rattle.resolve_answer.specs.Ends.{judged, export_fixed, judged_fixed, finish_export, finish_done, finish_sized, actions_between, both_passes, finish_all, finish}
 use Rattle.list_refinement.specs.Encoding.{actions_in, temporaries_in, first_error, enc_z, enc_s, SoundTmp, Each, SoundAction, SizesHold}

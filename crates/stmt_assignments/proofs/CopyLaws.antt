@@ -30,8 +30,8 @@ use Rattle.expr_reading.specs.Reading.{constant, byte_aligned, sliced, read_valu
 use Rattle.expr_terms.specs.Answers.{resolved, on_expr, after}
 use Rattle.expr_resolver.specs.Expressions.{atom, resolve_expr}
 use Rattle.expr_resolver.proofs.ExprLaws.{name_plain, expr-atom}
-use Rattle.stmt_walk.specs.declared.walk.Walk.{Walk}
-use Rattle.stmt_walk.specs.declared.walk.Step.{Step}
+use Rattle.stmt_walk.specs.Outcomes.{Walk}
+use Rattle.stmt_walk.specs.Outcomes.{Step}
 use Rattle.stmt_walk.specs.Walks.{stepped, walked, step_read, beside_p, stop, read_then}
 use Rattle.stmt_assignments.specs.Stores.{store}
 use Rattle.stmt_assignments.specs.Copies.{mask_but, merge_bits, extend_bits, insert_in, insert_bits, keep_bits, write_bits, copy_bits, read_sliced, copy_bytes, copy_range, copy_ram, copy_into, target_name, target_size, after_target, new_target, is_wrong, is_new, plain_target, targeted, on_target, beside_a, in_scope, resolve_dst, copy_target, copy_statement}

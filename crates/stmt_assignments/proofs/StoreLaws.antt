@@ -21,8 +21,8 @@ use Rattle.expr_reading.specs.Reading.{set_stated, take_stated}
 use Rattle.expr_terms.specs.Answers.{resolved, on_expr, operand, on_operand, after}
 use Rattle.expr_terms.specs.Addresses.{resolve_address}
 use Rattle.expr_resolver.specs.Expressions.{expr_value, skip_expr, resolve_expr}
-use Rattle.stmt_walk.specs.declared.walk.Walk.{Walk}
-use Rattle.stmt_walk.specs.declared.walk.Step.{Step}
+use Rattle.stmt_walk.specs.Outcomes.{Walk}
+use Rattle.stmt_walk.specs.Outcomes.{Step}
 use Rattle.stmt_walk.specs.Walks.{stepped, step_pushed, stop, pushed_then}
 use Rattle.stmt_assignments.specs.Stores.{store_stated, store, register_stated, store_register, store_at, store_in, store_pointer, store_statement}
 

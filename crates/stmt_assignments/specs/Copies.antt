@@ -19,7 +19,7 @@ use Rattle.expr_scope.specs.Scopes.{resolve_ident, plain_local, named_tmp}
 use Rattle.expr_reading.specs.Reading.{constant, byte_aligned, sliced, read_value, read_operand}
 use Rattle.expr_terms.specs.Answers.{ExprOut, resolved, on_expr, after}
 use Rattle.expr_resolver.specs.Expressions.{resolve_expr}
-use Rattle.stmt_walk.specs.declared.walk.Walk.{Walk}
+use Rattle.stmt_walk.specs.Outcomes.{Walk}
 use Rattle.stmt_walk.specs.Walks.{Stepped, stepped, Walked, walked, step_read, beside_p, stop, read_then}
 use Rattle.stmt_assignments.specs.Stores.{store}
 

@@ -14,7 +14,7 @@ use Rattle.expr_reading.specs.Reading.{set_stated, take_stated}
 use Rattle.expr_terms.specs.Answers.{on_expr, on_operand, after}
 use Rattle.expr_terms.specs.Addresses.{resolve_address}
 use Rattle.expr_resolver.specs.Expressions.{expr_value, skip_expr, resolve_expr}
-use Rattle.stmt_walk.specs.declared.walk.Walk.{Walk}
+use Rattle.stmt_walk.specs.Outcomes.{Walk}
 use Rattle.stmt_walk.specs.Walks.{Stepped, stepped, step_pushed, stop, pushed_then}
 
 unfoldable pub store_stated : List ℕ → List ℕ → List ℕ → Env → Value → ℕ → Walk → Listed Stated → Stepped

@@ -15,7 +15,7 @@ use Rattle.expr_scope.specs.Scopes.{resolve_ident}
 use Rattle.expr_reading.specs.Reading.{constant, read_operand}
 use Rattle.expr_terms.specs.Answers.{on_operand, after}
 use Rattle.expr_resolver.specs.Expressions.{expr_value, resolve_expr}
-use Rattle.stmt_walk.specs.declared.walk.Walk.{Walk}
+use Rattle.stmt_walk.specs.Outcomes.{Walk}
 use Rattle.stmt_walk.specs.Walks.{Stepped, stepped, Walked, walked, step_pushed, beside_p, stop, pushed_then}
 use Rattle.stmt_branches.specs.Labels.{get_or_insert_label, on_label, resolve_label, labelled}
 

@@ -5,8 +5,8 @@ use Rattle.list_pushes.specs.declared.push.State.{State}
 use Rattle.list_values.specs.Base.{Listed, listed}
 use Rattle.prelude.specs.Base.{when◌then◌else◌}
 use Rattle.expr_scope.specs.Smalls.{small, put_small}
-use Rattle.stmt_walk.specs.declared.walk.Walk.{Walk}
-use Rattle.stmt_branches.specs.declared.labels.Label.{Label}
+use Rattle.stmt_walk.specs.Outcomes.{Walk}
+use Rattle.stmt_branches.specs.Outcomes.{Label}
 
 -- where the number of a name's label stands among the small numbers of a scope
 unfoldable pub label_place : ℕ → ℕ

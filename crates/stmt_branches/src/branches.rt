@@ -1,19 +1,24 @@
 // Branches: to a label of the section, or to an address, which a direct jump takes as it is and an indirect one reads.
 ghost use Rattle.std.specs.Prelude.{◌≡◌};
+ghost use Rattle.expr_scope.specs.Outcomes.{to_meaning};
+ghost use Rattle.stmt_walk.specs.Outcomes.{to_walk, to_step, to_steps};
 ghost use Rattle.stmt_walk.specs.Walks.{stepped, walked};
 ghost use Rattle.stmt_branches.specs.Branches.{push_label, label_statement, branch_to, branch_label, label_branch, jump_value, after_jump, direct_address, direct, indirect, jump_to, jump, resolve_branch, branch, cond_branch};
 
-use crate::labels::{Label, get_or_insert_label, labelled, resolve_label};
+use crate::labels::{get_or_insert_label, labelled, resolve_label};
 use access::u16_in;
-use codes::{operation, refusal, statement, table, value_kind};
+use codes::refusal::Refusal;
+use codes::{operation, statement, value_kind};
 use expr_reading::read::{constant, read_operand};
 use expr_resolver::expr::{DEPTH, expr_value};
-use expr_scope::scope::{ExprValue, Meaning, resolve_ident};
-use expr_terms::answers::{Operand, after};
-use list_pushes::push::{Env, Read, State, push_op};
+use expr_scope::scope::{ExprValue, resolve_ident};
+use expr_terms::answers::after;
+use list_pushes::push::{Env, Operation, State, push_op};
+use list_values::section::Section;
 use list_values::value::{Value, absent, no_output};
-use stmt_walk::walk::{Step, Walk, pushed_then, stop};
+use stmt_walk::walk::{Stopped, Walk, stop};
 
+#[tactic(auto, unfolding(crate::specs::Branches::push_label, stmt_walk::specs::Walks::step_pushed, stmt_walk::specs::Walks::pushed_then))]
 fn push_label(
     section: Section<'_>,
     actions: &mut [u64],
@@ -22,29 +27,29 @@ fn push_label(
     id: u64,
     next: usize,
     walk: Walk,
-) -> Step
-    ensures { stepped result actions.new temporaries.new ≡ push_label section.entry.stream.now section.entry.table.now actions.old temporaries.old env id next walk }
+) -> Result<(usize, Walk), Refusal>
+    ensures { stepped (to_step walk result) actions.new temporaries.new ≡ push_label section.entry.stream.now section.entry.table.now actions.old temporaries.old env id next (to_walk walk) }
 {
-    let here = labelled(walk, walk.st, id, 1);
-    pushed_then(
-        push_op(
-            section,
-            actions,
-            temporaries,
-            env,
-            operation::PCODE_LABEL,
-            id,
-            0,
-            no_output(),
-            absent(),
-            absent(),
-            walk.st,
-        ),
-        next,
-        here,
-    )
+    let label = Operation {
+        code: operation::PCODE_LABEL,
+        number: id,
+        count: 0,
+        first: absent(),
+        second: absent(),
+    };
+    let state = push_op(
+        section,
+        actions,
+        temporaries,
+        env,
+        label,
+        no_output(),
+        walk.st,
+    )?;
+    Ok((next, labelled(walk, state, id, 1)))
 }
 
+#[tactic(auto, unfolding(crate::specs::Branches::label_statement, crate::specs::Labels::on_label, stmt_walk::specs::Walks::beside_p))]
 pub fn label_statement(
     section: Section<'_>,
     scope: &mut [u64],
@@ -53,21 +58,14 @@ pub fn label_statement(
     env: Env,
     pos: usize,
     walk: Walk,
-) -> Step
-    ensures { walked result scope.new actions.new temporaries.new ≡ label_statement section.entry.stream.now section.entry.table.now scope.old actions.old temporaries.old env pos walk }
+) -> Result<(usize, Walk), Refusal>
+    ensures { walked (to_step walk result) scope.new actions.new temporaries.new ≡ label_statement section.entry.stream.now section.entry.table.now scope.old actions.old temporaries.old env pos (to_walk walk) }
 {
     let id = resolve_label(scope, u16_in(section.stream, pos, 1), walk.labels)?;
-    push_label(
-            section,
-            actions,
-            temporaries,
-            env,
-            id,
-            after(pos, 3),
-            walk,
-        )
+    push_label(section, actions, temporaries, env, id, after(pos, 3), walk)
 }
 
+#[tactic(auto, unfolding(crate::specs::Branches::branch_to, stmt_walk::specs::Walks::step_pushed, stmt_walk::specs::Walks::pushed_then))]
 fn branch_to(
     section: Section<'_>,
     actions: &mut [u64],
@@ -78,29 +76,26 @@ fn branch_to(
     hint: usize,
     state: State,
     walk: Walk,
-) -> Step
-    ensures { stepped result actions.new temporaries.new ≡ branch_to section.entry.stream.now section.entry.table.now actions.old temporaries.old env cond address hint state walk }
+) -> Result<(usize, Walk), Refusal>
+    ensures { stepped (to_step walk result) actions.new temporaries.new ≡ branch_to section.entry.stream.now section.entry.table.now actions.old temporaries.old env cond address hint state (to_walk walk) }
 {
-    let number = access::byte(section.stream, hint, 0);
-    pushed_then(
-        push_op(
-            section,
-            actions,
-            temporaries,
-            env,
-            operation::BRANCH,
-            number,
-            2,
-            no_output(),
-            cond,
-            address,
-            state,
-        ),
-        after(hint, 1),
-        walk,
-    )
+    let branch = Operation {
+        number: access::byte(section.stream, hint, 0),
+        ..Operation::binary(operation::BRANCH, cond, address)
+    };
+    let st = push_op(
+        section,
+        actions,
+        temporaries,
+        env,
+        branch,
+        no_output(),
+        state,
+    )?;
+    Ok((after(hint, 1), Walk { st, ..walk }))
 }
 
+#[tactic(auto, unfolding(crate::specs::Branches::branch_label, stmt_walk::specs::Walks::step_pushed, stmt_walk::specs::Walks::pushed_then))]
 fn branch_label(
     section: Section<'_>,
     actions: &mut [u64],
@@ -111,29 +106,32 @@ fn branch_label(
     next: usize,
     state: State,
     walk: Walk,
-) -> Step
-    ensures { stepped result actions.new temporaries.new ≡ branch_label section.entry.stream.now section.entry.table.now actions.old temporaries.old env id cond next state walk }
+) -> Result<(usize, Walk), Stopped>
+    ensures { stepped (to_steps result) actions.new temporaries.new ≡ branch_label section.entry.stream.now section.entry.table.now actions.old temporaries.old env id cond next state (to_walk walk) }
 {
     let here = labelled(walk, state, id, 0);
-    pushed_then(
-        push_op(
-            section,
-            actions,
-            temporaries,
-            env,
-            operation::PCODE_BRANCH,
-            id,
-            2,
-            no_output(),
-            cond,
-            constant(0),
-            state,
-        ),
-        next,
-        here,
-    )
+    let branch = Operation {
+        code: operation::PCODE_BRANCH,
+        number: id,
+        count: 2,
+        first: cond,
+        second: constant(0),
+    };
+    match push_op(
+        section,
+        actions,
+        temporaries,
+        env,
+        branch,
+        no_output(),
+        state,
+    ) {
+        Ok(st) => Ok((next, Walk { st, ..here })),
+        Err(refusal) => Err(stop(here, refusal)),
+    }
 }
 
+#[tactic(auto, unfolding(crate::specs::Branches::label_branch, crate::specs::Labels::on_label, stmt_walk::specs::Walks::beside_p))]
 fn label_branch(
     section: Section<'_>,
     scope: &mut [u64],
@@ -144,24 +142,30 @@ fn label_branch(
     cond: Value,
     state: State,
     walk: Walk,
-) -> Step
-    ensures { walked result scope.new actions.new temporaries.new ≡ label_branch section.entry.stream.now section.entry.table.now scope.old actions.old temporaries.old env pos cond state walk }
+) -> Result<(usize, Walk), Stopped>
+    ensures { walked (to_steps result) scope.new actions.new temporaries.new ≡ label_branch section.entry.stream.now section.entry.table.now scope.old actions.old temporaries.old env pos cond state (to_walk walk) }
 {
-    let id = get_or_insert_label(scope, u16_in(section.stream, pos, 1), walk.labels)?;
-    branch_label(
-            section,
-            actions,
-            temporaries,
-            env,
-            id,
-            cond,
-            after(pos, 4),
-            state,
-            walk,
-        )
+    match get_or_insert_label(scope, u16_in(section.stream, pos, 1), walk.labels) {
+        Ok(id) => {
+            let next = after(pos, 4);
+            branch_label(
+                section,
+                actions,
+                temporaries,
+                env,
+                id,
+                cond,
+                next,
+                state,
+                walk,
+            )
+        }
+        Err(refusal) => Err(stop(walk, refusal)),
+    }
 }
 
 // What a jump goes to: a name, or an integer with a size.
+#[tactic(auto, unfolding(crate::specs::Branches::jump_value))]
 fn jump_value(
     section: Section<'_>,
     scope: &[u64],
@@ -179,6 +183,7 @@ fn jump_value(
     })
 }
 
+#[tactic(auto, unfolding(crate::specs::Branches::after_jump))]
 fn after_jump(stream: &[u8], pos: usize) -> usize
     ensures { result ≡ after_jump stream.now pos }
 {
@@ -189,20 +194,21 @@ fn after_jump(stream: &[u8], pos: usize) -> usize
 }
 
 // A direct jump to a subtable takes its SubtableRef at pointer size.
+#[tactic(auto, unfolding(crate::specs::Branches::direct_address))]
 fn direct_address(value: Value, pointer: u64) -> Value
     ensures { result ≡ direct_address pointer value }
 {
     if value.kind == value_kind::SUBTABLE {
         return Value {
             kind: value_kind::SUBTABLE_REF,
-            number: value.number,
-            offset: value.offset,
             size: pointer,
+            ..value
         };
     }
     value
 }
 
+#[tactic(auto, unfolding(crate::specs::Branches::direct))]
 fn direct(
     section: Section<'_>,
     actions: &mut [u64],
@@ -213,25 +219,35 @@ fn direct(
     hint: usize,
     state: State,
     walk: Walk,
-) -> Step
-    ensures { stepped result actions.new temporaries.new ≡ direct section.entry.stream.now section.entry.table.now actions.old temporaries.old env expr cond hint state walk }
+) -> Result<(usize, Walk), Refusal>
+    ensures { stepped (to_step walk result) actions.new temporaries.new ≡ direct section.entry.stream.now section.entry.table.now actions.old temporaries.old env expr cond hint state (to_walk walk) }
 {
     match expr {
-        ExprValue::Local(v) => branch_to(
-            section,
-            actions,
-            temporaries,
-            env,
-            cond,
-            direct_address(v, env.pointer),
-            hint,
-            state,
-            walk,
-        ),
-        _ => stop(walk, Refusal::JumpToNonLocal),
+        ExprValue::Local(v) => {
+            let address = direct_address(v, env.pointer);
+            branch_to(
+                section,
+                actions,
+                temporaries,
+                env,
+                cond,
+                address,
+                hint,
+                state,
+                walk,
+            )
+        }
+        ExprValue::Unbound(_)
+        | ExprValue::Const { .. }
+        | ExprValue::Apply { .. }
+        | ExprValue::RamRef { .. }
+        | ExprValue::RegisterRef { .. }
+        | ExprValue::AddressOf { .. }
+        | ExprValue::BitRange { .. } => Err(Refusal::JumpToNonLocal),
     }
 }
 
+#[tactic(auto, unfolding(crate::specs::Branches::indirect, list_pushes::specs::Pushes::on_read))]
 fn indirect(
     section: Section<'_>,
     actions: &mut [u64],
@@ -242,23 +258,24 @@ fn indirect(
     hint: usize,
     state: State,
     walk: Walk,
-) -> Step
-    ensures { stepped result actions.new temporaries.new ≡ indirect section.entry.stream.now section.entry.table.now actions.old temporaries.old env expr cond hint state walk }
+) -> Result<(usize, Walk), Refusal>
+    ensures { stepped (to_step walk result) actions.new temporaries.new ≡ indirect section.entry.stream.now section.entry.table.now actions.old temporaries.old env expr cond hint state (to_walk walk) }
 {
-    let (v, st1) = read_operand(section, actions, temporaries, env, expr, state)?;
+    let (address, state) = read_operand(section, actions, temporaries, env, expr, state)?;
     branch_to(
-            section,
-            actions,
-            temporaries,
-            env,
-            cond,
-            v,
-            hint,
-            st1,
-            walk,
-        )
+        section,
+        actions,
+        temporaries,
+        env,
+        cond,
+        address,
+        hint,
+        state,
+        walk,
+    )
 }
 
+#[tactic(auto, unfolding(crate::specs::Branches::jump_to))]
 fn jump_to(
     code: u64,
     section: Section<'_>,
@@ -270,8 +287,8 @@ fn jump_to(
     hint: usize,
     state: State,
     walk: Walk,
-) -> Step
-    ensures { stepped result actions.new temporaries.new ≡ jump_to code section.entry.stream.now section.entry.table.now actions.old temporaries.old env expr cond hint state walk }
+) -> Result<(usize, Walk), Refusal>
+    ensures { stepped (to_step walk result) actions.new temporaries.new ≡ jump_to code section.entry.stream.now section.entry.table.now actions.old temporaries.old env expr cond hint state (to_walk walk) }
 {
     if code == statement::DST_DIRECT {
         return direct(
@@ -299,6 +316,7 @@ fn jump_to(
     )
 }
 
+#[tactic(auto, unfolding(crate::specs::Branches::jump, crate::specs::Branches::jump_meant))]
 fn jump(
     section: Section<'_>,
     scope: &[u64],
@@ -309,26 +327,28 @@ fn jump(
     cond: Value,
     state: State,
     walk: Walk,
-) -> Step
-    ensures { stepped result actions.new temporaries.new ≡ jump section.entry.stream.now section.entry.table.now scope.now actions.old temporaries.old env pos cond state walk }
+) -> Result<(usize, Walk), Refusal>
+    ensures { stepped (to_step walk result) actions.new temporaries.new ≡ jump section.entry.stream.now section.entry.table.now scope.now actions.old temporaries.old env pos cond state (to_walk walk) }
 {
     let target = after(pos, 1);
     let code = access::byte(section.stream, pos, 0);
-    let x = jump_value(section, scope, target, env)?;
+    let expr = jump_value(section, scope, target, env)?;
+    let hint = after_jump(section.stream, target);
     jump_to(
-            code,
-            section,
-            actions,
-            temporaries,
-            env,
-            x,
-            cond,
-            after_jump(section.stream, target),
-            state,
-            walk,
-        )
+        code,
+        section,
+        actions,
+        temporaries,
+        env,
+        expr,
+        cond,
+        hint,
+        state,
+        walk,
+    )
 }
 
+#[tactic(auto, unfolding(crate::specs::Branches::resolve_branch, stmt_walk::specs::Walks::beside_p))]
 fn resolve_branch(
     section: Section<'_>,
     scope: &mut [u64],
@@ -339,8 +359,8 @@ fn resolve_branch(
     cond: Value,
     state: State,
     walk: Walk,
-) -> Step
-    ensures { walked result scope.new actions.new temporaries.new ≡ resolve_branch section.entry.stream.now section.entry.table.now scope.old actions.old temporaries.old env pos cond state walk }
+) -> Result<(usize, Walk), Stopped>
+    ensures { walked (to_steps result) scope.new actions.new temporaries.new ≡ resolve_branch section.entry.stream.now section.entry.table.now scope.old actions.old temporaries.old env pos cond state (to_walk walk) }
 {
     if access::byte(section.stream, pos, 0) == statement::DST_LABEL {
         return label_branch(
@@ -366,8 +386,10 @@ fn resolve_branch(
         state,
         walk,
     )
+    .map_err(|refusal| stop(walk, refusal))
 }
 
+#[tactic(auto, unfolding(crate::specs::Branches::branch))]
 pub fn branch(
     section: Section<'_>,
     scope: &mut [u64],
@@ -376,8 +398,8 @@ pub fn branch(
     env: Env,
     pos: usize,
     walk: Walk,
-) -> Step
-    ensures { walked result scope.new actions.new temporaries.new ≡ branch section.entry.stream.now section.entry.table.now scope.old actions.old temporaries.old env pos walk }
+) -> Result<(usize, Walk), Stopped>
+    ensures { walked (to_steps result) scope.new actions.new temporaries.new ≡ branch section.entry.stream.now section.entry.table.now scope.old actions.old temporaries.old env pos (to_walk walk) }
 {
     resolve_branch(
         section,
@@ -392,6 +414,7 @@ pub fn branch(
     )
 }
 
+#[tactic(auto, unfolding(crate::specs::Branches::cond_branch, expr_terms::specs::Answers::on_operand))]
 pub fn cond_branch(
     section: Section<'_>,
     scope: &mut [u64],
@@ -400,28 +423,30 @@ pub fn cond_branch(
     env: Env,
     pos: usize,
     walk: Walk,
-) -> Step
-    ensures { walked result scope.new actions.new temporaries.new ≡ cond_branch section.entry.stream.now section.entry.table.now scope.old actions.old temporaries.old env pos walk }
+) -> Result<(usize, Walk), Stopped>
+    ensures { walked (to_steps result) scope.new actions.new temporaries.new ≡ cond_branch section.entry.stream.now section.entry.table.now scope.old actions.old temporaries.old env pos (to_walk walk) }
 {
-    let (v, next, st) = expr_value(
+    let at = after(pos, 1);
+    let cond = expr_value(
         DEPTH,
         section,
         scope,
-        after(pos, 1),
+        at,
         env,
         actions,
         temporaries,
         walk.st,
-    )?;
+    )
+    .map_err(|refusal| stop(walk, refusal))?;
     resolve_branch(
-            section,
-            scope,
-            actions,
-            temporaries,
-            env,
-            next,
-            v,
-            st,
-            walk,
-        )
+        section,
+        scope,
+        actions,
+        temporaries,
+        env,
+        cond.next,
+        cond.value,
+        cond.state,
+        walk,
+    )
 }

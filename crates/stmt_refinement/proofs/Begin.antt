@@ -13,7 +13,7 @@ use Rattle.definition.specs.Walk.{State, Env, Outcome, done, stopped, on, requir
 use Rattle.definition.specs.Statements as d
 use Rattle.definition.specs.ActionList.{or_none, export_kind_number}
 use Rattle.list_refinement.specs.Encoding.{enc_s}
-use Rattle.stmt_walk.specs.declared.walk.Step.{Step}
+use Rattle.stmt_walk.specs.Outcomes.{Step}
 use Rattle.stmt_bodies.specs.Statements.{begun, begin}
 use Rattle.stmt_refinement.specs.Standing.{Beside, ExportIs, walk_of}
 

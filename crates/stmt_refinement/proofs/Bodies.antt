@@ -33,8 +33,8 @@ use Rattle.file_refinement.proofs.Forward.{statement_ends}
 use Rattle.file_refinement.proofs.Inversion.{statement_at, MacroParts}
 use Rattle.list_refinement.specs.Encoding.{Each}
 use Rattle.expr_terms.specs.Answers.{after}
-use Rattle.stmt_walk.specs.declared.walk.Walk.{Walk}
-use Rattle.stmt_walk.specs.declared.walk.Step.{Step}
+use Rattle.stmt_walk.specs.Outcomes.{Walk}
+use Rattle.stmt_walk.specs.Outcomes.{Step}
 use Rattle.stmt_walk.specs.Walks.{Walked, walked, beside_p, without_p, on_step, stop}
 use Rattle.stmt_bodies.specs.Statements.{statement_by, statement_begun, resolve_statement, resolve_all, macro_env, body_at, forward, returned, returned_to, macro_body, enter_macro, resolve_body}
 use Rattle.expr_refinement.proofs.Answers.{acts, temps, word}

@@ -33,7 +33,7 @@ use Rattle.file_refinement.proofs.Inversion.{Begun, jump-begun, jump_name_at, ju
 use Rattle.list_refinement.specs.Encoding.{enc_v, Sound, SoundAction, first_of, second_of, output_of}
 use Rattle.list_refinement.proofs.Seen.{seen_pushed, outcome}
 use Rattle.list_refinement.proofs.Pushes.{push-op_is, push-op-done, Stands}
-use Rattle.stmt_walk.specs.declared.walk.Walk.{Walk}
+use Rattle.stmt_walk.specs.Outcomes.{Walk}
 use Rattle.stmt_walk.specs.Walks.{step_pushed, Walked, walked, beside_p, stop, pushed_then}
 use Rattle.stmt_branches.specs.Labels.{get_or_insert_label, on_label, resolve_label, labels_after}
 use Rattle.stmt_branches.specs.Branches.{push_label, label_statement, branch_label, label_branch, jump_value, after_jump, jump_to, jump_meant, jump, resolve_branch, branch, cond_branch}

@@ -27,8 +27,8 @@ use Rattle.file_refinement.specs.Holds.{subtable_at}
 use Rattle.definition_guarantee.proofs.Tests.{some_same}
 use Rattle.definition_guarantee.proofs.Globals.{place-below}
 use Rattle.expr_terms.specs.Answers.{after}
-use Rattle.stmt_walk.specs.declared.walk.Walk.{Walk}
-use Rattle.stmt_walk.specs.declared.walk.Step.{Step}
+use Rattle.stmt_walk.specs.Outcomes.{Walk}
+use Rattle.stmt_walk.specs.Outcomes.{Step}
 use Rattle.stmt_walk.specs.Walks.{stepped, stop}
 use Rattle.stmt_simple.specs.Simple.{find_subtable, build_subtable, build_table, build_symbol, build}
 use Rattle.expr_refinement.proofs.Encodings.{stood_more}

@@ -29,8 +29,8 @@ use Rattle.file_refinement.proofs.Inversion.{CallStatementAt, call-statement_at}
 use Rattle.list_refinement.proofs.Seen.{seen_push}
 use Rattle.expr_terms.specs.Answers.{after}
 use Rattle.expr_terms.specs.Calls.{only_integer}
-use Rattle.stmt_walk.specs.declared.walk.Walk.{Walk}
-use Rattle.stmt_walk.specs.declared.walk.Step.{Step}
+use Rattle.stmt_walk.specs.Outcomes.{Walk}
+use Rattle.stmt_walk.specs.Outcomes.{Step}
 use Rattle.stmt_walk.specs.Walks.{Stepped, stepped, beside_p, stop, pushed_then}
 use Rattle.stmt_simple.specs.declared.calls.Called.{Called}
 use Rattle.stmt_simple.specs.Calls.{symbol_called, called_of, delay_slot, user_op_statement}

@@ -30,7 +30,7 @@ use Rattle.list_refinement.proofs.Seen.{Seen, no, yes, seen_read}
 use Rattle.list_values.specs.Values as words
 use Rattle.list_values.specs.Outcomes.{Slice}
 use Rattle.expr_reading.specs.Reading.{byte_aligned, slice_read, sliced, read_value}
-use Rattle.stmt_walk.specs.declared.walk.Walk.{Walk}
+use Rattle.stmt_walk.specs.Outcomes.{Walk}
 use Rattle.stmt_walk.specs.Walks.{Stepped, stepped, step_read, stop, read_then}
 use Rattle.stmt_assignments.specs.Copies.{merge_bits, extend_bits, insert_in, insert_bits, keep_bits, write_bits, copy_bits, read_sliced, copy_bytes, copy_range, copy_ram, copy_into}
 use Rattle.expr_refinement.proofs.Encodings.{sound_more, stood_more}

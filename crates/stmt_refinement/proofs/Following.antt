@@ -16,7 +16,7 @@ use Rattle.definition_guarantee.proofs.Kept.{Kept, ExprFits, Ends, Keeps, count,
 use Rattle.definition_guarantee.proofs.KeptLabels.{keep_macro}
 use Rattle.definition_guarantee.proofs.KeptStatements.{keep_statement, Nothing, keep_body}
 use Rattle.list_pushes.specs.declared.push.Env.{Env as WordEnv}
-use Rattle.stmt_walk.specs.declared.walk.Step.{Step}
+use Rattle.stmt_walk.specs.Outcomes.{Step}
 use Rattle.stmt_walk.specs.Walks.{Walked, walked}
 use Rattle.stmt_refinement.proofs.Steps.{Steps, Follows}
 use Rattle.stmt_refinement.proofs.Bodies.{enter_of, Begun}

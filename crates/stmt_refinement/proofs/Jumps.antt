@@ -23,7 +23,7 @@ use Rattle.list_pushes.specs.declared.push.State.{State as WordState}
 use Rattle.list_pushes.specs.declared.push.Env.{Env as WordEnv}
 use Rattle.list_refinement.specs.Encoding.{enc_v, Within, Sound, first_of, second_of}
 use Rattle.expr_terms.specs.Answers.{after}
-use Rattle.stmt_walk.specs.declared.walk.Walk.{Walk}
+use Rattle.stmt_walk.specs.Outcomes.{Walk}
 use Rattle.stmt_walk.specs.Walks.{Stepped, stepped, stop}
 use Rattle.stmt_branches.specs.Branches.{branch_to, direct_address, direct, indirect}
 use Rattle.expr_refinement.proofs.Encodings.{sound_more, stood_more}

@@ -34,7 +34,7 @@ use Rattle.list_refinement.proofs.Seen.{outcome}
 use Rattle.expr_scope.specs.declared.args.Args.{Args as WordArgs}
 use Rattle.expr_terms.specs.Answers.{ArgsOut, passed, on_args, after}
 use Rattle.expr_resolver.specs.Expressions.{resolve_args, resolve_expr}
-use Rattle.stmt_walk.specs.declared.walk.Walk.{Walk}
+use Rattle.stmt_walk.specs.Outcomes.{Walk}
 use Rattle.stmt_simple.specs.declared.calls.Called.{Called}
 use Rattle.stmt_walk.specs.Walks.{Stepped, stepped, beside_p, without_p, stop}
 use Rattle.stmt_simple.specs.Calls.{symbol_called, called_of, macro_at, bind_names, counted, macro_counted, macro_args}

@@ -34,7 +34,7 @@ use Rattle.expr_scope.specs.Smalls.{small, put_small}
 use Rattle.expr_scope.proofs.SmallLaws.{small_same, small_other, small_slots, small_length}
 use Rattle.expr_scope.specs.Scopes.{Found, own_local, tmp_of, tmp_local, or_tmp, lookup_local, undeclared, named_tmp}
 use Rattle.stmt_branches.specs.Labels.{label_place}
-use Rattle.stmt_walk.specs.declared.walk.Step.{Step}
+use Rattle.stmt_walk.specs.Outcomes.{Step}
 use Rattle.stmt_walk.specs.Walks.{Walked, walked, step_read, read_then}
 use Rattle.stmt_bodies.specs.Statements.{beside_a}
 use Rattle.expr_refinement.proofs.Encodings.{params_more, mapping_more, actions_more}

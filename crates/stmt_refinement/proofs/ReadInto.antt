@@ -12,7 +12,7 @@ use Rattle.list_pushes.specs.declared.push.Env.{Env as WordEnv}
 use Rattle.list_refinement.specs.Encoding.{enc_v, Sound}
 use Rattle.list_refinement.proofs.Seen.{seen_read}
 use Rattle.expr_reading.specs.Reading.{read_value}
-use Rattle.stmt_walk.specs.declared.walk.Walk.{Walk}
+use Rattle.stmt_walk.specs.Outcomes.{Walk}
 use Rattle.stmt_walk.specs.Walks.{step_read, read_then}
 use Rattle.expr_refinement.proofs.Answers.{acts, temps, word}
 use Rattle.expr_refinement.proofs.Below.{Spare}

@@ -26,7 +26,7 @@ use Rattle.list_refinement.specs.Encoding.{enc_v, Sound, first_of, second_of}
 use Rattle.list_refinement.proofs.Seen.{seen_read}
 use Rattle.expr_terms.specs.Answers.{after}
 use Rattle.expr_reading.specs.Reading.{read_operand}
-use Rattle.stmt_walk.specs.declared.walk.Walk.{Walk}
+use Rattle.stmt_walk.specs.Outcomes.{Walk}
 use Rattle.stmt_walk.specs.Walks.{Stepped, step_read}
 use Rattle.stmt_simple.specs.Simple.{unimplemented, export_value, export_read, export_of, export_statement}
 use Rattle.expr_refinement.proofs.Encodings.{stood_more}

@@ -25,7 +25,7 @@ use Rattle.file_refinement.proofs.Inversion.{unimplemented_at, export_at, local_
 use Rattle.list_refinement.proofs.Seen.{outcome}
 use Rattle.expr_terms.specs.Answers.{after}
 use Rattle.expr_scope.specs.Scopes.{named_tmp}
-use Rattle.stmt_walk.specs.declared.walk.Step.{Step}
+use Rattle.stmt_walk.specs.Outcomes.{Step}
 use Rattle.stmt_walk.specs.Walks.{Stepped, stepped, Walked, walked, step_read, beside_p, read_then}
 use Rattle.stmt_simple.specs.Simple.{unimplemented, export_statement, local_statement, local_assignment, build}
 use Rattle.stmt_assignments.specs.Stores.{store_statement}

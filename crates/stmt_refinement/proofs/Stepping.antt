@@ -24,7 +24,7 @@ use Rattle.expr_scope.specs.declared.scope.ExprValue.{ExprValue as WordExpr}
 use Rattle.expr_terms.specs.Outcomes.{Expr}
 use Rattle.expr_terms.specs.Outcomes.{Operand}
 use Rattle.expr_terms.specs.Answers.{ExprOut, resolved, on_expr, OperandOut, operand, on_operand}
-use Rattle.stmt_walk.specs.declared.walk.Step.{Step}
+use Rattle.stmt_walk.specs.Outcomes.{Step}
 use Rattle.stmt_walk.specs.Walks.{Stepped, stepped, Walked, walked, beside_p}
 use Rattle.expr_refinement.proofs.Encodings.{sound_more}
 use Rattle.expr_refinement.proofs.Answers.{acts, temps, word, seen_expr, seen_operand, Halts, Reached, Refines}

@@ -8,7 +8,7 @@ use Rattle.definition.specs.Walk.{State, Env, Outcome, done, stopped}
 use Rattle.definition.specs.ActionList.{or_none, labels_placed}
 use Rattle.definition_guarantee.proofs.Kept.{Kept}
 use Rattle.list_pushes.specs.declared.push.Env.{Env as WordEnv}
-use Rattle.stmt_walk.specs.declared.walk.Step.{Step}
+use Rattle.stmt_walk.specs.Outcomes.{Step}
 use Rattle.stmt_walk.specs.Walks.{Walked, walked}
 use Rattle.expr_refinement.proofs.Answers.{acts, temps, word}
 use Rattle.stmt_refinement.specs.Standing.{Beside, walk_of, Standing, Framed}

@@ -33,7 +33,7 @@ use Rattle.expr_reading.specs.declared.read.Stated.{Stated}
 use Rattle.expr_reading.specs.Reading.{set_stated, take_stated}
 use Rattle.expr_terms.specs.Addresses.{resolve_address}
 use Rattle.expr_resolver.specs.Expressions.{skip_expr}
-use Rattle.stmt_walk.specs.declared.walk.Walk.{Walk}
+use Rattle.stmt_walk.specs.Outcomes.{Walk}
 use Rattle.stmt_walk.specs.Walks.{Stepped, stepped, step_pushed, stop, pushed_then}
 use Rattle.stmt_assignments.specs.Stores.{store_stated, store, register_stated, store_register, store_at, store_in, store_pointer, store_statement}
 use Rattle.expr_refinement.proofs.Encodings.{sound_more, stood_more}

@@ -39,7 +39,7 @@ use Rattle.list_refinement.proofs.Lists.{list_focus, focus_at, fill, fill_is}
 use Rattle.list_refinement.proofs.Seen.{Seen, no, yes, seen_push}
 use Rattle.expr_scope.specs.Slots.{slot_at, param_place, arg_at, put_arg}
 use Rattle.expr_resolver.specs.Expressions.{resolve_args, resolve_expr}
-use Rattle.stmt_walk.specs.declared.walk.Walk.{Walk}
+use Rattle.stmt_walk.specs.Outcomes.{Walk}
 use Rattle.stmt_walk.specs.Walks.{Stepped, beside_p, pushed_then}
 use Rattle.stmt_simple.specs.Calls.{write_input, write_inputs, ArgsRead, args_read, read_args, push_user_op, user_op_read, user_op_args, step_args, user_op_statement}
 use Rattle.expr_refinement.proofs.Encodings.{sound_more, x_more, each_more, each_last, placed-last}

@@ -16,8 +16,8 @@ use Rattle.list_values.specs.Base.{Listed, listed, then_l}
 use Rattle.prelude.specs.Base.{when◌then◌else◌}
 use Rattle.list_pushes.specs.Pushes.{ReadOut, read, PushedOut, pushed}
 use Rattle.list_refinement.proofs.Seen.{Seen, no, yes, seen_read, seen_pushed, seen_push, outcome}
-use Rattle.stmt_walk.specs.declared.walk.Walk.{Walk}
-use Rattle.stmt_walk.specs.declared.walk.Step.{Step}
+use Rattle.stmt_walk.specs.Outcomes.{Walk}
+use Rattle.stmt_walk.specs.Outcomes.{Step}
 use Rattle.stmt_walk.specs.Walks.{Stepped, stepped, step_pushed, step_read, stop, pushed_then, read_then}
 use Rattle.expr_refinement.proofs.Answers.{Refines, refines_map, refines_stopped}
 use Rattle.stmt_refinement.specs.Standing.{Beside, beside, enc_e}

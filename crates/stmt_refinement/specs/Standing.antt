@@ -8,8 +8,8 @@ use Rattle.definition.specs.Walk.{State, Env, Label}
 use Rattle.definition.specs.ActionList.{export_kind_number}
 use Rattle.prelude.specs.Base.{when◌then◌else◌}
 use Rattle.list_refinement.specs.Encoding.{enc_v, Sound, SizesHold, Lent, EachOption}
-use Rattle.stmt_walk.specs.declared.walk.Walk.{Walk}
-use Rattle.stmt_walk.specs.declared.walk.Export.{Export as WordExport}
+use Rattle.stmt_walk.specs.Outcomes.{Walk}
+use Rattle.stmt_walk.specs.Outcomes.{Export as WordExport}
 use Rattle.definition.specs.Sizes.{pointer_size}
 use Rattle.list_pushes.specs.declared.push.State.{State as WordState}
 use Rattle.list_pushes.specs.declared.push.Env.{Env as WordEnv}

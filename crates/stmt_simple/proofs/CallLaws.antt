@@ -28,8 +28,8 @@ use Rattle.expr_reading.specs.Reading.{read_operand}
 use Rattle.expr_terms.specs.Answers.{passed, on_args, after}
 use Rattle.expr_terms.specs.Calls.{only_integer}
 use Rattle.expr_resolver.specs.Expressions.{resolve_args, resolve_expr}
-use Rattle.stmt_walk.specs.declared.walk.Walk.{Walk}
-use Rattle.stmt_walk.specs.declared.walk.Step.{Step}
+use Rattle.stmt_walk.specs.Outcomes.{Walk}
+use Rattle.stmt_walk.specs.Outcomes.{Step}
 use Rattle.stmt_simple.specs.declared.calls.Called.{Called}
 use Rattle.stmt_walk.specs.Walks.{stepped, stop, pushed_then}
 use Rattle.access.proofs.LoopLaws.{run_end, one_less}

@@ -27,8 +27,8 @@ use Rattle.expr_scope.specs.Scopes.{named_tmp}
 use Rattle.expr_reading.specs.Reading.{read_value, read_operand}
 use Rattle.expr_terms.specs.Answers.{resolved, on_expr, after}
 use Rattle.expr_resolver.specs.Expressions.{resolve_expr}
-use Rattle.stmt_walk.specs.declared.walk.Walk.{Walk}
-use Rattle.stmt_walk.specs.declared.walk.Step.{Step}
+use Rattle.stmt_walk.specs.Outcomes.{Walk}
+use Rattle.stmt_walk.specs.Outcomes.{Step}
 use Rattle.stmt_walk.specs.Walks.{stepped, walked, step_pushed, step_read, beside_p, stop, pushed_then, read_then}
 use Rattle.stmt_simple.specs.Simple.{unimplemented, exported, export_value, export_read, export_of, export_statement, local_statement, assign, local_assignment, find_subtable, build_subtable, build_table, build_symbol, build}
 use Rattle.access.proofs.LoopLaws.{one_less}

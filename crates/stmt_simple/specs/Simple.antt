@@ -18,8 +18,8 @@ use Rattle.expr_scope.specs.Scopes.{named_tmp}
 use Rattle.expr_reading.specs.Reading.{read_value, read_operand}
 use Rattle.expr_terms.specs.Answers.{on_expr, after}
 use Rattle.expr_resolver.specs.Expressions.{resolve_expr}
-use Rattle.stmt_walk.specs.declared.walk.Walk.{Walk}
-use Rattle.stmt_walk.specs.declared.walk.Step.{Step}
+use Rattle.stmt_walk.specs.Outcomes.{Walk}
+use Rattle.stmt_walk.specs.Outcomes.{Step}
 use Rattle.stmt_walk.specs.Walks.{Stepped, stepped, Walked, walked, step_pushed, step_read, beside_p, stop, pushed_then, read_then}
 
 unfoldable pub unimplemented : List ℕ → List ℕ → List ℕ → List ℕ → Env → ℕ → Walk → Stepped

@@ -5,8 +5,8 @@ use Rattle.list_pushes.specs.declared.push.State.{State}
 use Rattle.list_pushes.specs.Outcomes.{Read}
 use Rattle.list_pushes.specs.Outcomes.{Pushed}
 use Rattle.list_pushes.specs.Pushes.{ReadOut, read, PushedOut, pushed}
-use Rattle.stmt_walk.specs.declared.walk.Walk.{Walk}
-use Rattle.stmt_walk.specs.declared.walk.Step.{Step}
+use Rattle.stmt_walk.specs.Outcomes.{Walk}
+use Rattle.stmt_walk.specs.Outcomes.{Step}
 
 -- an answer, the actions and the temporaries
 pub data Stepped : Type 0 where

@@ -1,16 +1,19 @@
-// The state of the walk, and how the answer of a push or a read goes on with it.
-ghost use Rattle.std.specs.Prelude.{◌≡◌};
-ghost use Rattle.stmt_walk.specs.Walks.{with_state, stop, pushed_then, read_then};
+// The state of the walk, and where a refusal stops it.
+ghost use Rattle.std.specs.Prelude.{◌≡◌, Err};
+ghost use Rattle.codes.specs.Refusals.{number};
+ghost use Rattle.stmt_walk.specs.Outcomes.{to_walk, to_steps};
+ghost use Rattle.stmt_walk.specs.Walks.{stop};
 
-use list_pushes::push::{Pushed, Read, State};
+use codes::refusal::Refusal;
+use list_pushes::push::State;
 use list_values::value::Value;
 
-// The export: 0 none, 1 value, 2 RAM, 3 register; its value; its access size.
+// What a section exports: a value, or what stands at a pointer, in RAM or among the registers, with its access size.
 #[derive(Clone, Copy)]
-pub struct Export {
-    pub kind: u64,
-    pub v: Value,
-    pub size: u64,
+pub enum Export {
+    Value(Value),
+    RamRef { pointer: Value, size: u64 },
+    RegisterRef { pointer: Value, size: u64 },
 }
 
 // The walk's state above that of expressions: labels given, labels placed, statements begun, the export.
@@ -20,54 +23,22 @@ pub struct Walk {
     pub labels: u64,
     pub placed: u64,
     pub statements: u64,
-    pub export: Export,
+    pub export: Option<Export>,
 }
 
+// A refusal, and the ordinal of the statement that had begun.
 #[derive(Clone, Copy)]
-pub enum Step {
-    Next { next: usize, w: Walk },
-    Stop { refusal: u64, ordinal: u64 },
-}
-
-pub fn with_state(walk: Walk, state: State) -> Walk
-    ensures { result ≡ with_state state walk }
-{
-    let export = walk.export;
-    Walk {
-        st: state,
-        labels: walk.labels,
-        placed: walk.placed,
-        statements: walk.statements,
-        export,
-    }
+pub struct Stopped {
+    pub refusal: Refusal,
+    pub ordinal: u64,
 }
 
 // A refusal, at the statement that has begun.
-pub fn stop(walk: Walk, refusal: u64) -> Step
-    ensures { result ≡ stop refusal walk }
+pub fn stop(walk: Walk, refusal: Refusal) -> Stopped
+    ensures { to_steps (Err result) ≡ stop (number refusal) (to_walk walk) }
 {
-    Step::Stop {
+    Stopped {
         refusal,
         ordinal: walk.st.sizing.begun,
     }
-}
-
-pub fn pushed_then(answer: Pushed, next: usize, walk: Walk) -> Step
-    ensures { result ≡ pushed_then next walk answer }
-{
-    let st = answer?;
-    Step::Next {
-            next,
-            w: with_state(walk, st),
-        }
-}
-
-pub fn read_then(answer: Read, next: usize, walk: Walk) -> Step
-    ensures { result ≡ read_then next walk answer }
-{
-    let (_, st) = answer?;
-    Step::Next {
-            next,
-            w: with_state(walk, st),
-        }
 }

@@ -1,2 +1,0 @@
-mod LabelLaws
-mod BranchLaws

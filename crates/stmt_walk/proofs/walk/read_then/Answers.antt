@@ -1,9 +1,0 @@
-use Rattle.std.proofs.Common.{rules}
-use Rattle.stmt_walk.proofs.WalkLaws.{walk_laws}
-use Rattle.stmt_walk.proofs.walk.read_then.Goals as goal
-
-pub returns-in-No : goal.returns-in-No
-returns-in-No c = search (walk_laws, rules)
-
-pub returns-in-Value : goal.returns-in-Value
-returns-in-Value c = search (walk_laws, rules)
