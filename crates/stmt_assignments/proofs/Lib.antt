@@ -1,2 +1,1 @@
-mod StoreLaws
-mod CopyLaws
+pub mod CopyLaws

@@ -15,7 +15,7 @@ use Rattle.list_pushes.specs.Pushes.{ReadOut, read, on_read, on_tmp, add_tmp, op
 use Rattle.expr_scope.specs.declared.scope.ExprValue.{ExprValue}
 use Rattle.expr_scope.specs.Outcomes.{Meaning}
 use Rattle.expr_terms.specs.Outcomes.{Expr}
-use Rattle.expr_scope.specs.Scopes.{resolve_ident, plain_local, named_tmp}
+use Rattle.expr_scope.specs.Scopes.{resolve_ident, named_tmp}
 use Rattle.expr_reading.specs.Reading.{constant, byte_aligned, sliced, read_value, read_operand}
 use Rattle.expr_terms.specs.Answers.{ExprOut, resolved, on_expr, after}
 use Rattle.expr_resolver.specs.Expressions.{resolve_expr}
@@ -127,11 +127,6 @@ is_wrong (Meaning.Means x) = false
 
 unfoldable pub is_new : List ℕ → List ℕ → List ℕ → Env → ℕ → Bool
 is_new s t p e name = when eqb name 65535 then false else is_wrong (resolve_ident s t p e name)
-
--- a bare name as target: its number as a plain local, 1 where it means nothing or a wrong thing, else 0
-unfoldable pub plain_target : List ℕ → List ℕ → List ℕ → Env → ℕ → ℕ → ℕ
-plain_target s t p e pos name =
-    when eqb (get_or s (pos + 0) 0) 0 then (when eqb name 65535 then 0 else plain_local s t p e name) else 0
 
 -- an answer, the scope, the actions and the temporaries
 pub data Targeted : Type 0 where

@@ -1,33 +1,37 @@
 // Copies: the target is a local, a place in RAM or a range of bits, which keeps the bits around it.
 ghost use Rattle.std.specs.Prelude.{◌≡◌, ◌<◌};
+ghost use Rattle.list_pushes.specs.Outcomes.{to_read};
 ghost use Rattle.list_pushes.specs.Pushes.{read};
+ghost use Rattle.expr_terms.specs.Outcomes.{to_expr};
 ghost use Rattle.expr_terms.specs.Answers.{resolved};
+ghost use Rattle.stmt_walk.specs.Outcomes.{to_walk, to_step};
 ghost use Rattle.stmt_walk.specs.Walks.{stepped, walked};
-ghost use Rattle.stmt_assignments.specs.Copies.{targeted, mask_but, merge_bits, extend_bits, insert_in, insert_bits, keep_bits, write_bits, copy_bits, copy_bytes, copy_range, copy_ram, copy_into, target_name, target_size, after_target, new_target, is_wrong, is_new, plain_target, resolve_dst, copy_target, copy_statement};
+ghost use Rattle.stmt_assignments.specs.Copies.{targeted, mask_but, merge_bits, extend_bits, insert_in, insert_bits, keep_bits, write_bits, copy_bits, copy_bytes, copy_range, copy_ram, copy_into, target_name, target_size, after_target, new_target, is_new, resolve_dst, copy_target, copy_statement};
 
 use crate::stores::store;
 use access::u16_in;
-use codes::{NONE, operation, refusal, table};
+use codes::refusal::Refusal;
+use codes::{NONE, expression, operation};
 use expr_reading::read::{byte_aligned, constant, read_operand, read_value, sliced};
 use expr_resolver::expr::{DEPTH, resolve_expr};
-use expr_scope::scope::{ExprValue, Meaning, named_tmp, plain_local, resolve_ident};
-use expr_terms::answers::{Expr, after};
-use list_pushes::push::{Env, Read, State, add_tmp, op_to};
+use expr_scope::scope::{ExprValue, named_tmp, resolve_ident};
+use expr_terms::answers::{Resolved, after};
+use list_pushes::push::{Env, Operation, State, add_tmp, op_to};
+use list_values::section::Section;
 use list_values::sizes::size_of;
-use list_values::value::{Value, absent, local};
-use stmt_walk::walk::{Step, Walk, read_then, stop};
-
-const ALL_BITS: u64 = 18446744073709551615;
+use list_values::value::Value;
+use stmt_walk::walk::Walk;
 
 // All 64 bits but those of a bit write.
 fn mask_but(from: u64, bits: u64) -> u64
     requires { from < 64 }
     ensures { result ≡ mask_but from bits }
 {
-    ALL_BITS - (access::mask(bits) << from)
+    u64::MAX - (access::mask(bits) << from)
 }
 
 // The bits of the value shifted to their place, and merged with the rest.
+#[tactic(auto, unfolding(crate::specs::Copies::merge_bits, list_pushes::specs::Pushes::on_read))]
 fn merge_bits(
     section: Section<'_>,
     actions: &mut [u64],
@@ -41,34 +45,13 @@ fn merge_bits(
 ) -> Result<(Value, State), Refusal>
     ensures { read (to_read result) actions.new temporaries.new ≡ merge_bits section.entry.stream.now section.entry.table.now actions.old temporaries.old env to prev tmp from state }
 {
-    let (_, st1) = op_to(
-        section,
-        actions,
-        temporaries,
-        env,
-        operation::INT_LEFT,
-        0,
-        2,
-        tmp,
-        tmp,
-        constant(from),
-        state,
-    )?;
-    op_to(
-            section,
-            actions,
-            temporaries,
-            env,
-            operation::INT_OR,
-            0,
-            2,
-            to,
-            prev,
-            tmp,
-            st1,
-        )
+    let shift = Operation::binary(operation::INT_LEFT, tmp, constant(from));
+    let (_, state) = op_to(section, actions, temporaries, env, shift, tmp, state)?;
+    let merge = Operation::binary(operation::INT_OR, prev, tmp);
+    op_to(section, actions, temporaries, env, merge, to, state)
 }
 
+#[tactic(auto, unfolding(crate::specs::Copies::extend_bits, list_pushes::specs::Pushes::on_read))]
 fn extend_bits(
     section: Section<'_>,
     actions: &mut [u64],
@@ -81,34 +64,13 @@ fn extend_bits(
 ) -> Result<(Value, State), Refusal>
     ensures { read (to_read result) actions.new temporaries.new ≡ extend_bits section.entry.stream.now section.entry.table.now actions.old temporaries.old env value tmp bits state }
 {
-    let (_, st1) = op_to(
-        section,
-        actions,
-        temporaries,
-        env,
-        operation::ZERO_EXTEND,
-        0,
-        1,
-        tmp,
-        value,
-        absent(),
-        state,
-    )?;
-    op_to(
-            section,
-            actions,
-            temporaries,
-            env,
-            operation::INT_AND,
-            0,
-            2,
-            tmp,
-            tmp,
-            constant(access::mask(bits)),
-            st1,
-        )
+    let extend = Operation::unary(operation::ZERO_EXTEND, value);
+    let (_, state) = op_to(section, actions, temporaries, env, extend, tmp, state)?;
+    let masked = Operation::binary(operation::INT_AND, tmp, constant(access::mask(bits)));
+    op_to(section, actions, temporaries, env, masked, tmp, state)
 }
 
+#[tactic(auto, unfolding(crate::specs::Copies::insert_in, list_pushes::specs::Pushes::on_read))]
 fn insert_in(
     section: Section<'_>,
     actions: &mut [u64],
@@ -124,29 +86,21 @@ fn insert_in(
 ) -> Result<(Value, State), Refusal>
     ensures { read (to_read result) actions.new temporaries.new ≡ insert_in section.entry.stream.now section.entry.table.now actions.old temporaries.old env value to prev tmp from bits state }
 {
-    let (_, st1) = extend_bits(
+    let (_, state) = extend_bits(section, actions, temporaries, env, value, tmp, bits, state)?;
+    merge_bits(
         section,
         actions,
         temporaries,
         env,
-        value,
+        to,
+        prev,
         tmp,
-        bits,
+        from,
         state,
-    )?;
-    merge_bits(
-            section,
-            actions,
-            temporaries,
-            env,
-            to,
-            prev,
-            tmp,
-            from,
-            st1,
-        )
+    )
 }
 
+#[tactic(auto, unfolding(crate::specs::Copies::insert_bits, list_pushes::specs::Pushes::on_tmp))]
 fn insert_bits(
     section: Section<'_>,
     actions: &mut [u64],
@@ -162,23 +116,24 @@ fn insert_bits(
     ensures { read (to_read result) actions.new temporaries.new ≡ insert_bits section.entry.stream.now section.entry.table.now actions.old temporaries.old env value to prev from bits state }
 {
     let size = size_of(section, temporaries, to);
-    let (tmp, st1) = add_tmp(temporaries, NONE, size, state)?;
+    let (tmp, state) = add_tmp(temporaries, NONE, size, state)?;
     insert_in(
-            section,
-            actions,
-            temporaries,
-            env,
-            value,
-            to,
-            prev,
-            tmp,
-            from,
-            bits,
-            st1,
-        )
+        section,
+        actions,
+        temporaries,
+        env,
+        value,
+        to,
+        prev,
+        tmp,
+        from,
+        bits,
+        state,
+    )
 }
 
 // The bits of the target that stay, in a temporary; then those of the value.
+#[tactic(auto, unfolding(crate::specs::Copies::keep_bits, list_pushes::specs::Pushes::on_read))]
 fn keep_bits(
     section: Section<'_>,
     actions: &mut [u64],
@@ -194,33 +149,23 @@ fn keep_bits(
     requires { from < 64 }
     ensures { read (to_read result) actions.new temporaries.new ≡ keep_bits section.entry.stream.now section.entry.table.now actions.old temporaries.old env value to prev from bits state }
 {
-    let (_, st1) = op_to(
+    let kept = Operation::binary(operation::INT_AND, to, constant(mask_but(from, bits)));
+    let (_, state) = op_to(section, actions, temporaries, env, kept, prev, state)?;
+    insert_bits(
         section,
         actions,
         temporaries,
         env,
-        operation::INT_AND,
-        0,
-        2,
-        prev,
+        value,
         to,
-        constant(mask_but(from, bits)),
+        prev,
+        from,
+        bits,
         state,
-    )?;
-    insert_bits(
-            section,
-            actions,
-            temporaries,
-            env,
-            value,
-            to,
-            prev,
-            from,
-            bits,
-            st1,
-        )
+    )
 }
 
+#[tactic(auto, unfolding(crate::specs::Copies::write_bits, list_pushes::specs::Pushes::on_tmp))]
 fn write_bits(
     section: Section<'_>,
     actions: &mut [u64],
@@ -238,21 +183,22 @@ fn write_bits(
         return Err(Refusal::ShiftTooFar);
     }
     let size = size_of(section, temporaries, to);
-    let (prev, st1) = add_tmp(temporaries, NONE, size, state)?;
+    let (prev, state) = add_tmp(temporaries, NONE, size, state)?;
     keep_bits(
-            section,
-            actions,
-            temporaries,
-            env,
-            value,
-            to,
-            prev,
-            from,
-            bits,
-            st1,
-        )
+        section,
+        actions,
+        temporaries,
+        env,
+        value,
+        to,
+        prev,
+        from,
+        bits,
+        state,
+    )
 }
 
+#[tactic(auto, unfolding(crate::specs::Copies::copy_bits, list_pushes::specs::Pushes::on_read))]
 fn copy_bits(
     section: Section<'_>,
     actions: &mut [u64],
@@ -266,20 +212,22 @@ fn copy_bits(
 ) -> Result<(Value, State), Refusal>
     ensures { read (to_read result) actions.new temporaries.new ≡ copy_bits section.entry.stream.now section.entry.table.now actions.old temporaries.old env expr to from bits state }
 {
-    let (v, st1) = read_operand(section, actions, temporaries, env, expr, state)?;
+    let (value, state) = read_operand(section, actions, temporaries, env, expr, state)?;
     write_bits(
-            section,
-            actions,
-            temporaries,
-            env,
-            v,
-            to,
-            from,
-            bits,
-            st1,
-        )
+        section,
+        actions,
+        temporaries,
+        env,
+        value,
+        to,
+        from,
+        bits,
+        state,
+    )
 }
 
+// A range of whole bytes is a slice of the target.
+#[tactic(auto, unfolding(crate::specs::Copies::copy_bytes, crate::specs::Copies::read_sliced))]
 fn copy_bytes(
     section: Section<'_>,
     actions: &mut [u64],
@@ -293,19 +241,11 @@ fn copy_bytes(
 ) -> Result<(Value, State), Refusal>
     ensures { read (to_read result) actions.new temporaries.new ≡ copy_bytes section.entry.stream.now section.entry.table.now actions.old temporaries.old env expr to from bits state }
 {
-    let (v, st1) = sliced(to, from / 8, bits / 8, state)?;
-    read_value(
-            section,
-            actions,
-            temporaries,
-            env,
-            expr,
-            true,
-            v,
-            st1,
-        )
+    let (slice, state) = sliced(to, from / 8, bits / 8, state)?;
+    read_value(section, actions, temporaries, env, expr, Some(slice), state)
 }
 
+#[tactic(auto, unfolding(crate::specs::Copies::copy_range))]
 fn copy_range(
     section: Section<'_>,
     actions: &mut [u64],
@@ -345,6 +285,7 @@ fn copy_range(
     )
 }
 
+#[tactic(auto, unfolding(crate::specs::Copies::copy_ram, list_pushes::specs::Pushes::on_read))]
 fn copy_ram(
     section: Section<'_>,
     actions: &mut [u64],
@@ -356,24 +297,25 @@ fn copy_ram(
     next: usize,
     state: State,
     walk: Walk,
-) -> Step
-    ensures { stepped result actions.new temporaries.new ≡ copy_ram section.entry.stream.now section.entry.table.now actions.old temporaries.old env expr pointer size next state walk }
+) -> Result<(usize, Walk), Refusal>
+    ensures { stepped (to_step walk result) actions.new temporaries.new ≡ copy_ram section.entry.stream.now section.entry.table.now actions.old temporaries.old env expr pointer size next state (to_walk walk) }
 {
-    let (v, st1) = read_operand(section, actions, temporaries, env, expr, state)?;
+    let (value, state) = read_operand(section, actions, temporaries, env, expr, state)?;
     store(
-            section,
-            actions,
-            temporaries,
-            env,
-            pointer,
-            size,
-            v,
-            next,
-            st1,
-            walk,
-        )
+        section,
+        actions,
+        temporaries,
+        env,
+        pointer,
+        size,
+        value,
+        next,
+        state,
+        walk,
+    )
 }
 
+#[tactic(auto, unfolding(crate::specs::Copies::copy_into, stmt_walk::specs::Walks::step_read, stmt_walk::specs::Walks::read_then))]
 fn copy_into(
     section: Section<'_>,
     actions: &mut [u64],
@@ -384,24 +326,14 @@ fn copy_into(
     next: usize,
     state: State,
     walk: Walk,
-) -> Step
-    ensures { stepped result actions.new temporaries.new ≡ copy_into section.entry.stream.now section.entry.table.now actions.old temporaries.old env source target next state walk }
+) -> Result<(usize, Walk), Refusal>
+    ensures { stepped (to_step walk result) actions.new temporaries.new ≡ copy_into section.entry.stream.now section.entry.table.now actions.old temporaries.old env source target next state (to_walk walk) }
 {
     match target {
-        ExprValue::Local(v) => read_then(
-            read_value(
-                section,
-                actions,
-                temporaries,
-                env,
-                source,
-                true,
-                v,
-                state,
-            ),
-            next,
-            walk,
-        ),
+        ExprValue::Local(v) => {
+            let (_, st) = read_value(section, actions, temporaries, env, source, Some(v), state)?;
+            Ok((next, Walk { st, ..walk }))
+        }
         ExprValue::RamRef { pointer, size } => copy_ram(
             section,
             actions,
@@ -414,8 +346,8 @@ fn copy_into(
             state,
             walk,
         ),
-        ExprValue::BitRange { v, from, bits } => read_then(
-            copy_range(
+        ExprValue::BitRange { v, from, bits } => {
+            let (_, st) = copy_range(
                 section,
                 actions,
                 temporaries,
@@ -425,48 +357,55 @@ fn copy_into(
                 from,
                 bits,
                 state,
-            ),
-            next,
-            walk,
-        ),
-        _ => stop(walk, Refusal::NotAssignable),
+            )?;
+            Ok((next, Walk { st, ..walk }))
+        }
+        ExprValue::Unbound(_)
+        | ExprValue::Const { .. }
+        | ExprValue::Apply { .. }
+        | ExprValue::RegisterRef { .. }
+        | ExprValue::AddressOf { .. } => Err(Refusal::NotAssignable),
     }
 }
 
-// The name of a target, bare or truncated, or 65,535.
+// The name of a target, bare or truncated.
+#[tactic(auto, unfolding(crate::specs::Copies::target_name))]
 fn target_name(stream: &[u8], pos: usize) -> u64
     ensures { result ≡ target_name stream.now pos }
 {
     let code = access::byte(stream, pos, 0);
-    if code == codes::expression::IDENT {
+    if code == expression::IDENT {
         return u16_in(stream, pos, 1);
     }
-    if code == codes::expression::TRUNCATE {
-        if access::byte(stream, pos, 1) == codes::expression::IDENT {
+    if code == expression::TRUNCATE {
+        if access::byte(stream, pos, 1) == expression::IDENT {
             return u16_in(stream, pos, 2);
         }
     }
     NONE
 }
 
+#[tactic(auto, unfolding(crate::specs::Copies::target_size))]
 fn target_size(stream: &[u8], pos: usize) -> u64
     ensures { result ≡ target_size stream.now pos }
 {
-    if access::byte(stream, pos, 0) == codes::expression::IDENT {
+    if access::byte(stream, pos, 0) == expression::IDENT {
         return NONE;
     }
     u16_in(stream, pos, 4)
 }
 
+#[tactic(auto, unfolding(crate::specs::Copies::after_target))]
 fn after_target(stream: &[u8], pos: usize) -> usize
     ensures { result ≡ after_target stream.now pos }
 {
-    if access::byte(stream, pos, 0) == codes::expression::IDENT {
+    if access::byte(stream, pos, 0) == expression::IDENT {
         return after(pos, 3);
     }
     after(pos, 6)
 }
 
+#[tactic(auto, unfolding(crate::specs::Copies::new_target, list_pushes::specs::Pushes::on_read))]
 fn new_target(
     section: Section<'_>,
     scope: &mut [u64],
@@ -475,53 +414,34 @@ fn new_target(
     pos: usize,
     name: u64,
     state: State,
-) -> Result<(usize, ExprValue, State), Refusal>
+) -> Result<Resolved, Refusal>
     ensures { resolved (to_expr result) scope.new temporaries.new ≡ new_target section.entry.stream.now section.entry.table.now scope.old temporaries.old env pos name state }
 {
     let size = target_size(section.stream, pos);
     let next = after_target(section.stream, pos);
-    let (v, st1) = named_tmp(section.table, scope, temporaries, env, name, size, state)?;
-    Ok((next, ExprValue::Local(v), st1))
+    let (tmp, state) = named_tmp(section.table, scope, temporaries, env, name, size, state)?;
+    Ok(Resolved {
+        next,
+        value: ExprValue::Local(tmp),
+        state,
+    })
 }
 
-fn is_wrong(answer: Meaning) -> bool
-    ensures { result ≡ is_wrong answer }
-{
-    match answer {
-        Err(_) => true,
-        Ok(_) => false,
-    }
-}
-
+#[tactic(auto, unfolding(crate::specs::Copies::is_new, crate::specs::Copies::is_wrong))]
 fn is_new(section: Section<'_>, scope: &[u64], env: Env, name: u64) -> bool
     ensures { result ≡ is_new section.entry.stream.now section.entry.table.now scope.now env name }
 {
     if name == NONE {
         return false;
     }
-    is_wrong(resolve_ident(section, scope, env, name))
-}
-
-// A bare name as target: its number as a plain local, 1 where it means nothing or a wrong thing, else 0.
-fn plain_target(
-    section: Section<'_>,
-    scope: &[u64],
-    env: Env,
-    pos: usize,
-    name: u64,
-) -> u64
-    ensures { result ≡ plain_target section.entry.stream.now section.entry.table.now scope.now env pos name }
-{
-    if access::byte(section.stream, pos, 0) != codes::expression::IDENT {
-        return 0;
+    match resolve_ident(section, scope, env, name) {
+        Ok(_) => false,
+        Err(_) => true,
     }
-    if name == NONE {
-        return 0;
-    }
-    plain_local(section, scope, env, name)
 }
 
 // An unknown or disallowed name as target becomes a temporary.
+#[tactic(auto, unfolding(crate::specs::Copies::resolve_dst, crate::specs::Copies::beside_a, crate::specs::Copies::in_scope))]
 fn resolve_dst(
     section: Section<'_>,
     scope: &mut [u64],
@@ -530,32 +450,17 @@ fn resolve_dst(
     env: Env,
     pos: usize,
     state: State,
-) -> Result<(usize, ExprValue, State), Refusal>
+) -> Result<Resolved, Refusal>
     ensures { targeted (to_expr result) scope.new actions.new temporaries.new ≡ resolve_dst section.entry.stream.now section.entry.table.now scope.old actions.old temporaries.old env pos state }
 {
     let name = target_name(section.stream, pos);
-    let q = plain_target(section, scope, env, pos, name);
-    if 8 <= q {
-        return Ok((after(pos, 3), ExprValue::Local(local(q % 8, q / 8 - 1)), state));
-    }
-    if q == 1 {
-        return new_target(section, scope, temporaries, env, pos, name, state);
-    }
     if is_new(section, scope, env, name) {
         return new_target(section, scope, temporaries, env, pos, name, state);
     }
-    resolve_expr(
-        DEPTH,
-        section,
-        scope,
-        pos,
-        env,
-        actions,
-        temporaries,
-        state,
-    )
+    resolve_expr(DEPTH, section, scope, pos, env, actions, temporaries, state)
 }
 
+#[tactic(auto, unfolding(crate::specs::Copies::copy_target, crate::specs::Copies::on_target, stmt_walk::specs::Walks::beside_p))]
 fn copy_target(
     section: Section<'_>,
     scope: &mut [u64],
@@ -566,23 +471,24 @@ fn copy_target(
     pos: usize,
     state: State,
     walk: Walk,
-) -> Step
-    ensures { walked result scope.new actions.new temporaries.new ≡ copy_target section.entry.stream.now section.entry.table.now scope.old actions.old temporaries.old env expr pos state walk }
+) -> Result<(usize, Walk), Refusal>
+    ensures { walked (to_step walk result) scope.new actions.new temporaries.new ≡ copy_target section.entry.stream.now section.entry.table.now scope.old actions.old temporaries.old env expr pos state (to_walk walk) }
 {
-    let (next, d, st1) = resolve_dst(section, scope, actions, temporaries, env, pos, state)?;
+    let target = resolve_dst(section, scope, actions, temporaries, env, pos, state)?;
     copy_into(
-            section,
-            actions,
-            temporaries,
-            env,
-            expr,
-            d,
-            next,
-            st1,
-            walk,
-        )
+        section,
+        actions,
+        temporaries,
+        env,
+        expr,
+        target.value,
+        target.next,
+        target.state,
+        walk,
+    )
 }
 
+#[tactic(auto, unfolding(crate::specs::Copies::copy_statement, expr_terms::specs::Answers::on_expr))]
 pub fn copy_statement(
     section: Section<'_>,
     scope: &mut [u64],
@@ -591,28 +497,29 @@ pub fn copy_statement(
     env: Env,
     pos: usize,
     walk: Walk,
-) -> Step
-    ensures { walked result scope.new actions.new temporaries.new ≡ copy_statement section.entry.stream.now section.entry.table.now scope.old actions.old temporaries.old env pos walk }
+) -> Result<(usize, Walk), Refusal>
+    ensures { walked (to_step walk result) scope.new actions.new temporaries.new ≡ copy_statement section.entry.stream.now section.entry.table.now scope.old actions.old temporaries.old env pos (to_walk walk) }
 {
-    let (next, x, st) = resolve_expr(
+    let at = after(pos, 1);
+    let source = resolve_expr(
         DEPTH,
         section,
         scope,
-        after(pos, 1),
+        at,
         env,
         actions,
         temporaries,
         walk.st,
     )?;
     copy_target(
-            section,
-            scope,
-            actions,
-            temporaries,
-            env,
-            x,
-            next,
-            st,
-            walk,
-        )
+        section,
+        scope,
+        actions,
+        temporaries,
+        env,
+        source.value,
+        source.next,
+        source.state,
+        walk,
+    )
 }

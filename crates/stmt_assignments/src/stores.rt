@@ -1,19 +1,23 @@
 // Stores: the value is read before the pointer.
 ghost use Rattle.std.specs.Prelude.{◌≡◌};
+ghost use Rattle.stmt_walk.specs.Outcomes.{to_walk, to_step};
 ghost use Rattle.stmt_walk.specs.Walks.{stepped};
 ghost use Rattle.stmt_assignments.specs.Stores.{store, store_register, store_at, store_in, store_pointer, store_statement};
 
 use access::u16_in;
-use codes::{action_kind, operation, refusal, table};
+use codes::refusal::Refusal;
+use codes::{action_kind, operation};
 use expr_reading::read::{set_stated, take_stated};
 use expr_resolver::expr::{DEPTH, expr_value, resolve_expr, skip_expr};
 use expr_scope::scope::ExprValue;
 use expr_terms::address::resolve_address;
-use expr_terms::answers::{Expr, Operand, after};
-use list_pushes::push::{Env, State, push, push_op};
+use expr_terms::answers::after;
+use list_pushes::push::{Env, Operation, State, push, push_op};
+use list_values::section::Section;
 use list_values::value::{Value, absent, no_output};
-use stmt_walk::walk::{Step, Walk, pushed_then, stop};
+use stmt_walk::walk::Walk;
 
+#[tactic(auto, unfolding(crate::specs::Stores::store, crate::specs::Stores::store_stated, stmt_walk::specs::Walks::step_pushed, stmt_walk::specs::Walks::pushed_then))]
 pub fn store(
     section: Section<'_>,
     actions: &mut [u64],
@@ -25,29 +29,24 @@ pub fn store(
     next: usize,
     state: State,
     walk: Walk,
-) -> Step
-    ensures { stepped result actions.new temporaries.new ≡ store section.entry.stream.now section.entry.table.now actions.old temporaries.old env pointer size value next state walk }
+) -> Result<(usize, Walk), Refusal>
+    ensures { stepped (to_step walk result) actions.new temporaries.new ≡ store section.entry.stream.now section.entry.table.now actions.old temporaries.old env pointer size value next state (to_walk walk) }
 {
-    let x = take_stated(section, temporaries, value, size, state);
-    pushed_then(
-        push_op(
-            section,
-            actions,
-            temporaries,
-            env,
-            operation::STORE,
-            0,
-            2,
-            no_output(),
-            pointer,
-            x.v,
-            x.st,
-        ),
-        next,
-        walk,
-    )
+    let stated = take_stated(section, temporaries, value, size, state);
+    let store = Operation::binary(operation::STORE, pointer, stated.v);
+    let st = push_op(
+        section,
+        actions,
+        temporaries,
+        env,
+        store,
+        no_output(),
+        stated.st,
+    )?;
+    Ok((next, Walk { st, ..walk }))
 }
 
+#[tactic(auto, unfolding(crate::specs::Stores::store_register, crate::specs::Stores::register_stated, list_values::specs::Base::then_l, stmt_walk::specs::Walks::pushed_then))]
 fn store_register(
     section: Section<'_>,
     actions: &mut [u64],
@@ -58,27 +57,25 @@ fn store_register(
     next: usize,
     state: State,
     walk: Walk,
-) -> Step
-    ensures { stepped result actions.new temporaries.new ≡ store_register section.entry.stream.now section.entry.table.now actions.old temporaries.old pointer size value next state walk }
+) -> Result<(usize, Walk), Refusal>
+    ensures { stepped (to_step walk result) actions.new temporaries.new ≡ store_register section.entry.stream.now section.entry.table.now actions.old temporaries.old pointer size value next state (to_walk walk) }
 {
-    let x = set_stated(section, temporaries, value, size, state);
-    pushed_then(
-        push(
-            actions,
-            action_kind::STORE_REGISTER,
-            0,
-            size,
-            2,
-            absent(),
-            pointer,
-            x.v,
-            x.st,
-        ),
-        next,
-        walk,
-    )
+    let stated = set_stated(section, temporaries, value, size, state);
+    let store = Operation {
+        number: size,
+        ..Operation::binary(0, pointer, stated.v)
+    };
+    let st = push(
+        actions,
+        action_kind::STORE_REGISTER,
+        store,
+        absent(),
+        stated.st,
+    )?;
+    Ok((next, Walk { st, ..walk }))
 }
 
+#[tactic(auto, unfolding(crate::specs::Stores::store_at))]
 fn store_at(
     section: Section<'_>,
     actions: &mut [u64],
@@ -89,8 +86,8 @@ fn store_at(
     next: usize,
     state: State,
     walk: Walk,
-) -> Step
-    ensures { stepped result actions.new temporaries.new ≡ store_at section.entry.stream.now section.entry.table.now actions.old temporaries.old env expr value next state walk }
+) -> Result<(usize, Walk), Refusal>
+    ensures { stepped (to_step walk result) actions.new temporaries.new ≡ store_at section.entry.stream.now section.entry.table.now actions.old temporaries.old env expr value next state (to_walk walk) }
 {
     match expr {
         ExprValue::RamRef { pointer, size } => store(
@@ -116,10 +113,17 @@ fn store_at(
             state,
             walk,
         ),
-        _ => stop(walk, Refusal::StoreToNoAddress),
+        ExprValue::Local(_)
+        | ExprValue::Unbound(_)
+        | ExprValue::Const { .. }
+        | ExprValue::Apply { .. }
+        | ExprValue::AddressOf { .. }
+        | ExprValue::BitRange { .. } => Err(Refusal::StoreToNoAddress),
     }
 }
 
+// In the space and of the size that stand at a position.
+#[tactic(auto, unfolding(crate::specs::Stores::store_in, expr_terms::specs::Answers::on_expr))]
 fn store_in(
     section: Section<'_>,
     actions: &mut [u64],
@@ -131,12 +135,12 @@ fn store_in(
     end: usize,
     state: State,
     walk: Walk,
-) -> Step
-    ensures { stepped result actions.new temporaries.new ≡ store_in section.entry.stream.now section.entry.table.now actions.old temporaries.old env pos expr value end state walk }
+) -> Result<(usize, Walk), Refusal>
+    ensures { stepped (to_step walk result) actions.new temporaries.new ≡ store_in section.entry.stream.now section.entry.table.now actions.old temporaries.old env pos expr value end state (to_walk walk) }
 {
     let space = u16_in(section.stream, pos, 1);
     let size = u16_in(section.stream, pos, 3);
-    let (next, to, st1) = resolve_address(
+    let to = resolve_address(
         section,
         actions,
         temporaries,
@@ -148,18 +152,19 @@ fn store_in(
         state,
     )?;
     store_at(
-            section,
-            actions,
-            temporaries,
-            env,
-            to,
-            value,
-            next,
-            st1,
-            walk,
-        )
+        section,
+        actions,
+        temporaries,
+        env,
+        to.value,
+        value,
+        to.next,
+        to.state,
+        walk,
+    )
 }
 
+#[tactic(auto, unfolding(crate::specs::Stores::store_pointer, expr_terms::specs::Answers::on_expr))]
 fn store_pointer(
     section: Section<'_>,
     scope: &[u64],
@@ -171,33 +176,27 @@ fn store_pointer(
     end: usize,
     state: State,
     walk: Walk,
-) -> Step
-    ensures { stepped result actions.new temporaries.new ≡ store_pointer section.entry.stream.now section.entry.table.now scope.now actions.old temporaries.old env pos value end state walk }
+) -> Result<(usize, Walk), Refusal>
+    ensures { stepped (to_step walk result) actions.new temporaries.new ≡ store_pointer section.entry.stream.now section.entry.table.now scope.now actions.old temporaries.old env pos value end state (to_walk walk) }
 {
-    let (_, x, st1) = resolve_expr(
-        DEPTH,
+    let at = after(pos, 5);
+    let pointer = resolve_expr(DEPTH, section, scope, at, env, actions, temporaries, state)?;
+    store_in(
         section,
-        scope,
-        after(pos, 5),
-        env,
         actions,
         temporaries,
-        state,
-    )?;
-    store_in(
-            section,
-            actions,
-            temporaries,
-            env,
-            pos,
-            x,
-            value,
-            end,
-            st1,
-            walk,
-        )
+        env,
+        pos,
+        pointer.value,
+        value,
+        end,
+        pointer.state,
+        walk,
+    )
 }
 
+// The value stands behind the pointer.
+#[tactic(auto, unfolding(crate::specs::Stores::store_statement, expr_terms::specs::Answers::on_operand))]
 pub fn store_statement(
     section: Section<'_>,
     scope: &[u64],
@@ -206,12 +205,12 @@ pub fn store_statement(
     env: Env,
     pos: usize,
     walk: Walk,
-) -> Step
-    ensures { stepped result actions.new temporaries.new ≡ store_statement section.entry.stream.now section.entry.table.now scope.now actions.old temporaries.old env pos walk }
+) -> Result<(usize, Walk), Refusal>
+    ensures { stepped (to_step walk result) actions.new temporaries.new ≡ store_statement section.entry.stream.now section.entry.table.now scope.now actions.old temporaries.old env pos (to_walk walk) }
 {
     let pointer = after(pos, 5);
     let value_at = skip_expr(section.stream, pointer);
-    let (v, next, st) = expr_value(
+    let stored = expr_value(
         DEPTH,
         section,
         scope,
@@ -222,15 +221,15 @@ pub fn store_statement(
         walk.st,
     )?;
     store_pointer(
-            section,
-            scope,
-            actions,
-            temporaries,
-            env,
-            pos,
-            v,
-            next,
-            st,
-            walk,
-        )
+        section,
+        scope,
+        actions,
+        temporaries,
+        env,
+        pos,
+        stored.value,
+        stored.next,
+        stored.state,
+        walk,
+    )
 }

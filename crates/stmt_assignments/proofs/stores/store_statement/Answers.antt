@@ -1,9 +1,0 @@
-use Rattle.std.proofs.Common.{rules}
-use Rattle.stmt_assignments.proofs.StoreLaws.{store_laws}
-use Rattle.stmt_assignments.proofs.stores.store_statement.Goals as goal
-
-pub returns-in-No : goal.returns-in-No
-returns-in-No c = search (store_laws, rules)
-
-pub returns-in-Value : goal.returns-in-Value
-returns-in-Value c = search (store_laws, rules)
