@@ -257,7 +257,7 @@ module _ (t sub : ℕ) where
     back : (kind : ActionKind) (output : Option Value) → option_fits (value_fits t sub) output ≡ true → Shaped (made kind output)
         → action_from (action_words (made kind output)) ≡ some (made kind output)
     unfolding option_fits action_from action_words filled action_kind_number operation_word operation_of output_words value_words
-        action_kind_numbered or_else and_then output_from shape_of counts_fit is_some when◌then◌else◌
+        action_kind_numbered or_else and_then output_from shape_of counts_fit is_some
     back (ActionKind.Op op) (some v) o s =
         let f = fits_parts {t = t} {sub = sub} {v = v} o in
         rw (

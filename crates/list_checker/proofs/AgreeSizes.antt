@@ -89,7 +89,7 @@ sized_value n x = go (eqb (x / 16777216) 65535)
 pub inputs-sized : (n : ℕ) (r : List ℕ) → all is_sized (inputs_of n r) ≡ inputs_sized n r
 unfolding all inputs_of inputs_sized
 inputs-sized zero r = refl
-inputs-sized (suc n) r = rw (sized_value (get_or r 0 0) (get_or r 1 0), inputs-sized n (drop 2 r)) (if_and _ _)
+inputs-sized (suc n) r = rw (sized_value (get_or r 0 0) (get_or r 1 0), inputs-sized n (drop 2 r)) (if_and (not (eqb (get_or r 1 0 / 16777216) 65535)) (inputs_sized n (drop 2 r)))
 
 pub output-sized : (b : Bool) (n x : ℕ) → option_fits is_sized (output_of b n x) ≡ output_sized b x
 unfolding option_fits output_of output_sized
