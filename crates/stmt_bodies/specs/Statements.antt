@@ -10,7 +10,7 @@ use Rattle.prelude.specs.Base.{when◌then◌else◌}
 use Rattle.expr_terms.specs.Answers.{on_args, after}
 use Rattle.stmt_walk.specs.Outcomes.{Walk}
 use Rattle.stmt_walk.specs.Outcomes.{Step}
-use Rattle.stmt_simple.specs.declared.calls.Called.{Called}
+use Rattle.stmt_simple.specs.Outcomes.{Called}
 use Rattle.stmt_walk.specs.Walks.{Stepped, stepped, Walked, walked, beside_p, without_p, on_step, with_state, stop}
 use Rattle.stmt_branches.specs.Branches.{branch, cond_branch, label_statement}
 use Rattle.stmt_simple.specs.Simple.{unimplemented, export_statement, local_statement, local_assignment, build}

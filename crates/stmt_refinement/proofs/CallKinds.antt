@@ -32,7 +32,7 @@ use Rattle.expr_terms.specs.Calls.{only_integer}
 use Rattle.stmt_walk.specs.Outcomes.{Walk}
 use Rattle.stmt_walk.specs.Outcomes.{Step}
 use Rattle.stmt_walk.specs.Walks.{Stepped, stepped, beside_p, stop, pushed_then}
-use Rattle.stmt_simple.specs.declared.calls.Called.{Called}
+use Rattle.stmt_simple.specs.Outcomes.{Called}
 use Rattle.stmt_simple.specs.Calls.{symbol_called, called_of, delay_slot, user_op_statement}
 use Rattle.stmt_bodies.specs.Statements.{Enter, call_named, call_statement}
 use Rattle.expr_refinement.proofs.Encodings.{stood_more}

@@ -35,7 +35,7 @@ use Rattle.expr_scope.specs.declared.args.Args.{Args as WordArgs}
 use Rattle.expr_terms.specs.Answers.{ArgsOut, passed, on_args, after}
 use Rattle.expr_resolver.specs.Expressions.{resolve_args, resolve_expr}
 use Rattle.stmt_walk.specs.Outcomes.{Walk}
-use Rattle.stmt_simple.specs.declared.calls.Called.{Called}
+use Rattle.stmt_simple.specs.Outcomes.{Called}
 use Rattle.stmt_walk.specs.Walks.{Stepped, stepped, beside_p, without_p, stop}
 use Rattle.stmt_simple.specs.Calls.{symbol_called, called_of, macro_at, bind_names, counted, macro_counted, macro_args}
 use Rattle.stmt_bodies.specs.Statements.{enter_macro, macro_statement, call_named, call_statement}

@@ -20,7 +20,7 @@ use Rattle.expr_terms.specs.Calls.{only_integer}
 use Rattle.expr_resolver.specs.Expressions.{resolve_args, resolve_expr}
 use Rattle.stmt_walk.specs.Outcomes.{Walk}
 use Rattle.stmt_walk.specs.Outcomes.{Step}
-use Rattle.stmt_simple.specs.declared.calls.Called.{Called}
+use Rattle.stmt_simple.specs.Outcomes.{Called}
 use Rattle.stmt_walk.specs.Walks.{Stepped, stepped, stop, pushed_then}
 
 -- of a global: a user op, a macro, or none of these

@@ -1,73 +1,87 @@
 // Calls that enter no macro: the delay slot and user ops; and what a macro call is given.
 ghost use Rattle.std.specs.Prelude.{◌≡◌};
 ghost use Rattle.list_values.specs.Base.{listed};
+ghost use Rattle.list_pushes.specs.Outcomes.{to_pushed};
+ghost use Rattle.expr_scope.specs.Outcomes.{to_args};
 ghost use Rattle.expr_terms.specs.Answers.{passed};
+ghost use Rattle.stmt_walk.specs.Outcomes.{to_walk, to_step};
 ghost use Rattle.stmt_walk.specs.Walks.{stepped};
+ghost use Rattle.stmt_simple.specs.Outcomes.{to_called};
 ghost use Rattle.stmt_simple.specs.Calls.{symbol_called, called_of, delay_slot, args_read, read_args, write_inputs, push_user_op, user_op_args, user_op_statement, macro_at, bind_names, counted, macro_args};
 
 use access::u16_in;
-use codes::{action, action_kind, header, operation, refusal, table};
+use codes::refusal::Refusal;
+use codes::{action, action_kind, header, operation, table};
 use expr_reading::read::read_operand;
 use expr_resolver::expr::{DEPTH, resolve_args};
-use expr_scope::args::{Args, arg_at};
+use expr_scope::args::arg_at;
 use expr_scope::scope::{SLOT_A, SLOT_NAME, param_place};
 use expr_scope::symbols::{Symbol, lookup};
 use expr_terms::answers::after;
 use expr_terms::calls::only_integer;
-use list_pushes::push::{Env, Pushed, Read, State, push};
+use list_pushes::push::{Env, Operation, State, push};
+use list_values::section::Section;
 use list_values::value::{absent, no_output, put, put_value, value_at};
-use stmt_walk::walk::{Step, Walk, pushed_then, stop};
+use stmt_walk::walk::Walk;
 
-// What a call statement calls: the delay slot, a user op or a macro by its number, or what is refused.
+// What a call statement calls: the delay slot, or a user op or a macro by its number.
 #[derive(Clone, Copy)]
 pub enum Called {
     DelaySlot,
     UserOp(u64),
     Macro(u64),
-    No(u64),
 }
 
-fn symbol_called(symbol: Symbol) -> Called
-    ensures { result ≡ symbol_called symbol }
+#[tactic(auto, unfolding(crate::specs::Calls::symbol_called))]
+fn symbol_called(symbol: Symbol) -> Result<Called, Refusal>
+    ensures { to_called result ≡ symbol_called symbol }
 {
     match symbol {
-        Symbol::Undefined => Called::No(Refusal::Undefined),
-        Symbol::UserOp(id) => Called::UserOp(id),
-        Symbol::Macro(id) => Called::Macro(id),
-        _ => Called::No(Refusal::WrongKind),
+        Symbol::Undefined => Err(Refusal::Undefined),
+        Symbol::UserOp(id) => Ok(Called::UserOp(id)),
+        Symbol::Macro(id) => Ok(Called::Macro(id)),
+        Symbol::Space(_)
+        | Symbol::Register(_)
+        | Symbol::BitRange(_)
+        | Symbol::Table(_)
+        | Symbol::Other(_) => Err(Refusal::WrongKind),
     }
 }
 
-pub fn called_of(section: Section<'_>, name: u64) -> Called
-    ensures { result ≡ called_of section.entry.stream.now section.entry.table.now name }
+#[tactic(auto, unfolding(crate::specs::Calls::called_of))]
+pub fn called_of(section: Section<'_>, name: u64) -> Result<Called, Refusal>
+    ensures { to_called result ≡ called_of section.entry.stream.now section.entry.table.now name }
 {
     if name == access::u16_at(section.stream, header::DELAY_SLOT) {
-        return Called::DelaySlot;
+        return Ok(Called::DelaySlot);
     }
     symbol_called(lookup(section.table, name))
 }
 
-pub fn delay_slot(stream: &[u8], actions: &mut [u64], pos: usize, count: u64, walk: Walk) -> Step
-    ensures { listed result actions.new ≡ delay_slot stream.now actions.old pos count walk }
+#[tactic(auto, unfolding(crate::specs::Calls::delay_slot, list_values::specs::Base::then_l, stmt_walk::specs::Walks::pushed_then))]
+pub fn delay_slot(
+    stream: &[u8],
+    actions: &mut [u64],
+    pos: usize,
+    count: u64,
+    walk: Walk,
+) -> Result<(usize, Walk), Refusal>
+    ensures { listed (to_step walk result) actions.new ≡ delay_slot stream.now actions.old pos count (to_walk walk) }
 {
-    if only_integer(stream, pos, count) == 1 {
-        return pushed_then(
-            push(
-                actions,
-                action_kind::DELAY_SLOT,
-                0,
-                0,
-                0,
-                absent(),
-                absent(),
-                absent(),
-                walk.st,
-            ),
-            after(pos, 13),
-            walk,
-        );
+    match only_integer(stream, pos, count) {
+        Some(1) => {
+            let slot = Operation {
+                code: 0,
+                number: 0,
+                count: 0,
+                first: absent(),
+                second: absent(),
+            };
+            let st = push(actions, action_kind::DELAY_SLOT, slot, absent(), walk.st)?;
+            Ok((after(pos, 13), Walk { st, ..walk }))
+        }
+        _ => Err(Refusal::DelaySlotArgument),
     }
-    stop(walk, Refusal::DelaySlotArgument)
 }
 
 // Reads n arguments in place: each slot's value becomes an operand.
@@ -84,16 +98,10 @@ fn read_args(
 {
     let mut state = state;
     for i in 0..count {
-        let (v, st1) = read_operand(
-            section,
-            actions,
-            temporaries,
-            env,
-            arg_at(args, i),
-            state,
-        )?;
-    put_value(args, param_place(i as usize), SLOT_A, v);
-                state = st1;
+        let arg = arg_at(args, i);
+        let (value, next) = read_operand(section, actions, temporaries, env, arg, state)?;
+        put_value(args, param_place(i as usize), SLOT_A, value);
+        state = next;
     }
     Ok(state)
 }
@@ -108,24 +116,29 @@ fn write_inputs(actions: &mut [u64], at: usize, args: &[u64], count: u64)
     }
 }
 
-fn push_user_op(actions: &mut [u64], args: &[u64], id: u64, count: u64, state: State) -> Result<State, Refusal>
+#[tactic(auto, unfolding(crate::specs::Calls::push_user_op, list_pushes::specs::Pushes::on_push))]
+fn push_user_op(
+    actions: &mut [u64],
+    args: &[u64],
+    id: u64,
+    count: u64,
+    state: State,
+) -> Result<State, Refusal>
     ensures { listed (to_pushed result) actions.new ≡ push_user_op actions.old args.now id count state }
 {
-    let st1 = push(
-        actions,
-        action_kind::OP,
-        operation::PCODE_OP,
-        id,
+    let operation = Operation {
+        code: operation::PCODE_OP,
+        number: id,
         count,
-        no_output(),
-        absent(),
-        absent(),
-        state,
-    )?;
+        first: absent(),
+        second: absent(),
+    };
+    let next = push(actions, action_kind::OP, operation, no_output(), state)?;
     write_inputs(actions, state.end, args, count);
-            Ok(st1)
+    Ok(next)
 }
 
+#[tactic(auto, unfolding(crate::specs::Calls::user_op_args, crate::specs::Calls::user_op_read, list_values::specs::Base::then_l))]
 fn user_op_args(
     section: Section<'_>,
     actions: &mut [u64],
@@ -138,10 +151,11 @@ fn user_op_args(
 ) -> Result<State, Refusal>
     ensures { args_read (to_pushed result) actions.new temporaries.new args.new ≡ user_op_args section.entry.stream.now section.entry.table.now actions.old temporaries.old args.old id count env state }
 {
-    let st1 = read_args(section, actions, temporaries, args, count, env, state)?;
-    push_user_op(actions, args, id, count, st1)
+    let next = read_args(section, actions, temporaries, args, count, env, state)?;
+    push_user_op(actions, args, id, count, next)
 }
 
+#[tactic(auto, unfolding(crate::specs::Calls::user_op_statement, crate::specs::Calls::step_args, expr_terms::specs::Answers::on_args, stmt_walk::specs::Walks::pushed_then))]
 pub fn user_op_statement(
     section: Section<'_>,
     scope: &[u64],
@@ -152,11 +166,11 @@ pub fn user_op_statement(
     id: u64,
     count: u64,
     walk: Walk,
-) -> Step
-    ensures { stepped result actions.new temporaries.new ≡ user_op_statement section.entry.stream.now section.entry.table.now scope.now actions.old temporaries.old env pos id count walk }
+) -> Result<(usize, Walk), Refusal>
+    ensures { stepped (to_step walk result) actions.new temporaries.new ≡ user_op_statement section.entry.stream.now section.entry.table.now scope.now actions.old temporaries.old env pos id count (to_walk walk) }
 {
     let mut args = [0u64; 64];
-    let (next, st) = resolve_args(
+    let (next, state) = resolve_args(
         DEPTH,
         section,
         scope,
@@ -168,23 +182,21 @@ pub fn user_op_statement(
         &mut args,
         walk.st,
     )?;
-    pushed_then(
-            user_op_args(
-                section,
-                actions,
-                temporaries,
-                &mut args,
-                id,
-                count,
-                env,
-                st,
-            ),
-            next,
-            walk,
-        )
+    let st = user_op_args(
+        section,
+        actions,
+        temporaries,
+        &mut args,
+        id,
+        count,
+        env,
+        state,
+    )?;
+    Ok((next, Walk { st, ..walk }))
 }
 
 // Where macro number `id` stands.
+#[tactic(auto, unfolding(crate::specs::Calls::macro_at))]
 pub fn macro_at(table: &[u16; table::LENGTH], id: u64) -> usize
     ensures { result ≡ macro_at table.now id }
 {
@@ -202,6 +214,7 @@ fn bind_names(stream: &[u8], args: &mut [u64], names: usize, count: usize)
 }
 
 // As many arguments as the macro has parameters.
+#[tactic(auto, unfolding(crate::specs::Calls::counted))]
 fn counted(
     section: Section<'_>,
     id: u64,
@@ -218,6 +231,7 @@ fn counted(
 }
 
 // The arguments of a macro call, as its parameters.
+#[tactic(auto, unfolding(crate::specs::Calls::macro_args, crate::specs::Calls::macro_counted))]
 pub fn macro_args(
     section: Section<'_>,
     scope: &[u64],
@@ -232,7 +246,7 @@ pub fn macro_args(
 ) -> Result<(usize, State), Refusal>
     ensures { passed (to_args result) actions.new temporaries.new args.new ≡ macro_args section.entry.stream.now section.entry.table.now scope.now actions.old temporaries.old args.old env pos id count state }
 {
-    let (next, st1) = resolve_args(
+    let (next, state) = resolve_args(
         DEPTH,
         section,
         scope,
@@ -244,6 +258,7 @@ pub fn macro_args(
         args,
         state,
     )?;
-    bind_names(section.stream, args, after(macro_at(section.table, id), 1), count as usize);
-            counted(section, id, count, next, st1)
+    let names = after(macro_at(section.table, id), 1);
+    bind_names(section.stream, args, names, count as usize);
+    counted(section, id, count, next, state)
 }

@@ -1,21 +1,25 @@
 // Statements of one step: unimplemented, the export, locals, and builds.
-ghost use Rattle.std.specs.Prelude.{◌≡◌};
+ghost use Rattle.std.specs.Prelude.{◌≡◌, ◌<◌, unwrap_or, IfSome};
 ghost use Rattle.list_values.specs.Base.{listed};
+ghost use Rattle.stmt_walk.specs.Outcomes.{to_walk, to_step};
 ghost use Rattle.stmt_walk.specs.Walks.{stepped, walked};
-ghost use Rattle.stmt_simple.specs.Simple.{unimplemented, exported, export_value, export_of, export_statement, local_statement, assign, local_assignment, find_subtable, build_table, build};
+ghost use Rattle.stmt_simple.specs.Simple.{unimplemented, export_of, export_statement, local_statement, assign, local_assignment, find_subtable, build_table, build};
 
 use access::u16_in;
-use codes::{action_kind, export_kind, header, operation, refusal};
+use codes::refusal::Refusal;
+use codes::{action_kind, header, operation, table};
 use expr_reading::read::{read_operand, read_value};
 use expr_resolver::expr::{DEPTH, resolve_expr};
 use expr_scope::scope::{ExprValue, named_tmp};
 use expr_scope::symbols::{Symbol, lookup};
-use expr_terms::answers::{Expr, after};
-use list_pushes::push::{Env, Read, State, push, push_op};
+use expr_terms::answers::after;
+use list_pushes::push::{Env, Operation, State, push, push_op};
+use list_values::section::Section;
 use list_values::sizes::entry;
 use list_values::value::{Value, absent, no_output};
-use stmt_walk::walk::{Export, Step, Walk, pushed_then, read_then, stop};
+use stmt_walk::walk::{Export, Walk};
 
+#[tactic(auto, unfolding(crate::specs::Simple::unimplemented, stmt_walk::specs::Walks::step_pushed, stmt_walk::specs::Walks::pushed_then))]
 pub fn unimplemented(
     section: Section<'_>,
     actions: &mut [u64],
@@ -23,55 +27,30 @@ pub fn unimplemented(
     env: Env,
     pos: usize,
     walk: Walk,
-) -> Step
-    ensures { stepped result actions.new temporaries.new ≡ unimplemented section.entry.stream.now section.entry.table.now actions.old temporaries.old env pos walk }
+) -> Result<(usize, Walk), Refusal>
+    ensures { stepped (to_step walk result) actions.new temporaries.new ≡ unimplemented section.entry.stream.now section.entry.table.now actions.old temporaries.old env pos (to_walk walk) }
 {
-    pushed_then(
-        push_op(
-            section,
-            actions,
-            temporaries,
-            env,
-            operation::INVALID,
-            0,
-            0,
-            no_output(),
-            absent(),
-            absent(),
-            walk.st,
-        ),
-        after(pos, 1),
-        walk,
-    )
-}
-
-fn exported(walk: Walk, kind: u64, value: Value, size: u64, state: State, next: usize) -> Step
-    ensures { result ≡ exported kind value size state next walk }
-{
-    Step::Next {
-        next,
-        w: Walk {
-            st: state,
-            labels: walk.labels,
-            placed: walk.placed,
-            statements: walk.statements,
-            export: Export {
-                kind,
-                v: value,
-                size,
-            },
-        },
-    }
-}
-
-fn export_value(answer: Read, next: usize, walk: Walk) -> Step
-    ensures { result ≡ export_value next walk answer }
-{
-    let (v, st) = answer?;
-    exported(walk, export_kind::VALUE, v, 0, st, next)
+    let invalid = Operation {
+        code: operation::INVALID,
+        number: 0,
+        count: 0,
+        first: absent(),
+        second: absent(),
+    };
+    let st = push_op(
+        section,
+        actions,
+        temporaries,
+        env,
+        invalid,
+        no_output(),
+        walk.st,
+    )?;
+    Ok((after(pos, 1), Walk { st, ..walk }))
 }
 
 // A reference stays one, anything else is read.
+#[tactic(auto, unfolding(crate::specs::Simple::export_of, crate::specs::Simple::export_read, crate::specs::Simple::export_value, stmt_walk::specs::Walks::step_read))]
 fn export_of(
     section: Section<'_>,
     actions: &mut [u64],
@@ -81,34 +60,27 @@ fn export_of(
     next: usize,
     state: State,
     walk: Walk,
-) -> Step
-    ensures { stepped result actions.new temporaries.new ≡ export_of section.entry.stream.now section.entry.table.now actions.old temporaries.old env expr next state walk }
+) -> Result<(usize, Walk), Refusal>
+    ensures { stepped (to_step walk result) actions.new temporaries.new ≡ export_of section.entry.stream.now section.entry.table.now actions.old temporaries.old env expr next state (to_walk walk) }
 {
-    match expr {
-        ExprValue::RamRef { pointer, size } => exported(
-            walk,
-            export_kind::RAM_REF,
-            pointer,
-            size,
-            state,
-            next,
-        ),
-        ExprValue::RegisterRef { pointer, size } => exported(
-            walk,
-            export_kind::REGISTER_REF,
-            pointer,
-            size,
-            state,
-            next,
-        ),
-        _ => export_value(
-            read_operand(section, actions, temporaries, env, expr, state),
-            next,
-            walk,
-        ),
-    }
+    let (export, st) = match expr {
+        ExprValue::RamRef { pointer, size } => (Export::RamRef { pointer, size }, state),
+        ExprValue::RegisterRef { pointer, size } => (Export::RegisterRef { pointer, size }, state),
+        ExprValue::Local(_)
+        | ExprValue::Unbound(_)
+        | ExprValue::Const { .. }
+        | ExprValue::Apply { .. }
+        | ExprValue::AddressOf { .. }
+        | ExprValue::BitRange { .. } => {
+            let (value, st) = read_operand(section, actions, temporaries, env, expr, state)?;
+            (Export::Value(value), st)
+        }
+    };
+    let export = Some(export);
+    Ok((next, Walk { st, export, ..walk }))
 }
 
+#[tactic(auto, unfolding(crate::specs::Simple::export_statement, expr_terms::specs::Answers::on_expr))]
 pub fn export_statement(
     section: Section<'_>,
     scope: &[u64],
@@ -117,31 +89,33 @@ pub fn export_statement(
     env: Env,
     pos: usize,
     walk: Walk,
-) -> Step
-    ensures { stepped result actions.new temporaries.new ≡ export_statement section.entry.stream.now section.entry.table.now scope.now actions.old temporaries.old env pos walk }
+) -> Result<(usize, Walk), Refusal>
+    ensures { stepped (to_step walk result) actions.new temporaries.new ≡ export_statement section.entry.stream.now section.entry.table.now scope.now actions.old temporaries.old env pos (to_walk walk) }
 {
-    let (next, x, st) = resolve_expr(
+    let at = after(pos, 1);
+    let expr = resolve_expr(
         DEPTH,
         section,
         scope,
-        after(pos, 1),
+        at,
         env,
         actions,
         temporaries,
         walk.st,
     )?;
     export_of(
-            section,
-            actions,
-            temporaries,
-            env,
-            x,
-            next,
-            st,
-            walk,
-        )
+        section,
+        actions,
+        temporaries,
+        env,
+        expr.value,
+        expr.next,
+        expr.state,
+        walk,
+    )
 }
 
+#[tactic(auto, unfolding(crate::specs::Simple::local_statement, stmt_walk::specs::Walks::step_read, stmt_walk::specs::Walks::read_then))]
 pub fn local_statement(
     section: Section<'_>,
     scope: &mut [u64],
@@ -149,19 +123,17 @@ pub fn local_statement(
     env: Env,
     pos: usize,
     walk: Walk,
-) -> Step
-    ensures { stepped result scope.new temporaries.new ≡ local_statement section.entry.stream.now section.entry.table.now scope.old temporaries.old env pos walk }
+) -> Result<(usize, Walk), Refusal>
+    ensures { stepped (to_step walk result) scope.new temporaries.new ≡ local_statement section.entry.stream.now section.entry.table.now scope.old temporaries.old env pos (to_walk walk) }
 {
     let name = u16_in(section.stream, pos, 1);
     let size = u16_in(section.stream, pos, 3);
-    read_then(
-        named_tmp(section.table, scope, temporaries, env, name, size, walk.st),
-        after(pos, 5),
-        walk,
-    )
+    let (_, st) = named_tmp(section.table, scope, temporaries, env, name, size, walk.st)?;
+    Ok((after(pos, 5), Walk { st, ..walk }))
 }
 
 // An expression at a position read into a target.
+#[tactic(auto, unfolding(crate::specs::Simple::assign, expr_terms::specs::Answers::on_expr, stmt_walk::specs::Walks::step_read, stmt_walk::specs::Walks::read_then))]
 fn assign(
     section: Section<'_>,
     scope: &[u64],
@@ -172,26 +144,23 @@ fn assign(
     to: Value,
     state: State,
     walk: Walk,
-) -> Step
-    ensures { stepped result actions.new temporaries.new ≡ assign section.entry.stream.now section.entry.table.now scope.now actions.old temporaries.old env pos to state walk }
+) -> Result<(usize, Walk), Refusal>
+    ensures { stepped (to_step walk result) actions.new temporaries.new ≡ assign section.entry.stream.now section.entry.table.now scope.now actions.old temporaries.old env pos to state (to_walk walk) }
 {
-    let (next, x, st1) = resolve_expr(
-        DEPTH,
+    let expr = resolve_expr(DEPTH, section, scope, pos, env, actions, temporaries, state)?;
+    let (_, st) = read_value(
         section,
-        scope,
-        pos,
-        env,
         actions,
         temporaries,
-        state,
+        env,
+        expr.value,
+        Some(to),
+        expr.state,
     )?;
-    read_then(
-            read_value(section, actions, temporaries, env, x, true, to, st1),
-            next,
-            walk,
-        )
+    Ok((expr.next, Walk { st, ..walk }))
 }
 
+#[tactic(auto, unfolding(crate::specs::Simple::local_assignment, list_pushes::specs::Pushes::on_read, stmt_walk::specs::Walks::beside_p))]
 pub fn local_assignment(
     section: Section<'_>,
     scope: &mut [u64],
@@ -200,86 +169,82 @@ pub fn local_assignment(
     env: Env,
     pos: usize,
     walk: Walk,
-) -> Step
-    ensures { walked result scope.new actions.new temporaries.new ≡ local_assignment section.entry.stream.now section.entry.table.now scope.old actions.old temporaries.old env pos walk }
+) -> Result<(usize, Walk), Refusal>
+    ensures { walked (to_step walk result) scope.new actions.new temporaries.new ≡ local_assignment section.entry.stream.now section.entry.table.now scope.old actions.old temporaries.old env pos (to_walk walk) }
 {
     let name = u16_in(section.stream, pos, 1);
     let size = u16_in(section.stream, pos, 3);
-    let (v, st) = named_tmp(section.table, scope, temporaries, env, name, size, walk.st)?;
+    let (to, state) = named_tmp(section.table, scope, temporaries, env, name, size, walk.st)?;
+    let at = after(pos, 5);
     assign(
-            section,
-            scope,
-            actions,
-            temporaries,
-            env,
-            after(pos, 5),
-            v,
-            st,
-            walk,
-        )
+        section,
+        scope,
+        actions,
+        temporaries,
+        env,
+        at,
+        to,
+        state,
+        walk,
+    )
 }
 
-// The first of n subtables that has this table, or n.
-fn find_subtable(section: Section<'_>, count: u64, wanted: u64) -> u64
-    ensures { result ≡ find_subtable count 0 section.entry.stream.now section.entry.table.now wanted }
+// The first of n subtables that has this table.
+fn find_subtable(section: Section<'_>, count: u64, wanted: u64) -> Option<u64>
+    ensures within { IfSome result (λ i. i < count) }
+    ensures found { unwrap_or result count ≡ find_subtable count 0 section.entry.stream.now section.entry.table.now wanted }
 {
-    let mut i = 0;
-    while i < count {
-        if u16_in(
-            section.stream,
-            entry(section.table, codes::table::SUBTABLES, i % 65536 * 4),
-            2,
-        ) == wanted
-        {
-            return i;
+    for i in 0..count {
+        let at = entry(section.table, table::SUBTABLES, i % 65536 * 4);
+        if u16_in(section.stream, at, 2) == wanted {
+            return Some(i);
         }
-        i += 1;
     }
-    i
+    None
 }
 
+#[tactic(auto, unfolding(crate::specs::Simple::build_table, crate::specs::Simple::build_subtable, list_values::specs::Base::then_l, stmt_walk::specs::Walks::pushed_then))]
 fn build_table(
     section: Section<'_>,
     actions: &mut [u64],
     wanted: u64,
     pos: usize,
     walk: Walk,
-) -> Step
-    ensures { listed result actions.new ≡ build_table section.entry.stream.now section.entry.table.now actions.old wanted pos walk }
+) -> Result<(usize, Walk), Refusal>
+    ensures { listed (to_step walk result) actions.new ≡ build_table section.entry.stream.now section.entry.table.now actions.old wanted pos (to_walk walk) }
 {
-    let n = access::u16_at(section.stream, header::SUBTABLES);
-    let i = find_subtable(section, n, wanted);
-    if i < n {
-        return pushed_then(
-            push(
-                actions,
-                action_kind::BUILD,
-                0,
-                i,
-                0,
-                absent(),
-                absent(),
-                absent(),
-                walk.st,
-            ),
-            after(pos, 3),
-            walk,
-        );
-    }
-    stop(walk, Refusal::AbsentTable)
+    let count = access::u16_at(section.stream, header::SUBTABLES);
+    let Some(number) = find_subtable(section, count, wanted) else {
+        return Err(Refusal::AbsentTable);
+    };
+    let build = Operation {
+        code: 0,
+        number,
+        count: 0,
+        first: absent(),
+        second: absent(),
+    };
+    let st = push(actions, action_kind::BUILD, build, absent(), walk.st)?;
+    Ok((after(pos, 3), Walk { st, ..walk }))
 }
 
+#[tactic(auto, unfolding(crate::specs::Simple::build, crate::specs::Simple::build_symbol))]
 pub fn build(
     section: Section<'_>,
     actions: &mut [u64],
     pos: usize,
     walk: Walk,
-) -> Step
-    ensures { listed result actions.new ≡ build section.entry.stream.now section.entry.table.now actions.old pos walk }
+) -> Result<(usize, Walk), Refusal>
+    ensures { listed (to_step walk result) actions.new ≡ build section.entry.stream.now section.entry.table.now actions.old pos (to_walk walk) }
 {
     match lookup(section.table, u16_in(section.stream, pos, 1)) {
-        Symbol::Undefined => stop(walk, Refusal::Undefined),
+        Symbol::Undefined => Err(Refusal::Undefined),
         Symbol::Table(wanted) => build_table(section, actions, wanted, pos, walk),
-        _ => stop(walk, Refusal::WrongKind),
+        Symbol::Space(_)
+        | Symbol::Register(_)
+        | Symbol::BitRange(_)
+        | Symbol::UserOp(_)
+        | Symbol::Macro(_)
+        | Symbol::Other(_) => Err(Refusal::WrongKind),
     }
 }

@@ -1,9 +1,0 @@
-use Rattle.std.proofs.Common.{rules}
-use Rattle.stmt_simple.proofs.SimpleLaws.{simple_laws}
-use Rattle.stmt_simple.proofs.simple.export_value.Goals as goal
-
-pub returns-in-No : goal.returns-in-No
-returns-in-No c = search (simple_laws, rules)
-
-pub returns-in-Value : goal.returns-in-Value
-returns-in-Value c = search (simple_laws, rules)
