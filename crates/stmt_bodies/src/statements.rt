@@ -1,14 +1,17 @@
 // Statements and macro bodies, which resolve each other: a macro call one level deeper.
 ghost use Rattle.std.specs.Prelude.{◌≡◌};
+ghost use Rattle.stmt_walk.specs.Outcomes.{to_walk, to_step, to_steps};
 ghost use Rattle.stmt_walk.specs.Walks.{stepped, walked};
-ghost use Rattle.stmt_bodies.specs.Statements.{simple, other_statement, begun, begin, returned, macro_env, body_at, first_ordinal, call_statement, macro_statement, enter_macro, resolve_statement, forward, resolve_body};
+ghost use Rattle.stmt_bodies.specs.Outcomes.{to_begun};
+ghost use Rattle.stmt_bodies.specs.Statements.{simple, other_statement, begun, begin, macro_env, body_at, first_ordinal, call_statement, macro_statement, enter_macro, resolve_statement, forward, resolve_body};
 
 use access::u16_in;
-use codes::{refusal, statement, table};
-use expr_scope::args::Args;
+use codes::refusal::Refusal;
+use codes::{statement, table};
 use expr_scope::smalls::SCOPE_WORDS;
 use expr_terms::answers::after;
 use list_pushes::push::{Env, State};
+use list_values::section::Section;
 use list_values::sizes::Sizing;
 use stmt_assignments::copies::copy_statement;
 use stmt_assignments::stores::store_statement;
@@ -17,10 +20,11 @@ use stmt_simple::calls::{Called, called_of, delay_slot, macro_args, macro_at, us
 use stmt_simple::simple::{
     build, export_statement, local_assignment, local_statement, unimplemented,
 };
-use stmt_walk::walk::{Step, Walk, stop, with_state};
+use stmt_walk::walk::{Stopped, Walk, stop};
 
 const MOST_STATEMENTS: u64 = 4096;
 
+#[tactic(auto, unfolding(crate::specs::Statements::simple, crate::specs::Statements::beside_a, stmt_walk::specs::Walks::beside_p, list_values::specs::Base::then_l))]
 fn simple(
     code: u64,
     section: Section<'_>,
@@ -30,52 +34,26 @@ fn simple(
     env: Env,
     pos: usize,
     walk: Walk,
-) -> Step
-    ensures { walked result scope.new actions.new temporaries.new ≡ simple code section.entry.stream.now section.entry.table.now scope.old actions.old temporaries.old env pos walk }
+) -> Result<(usize, Walk), Refusal>
+    ensures { walked (to_step walk result) scope.new actions.new temporaries.new ≡ simple code section.entry.stream.now section.entry.table.now scope.old actions.old temporaries.old env pos (to_walk walk) }
 {
     match code {
-        statement::UNIMPLEMENTED => unimplemented(
-            section,
-            actions,
-            temporaries,
-            env,
-            pos,
-            walk,
-        ),
-        statement::EXPORT => export_statement(
-            section,
-            scope,
-            actions,
-            temporaries,
-            env,
-            pos,
-            walk,
-        ),
+        statement::UNIMPLEMENTED => { unimplemented(section, actions, temporaries, env, pos, walk) }
+        statement::EXPORT => {
+            export_statement(section, scope, actions, temporaries, env, pos, walk)
+        }
         statement::LOCAL => local_statement(section, scope, temporaries, env, pos, walk),
-        statement::LOCAL_ASSIGNMENT => local_assignment(
-            section,
-            scope,
-            actions,
-            temporaries,
-            env,
-            pos,
-            walk,
-        ),
+        statement::LOCAL_ASSIGNMENT => {
+            local_assignment(section, scope, actions, temporaries, env, pos, walk)
+        }
         statement::BUILD => build(section, actions, pos, walk),
-        statement::COPY => copy_statement(
-            section,
-            scope,
-            actions,
-            temporaries,
-            env,
-            pos,
-            walk,
-        ),
+        statement::COPY => copy_statement(section, scope, actions, temporaries, env, pos, walk),
         _ => store_statement(section, scope, actions, temporaries, env, pos, walk),
     }
 }
 
 // A statement that is no call.
+#[tactic(auto, unfolding(crate::specs::Statements::other_statement))]
 fn other_statement(
     code: u64,
     section: Section<'_>,
@@ -85,20 +63,14 @@ fn other_statement(
     env: Env,
     pos: usize,
     walk: Walk,
-) -> Step
-    ensures { walked result scope.new actions.new temporaries.new ≡ other_statement code section.entry.stream.now section.entry.table.now scope.old actions.old temporaries.old env pos walk }
+) -> Result<(usize, Walk), Stopped>
+    ensures { walked (to_steps result) scope.new actions.new temporaries.new ≡ other_statement code section.entry.stream.now section.entry.table.now scope.old actions.old temporaries.old env pos (to_walk walk) }
 {
     match code {
         statement::BRANCH => branch(section, scope, actions, temporaries, env, pos, walk),
-        statement::COND_BRANCH => cond_branch(
-            section,
-            scope,
-            actions,
-            temporaries,
-            env,
-            pos,
-            walk,
-        ),
+        statement::COND_BRANCH => {
+            cond_branch(section, scope, actions, temporaries, env, pos, walk)
+        }
         statement::LABEL => label_statement(
             section,
             scope,
@@ -107,73 +79,48 @@ fn other_statement(
             env,
             pos,
             walk,
-        ),
-        _ => simple(
-            code,
-            section,
-            scope,
-            actions,
-            temporaries,
-            env,
-            pos,
-            walk,
+        ).map_err(|refusal| stop(walk, refusal)),
+        _ => simple(code, section, scope, actions, temporaries, env, pos, walk).map_err(
+            |refusal| stop(walk, refusal),
         ),
     }
 }
 
 fn begun(walk: Walk, ordinal: u64, statements: u64) -> Walk
-    ensures { result ≡ begun ordinal statements walk }
+    ensures { to_walk result ≡ begun ordinal statements (to_walk walk) }
 {
-    let export = walk.export;
     let st = walk.st;
-    let z = st.sizing;
     Walk {
         st: State {
-            end: st.end,
-            temporaries: st.temporaries,
             sizing: Sizing {
                 begun: ordinal,
-                errors: z.errors,
-                first: z.first,
+                ..st.sizing
             },
+            ..st
         },
-        labels: walk.labels,
-        placed: walk.placed,
         statements,
-        export,
+        ..walk
     }
 }
 
 // A statement begins: it has its ordinal, may not follow an export, and is counted up to 4,096.
-fn begin(walk: Walk, ordinal: u64) -> Step
-    ensures { result ≡ begin ordinal walk }
+#[tactic(auto, unfolding(crate::specs::Statements::begin))]
+fn begin(walk: Walk, ordinal: u64) -> Result<Walk, Stopped>
+    ensures { to_begun result ≡ begin ordinal (to_walk walk) }
 {
-    if walk.export.kind != 0 {
-        return Step::Stop {
+    if walk.export.is_some() {
+        return Err(Stopped {
             refusal: Refusal::AfterExport,
             ordinal,
-        };
+        });
     }
     if MOST_STATEMENTS <= walk.statements {
-        return Step::Stop {
+        return Err(Stopped {
             refusal: Refusal::TooManyStatements,
             ordinal,
-        };
+        });
     }
-    Step::Next {
-        next: 0,
-        w: begun(walk, ordinal, walk.statements + 1),
-    }
-}
-
-// Goes on behind the call after a macro's body.
-fn returned(answer: Step, next: usize) -> Step
-    ensures { result ≡ returned next answer }
-{
-    match answer {
-        Step::Stop { refusal, ordinal } => Step::Stop { refusal, ordinal },
-        Step::Next { next: _, w } => Step::Next { next, w },
-    }
+    Ok(begun(walk, ordinal, walk.statements + 1))
 }
 
 // A macro's parameters, locals and labels stand in the words of its own call.
@@ -181,13 +128,14 @@ fn macro_env(env: Env, count: u64) -> Env
     ensures { result ≡ macro_env count env }
 {
     Env {
-        pointer: env.pointer,
         own: false,
         count: count as usize,
+        ..env
     }
 }
 
 // Where the body of a macro with n parameters begins, behind their names.
+#[tactic(auto, unfolding(crate::specs::Statements::body_at))]
 fn body_at(at: usize, parameters: u64) -> usize
     ensures { result ≡ body_at at parameters }
 {
@@ -195,6 +143,7 @@ fn body_at(at: usize, parameters: u64) -> usize
 }
 
 // The ordinal of the first statement of macro number `id`.
+#[tactic(auto, unfolding(crate::specs::Statements::first_ordinal))]
 fn first_ordinal(table: &[u16; table::LENGTH], id: u64) -> u64
     ensures { result ≡ first_ordinal table.now id }
 {
@@ -215,21 +164,20 @@ fn enter(
     next: usize,
     state: State,
     walk: Walk,
-) -> Step
-    ensures { walked result scope.new actions.new temporaries.new ≡ enter_macro deep section.entry.stream.now section.entry.table.now scope.old actions.old temporaries.old env id arguments next state walk }
+) -> Result<(usize, Walk), Stopped>
+    ensures { walked (to_steps result) scope.new actions.new temporaries.new ≡ enter_macro deep section.entry.stream.now section.entry.table.now scope.old actions.old temporaries.old env id arguments next state (to_walk walk) }
 {
     if deep == 0 {
-        return stop(walk, Refusal::MacroTooDeep);
+        return Err(stop(walk, Refusal::MacroTooDeep));
     }
     let start = body_at(macro_at(section.table, id), arguments);
     let count = u16_in(section.stream, start, 0);
     let inner = macro_env(env, arguments);
     let first = first_ordinal(section.table, id);
-    let below = deep - 1;
     let from = after(start, 2);
-    let walk = with_state(walk, state);
-    let r = body(
-        below,
+    let walk = Walk { st: state, ..walk };
+    let (_, walk) = body(
+        deep - 1,
         section,
         scope,
         actions,
@@ -239,11 +187,12 @@ fn enter(
         count,
         first,
         walk,
-    );
-    returned(r, next)
+    )?;
+    Ok((next, walk))
 }
 
 #[cycle(body_call_statement_enter_macro_statement_statement)]
+#[tactic(auto, unfolding(crate::specs::Statements::macro_statement, expr_terms::specs::Answers::on_args, stmt_walk::specs::Walks::without_p))]
 fn macro_statement(
     deep: u64,
     section: Section<'_>,
@@ -255,11 +204,11 @@ fn macro_statement(
     id: u64,
     arguments: u64,
     walk: Walk,
-) -> Step
-    ensures { stepped result actions.new temporaries.new ≡ macro_statement (enter_macro deep section.entry.stream.now section.entry.table.now) section.entry.stream.now section.entry.table.now scope.now actions.old temporaries.old env pos id arguments walk }
+) -> Result<(usize, Walk), Stopped>
+    ensures { stepped (to_steps result) actions.new temporaries.new ≡ macro_statement (enter_macro deep section.entry.stream.now section.entry.table.now) section.entry.stream.now section.entry.table.now scope.now actions.old temporaries.old env pos id arguments (to_walk walk) }
 {
     let mut inner = [0u64; SCOPE_WORDS];
-    let (next, st) = macro_args(
+    let (next, state) = macro_args(
         section,
         scope,
         actions,
@@ -270,23 +219,25 @@ fn macro_statement(
         id,
         arguments,
         walk.st,
-    )?;
+    )
+    .map_err(|refusal| stop(walk, refusal))?;
     enter(
-            deep,
-            section,
-            &mut inner,
-            actions,
-            temporaries,
-            env,
-            id,
-            arguments,
-            next,
-            st,
-            walk,
-        )
+        deep,
+        section,
+        &mut inner,
+        actions,
+        temporaries,
+        env,
+        id,
+        arguments,
+        next,
+        state,
+        walk,
+    )
 }
 
 #[cycle(body_call_statement_enter_macro_statement_statement)]
+#[tactic(auto, unfolding(crate::specs::Statements::call_statement, crate::specs::Statements::call_named, list_values::specs::Base::then_l))]
 fn call_statement(
     deep: u64,
     section: Section<'_>,
@@ -296,40 +247,39 @@ fn call_statement(
     env: Env,
     pos: usize,
     walk: Walk,
-) -> Step
-    ensures { stepped result actions.new temporaries.new ≡ call_statement (enter_macro deep section.entry.stream.now section.entry.table.now) section.entry.stream.now section.entry.table.now scope.now actions.old temporaries.old env pos walk }
+) -> Result<(usize, Walk), Stopped>
+    ensures { stepped (to_steps result) actions.new temporaries.new ≡ call_statement (enter_macro deep section.entry.stream.now section.entry.table.now) section.entry.stream.now section.entry.table.now scope.now actions.old temporaries.old env pos (to_walk walk) }
 {
     let n = access::byte(section.stream, pos, 3);
-    match called_of(section, u16_in(section.stream, pos, 1)) {
-        Called::DelaySlot => delay_slot(section.stream, actions, pos, n, walk),
-        Called::UserOp(id) => user_op_statement(
-            section,
-            scope,
-            actions,
-            temporaries,
-            env,
-            pos,
-            id,
-            n,
-            walk,
+    let name = u16_in(section.stream, pos, 1);
+    match called_of(section, name).map_err(|refusal| stop(walk, refusal))? {
+        Called::DelaySlot => delay_slot(section.stream, actions, pos, n, walk).map_err(
+            |refusal| stop(walk, refusal),
         ),
-        Called::Macro(id) => macro_statement(
-            deep,
-            section,
-            scope,
-            actions,
-            temporaries,
-            env,
-            pos,
-            id,
-            n,
-            walk,
-        ),
-        Called::No(k) => stop(walk, k),
+        Called::UserOp(id) => {
+            user_op_statement(section, scope, actions, temporaries, env, pos, id, n, walk).map_err(
+                |refusal| stop(walk, refusal),
+            )
+        }
+        Called::Macro(id) => {
+            macro_statement(
+                deep,
+                section,
+                scope,
+                actions,
+                temporaries,
+                env,
+                pos,
+                id,
+                n,
+                walk,
+            )
+        }
     }
 }
 
 #[cycle(body_call_statement_enter_macro_statement_statement)]
+#[tactic(auto, unfolding(crate::specs::Statements::resolve_statement, crate::specs::Statements::statement_begun, crate::specs::Statements::statement_by, stmt_walk::specs::Walks::beside_p))]
 fn statement(
     deep: u64,
     section: Section<'_>,
@@ -340,46 +290,19 @@ fn statement(
     pos: usize,
     ordinal: u64,
     walk: Walk,
-) -> Step
-    ensures { walked result scope.new actions.new temporaries.new ≡ resolve_statement (enter_macro deep section.entry.stream.now section.entry.table.now) section.entry.stream.now section.entry.table.now env pos ordinal scope.old actions.old temporaries.old walk }
+) -> Result<(usize, Walk), Stopped>
+    ensures { walked (to_steps result) scope.new actions.new temporaries.new ≡ resolve_statement (enter_macro deep section.entry.stream.now section.entry.table.now) section.entry.stream.now section.entry.table.now env pos ordinal scope.old actions.old temporaries.old (to_walk walk) }
 {
-    match begin(walk, ordinal) {
-        Step::Stop {
-            refusal,
-            ordinal: o,
-        } => Step::Stop {
-            refusal,
-            ordinal: o,
-        },
-        Step::Next { next: _, w: b } => {
-            let code = access::byte(section.stream, pos, 0);
-            if code == statement::CALL {
-                return call_statement(
-                    deep,
-                    section,
-                    scope,
-                    actions,
-                    temporaries,
-                    env,
-                    pos,
-                    b,
-                );
-            }
-            other_statement(
-                code,
-                section,
-                scope,
-                actions,
-                temporaries,
-                env,
-                pos,
-                b,
-            )
-        }
+    let walk = begin(walk, ordinal)?;
+    let code = access::byte(section.stream, pos, 0);
+    if code == statement::CALL {
+        return call_statement(deep, section, scope, actions, temporaries, env, pos, walk);
     }
+    other_statement(code, section, scope, actions, temporaries, env, pos, walk)
 }
 
 // Whether a statement that begins at a position ends behind it, inside the stream, as every one of an accepted stream does.
+#[tactic(auto, unfolding(crate::specs::Statements::forward))]
 fn forward(pos: usize, next: usize, len: usize) -> bool
     ensures { result ≡ forward pos next len }
 {
@@ -387,7 +310,8 @@ fn forward(pos: usize, next: usize, len: usize) -> bool
 }
 
 // n statements from a position on, the first with that ordinal; macro calls so deep at most. From one statement to the next
-// the bytes left of the stream fall; a statement that took none would be refused as cut.
+// the bytes left of the stream fall, as the rules of the project want it, so the turns are no `for`; a statement that took
+// none would be refused as cut.
 #[cycle(body_call_statement_enter_macro_statement_statement)]
 pub fn body(
     deep: u64,
@@ -400,15 +324,15 @@ pub fn body(
     count: u64,
     ordinal: u64,
     walk: Walk,
-) -> Step
-    ensures { walked result scope.new actions.new temporaries.new ≡ resolve_body deep section.entry.stream.now section.entry.table.now scope.old actions.old temporaries.old env pos count ordinal walk }
+) -> Result<(usize, Walk), Stopped>
+    ensures { walked (to_steps result) scope.new actions.new temporaries.new ≡ resolve_body deep section.entry.stream.now section.entry.table.now scope.old actions.old temporaries.old env pos count ordinal (to_walk walk) }
 {
     let mut at = pos;
     let mut walk = walk;
     let mut i = 0;
     while i < count {
         let own = std::num::wrapping_add_u64(ordinal, i);
-        match statement(
+        let (next, walked) = statement(
             deep,
             section,
             scope,
@@ -418,23 +342,13 @@ pub fn body(
             at,
             own,
             walk,
-        ) {
-            Step::Stop {
-                refusal,
-                ordinal: o,
-            } => return Step::Stop {
-                refusal,
-                ordinal: o,
-            },
-            Step::Next { next, w: w1 } => {
-                if !forward(at, next, section.stream.len()) {
-                    return stop(w1, Refusal::Malformed);
-                }
-                at = next;
-                walk = w1;
-                i += 1;
-            }
+        )?;
+        if !forward(at, next, section.stream.len()) {
+            return Err(stop(walked, Refusal::Malformed));
         }
+        at = next;
+        walk = walked;
+        i += 1;
     }
-    Step::Next { next: at, w: walk }
+    Ok((at, walk))
 }

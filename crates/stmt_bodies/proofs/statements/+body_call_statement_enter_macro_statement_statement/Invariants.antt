@@ -1,4 +1,5 @@
 use Rattle.std.proofs.Common.{◌≡◌, ◌+◌, ◌-◌, ◌*◌, length}
+use Rattle.stmt_walk.specs.Outcomes.{to_walk}
 use Rattle.stmt_bodies.specs.Statements.{enter_macro, resolve_statement, resolve_all, resolve_body}
 use Rattle.stmt_bodies.proofs.statements.+body_call_statement_enter_macro_statement_statement.Given as goal
 
@@ -19,7 +20,7 @@ decreases-statement l = 5 * l.deep + 3
 
 abbrev pub invariant-body-loop-i : goal.invariant-body-loop-i
 invariant-body-loop-i l = (length l.scope ≡ length l.initial.scope) × (length l.actions ≡ length l.initial.actions) × (length l.temporaries ≡ length l.initial.temporaries)
-    × (resolve_all (resolve_statement (enter_macro l.deep l.stream l.table) l.stream l.table l.env) (length l.stream) (l.count - l.i) l.i l.ordinal l.at l.scope l.actions l.temporaries l.walk ≡ resolve_body l.deep l.stream l.table l.initial.scope l.initial.actions l.initial.temporaries l.env l.pos l.count l.ordinal l.initial.walk)
+    × (resolve_all (resolve_statement (enter_macro l.deep l.section.stream.now l.section.table.now) l.section.stream.now l.section.table.now l.env) (length l.section.stream.now) (l.count - l.i) l.i l.ordinal l.at l.scope l.actions l.temporaries (to_walk l.walk) ≡ resolve_body l.deep l.section.stream.now l.section.table.now l.initial.scope l.initial.actions l.initial.temporaries l.env l.pos l.count l.ordinal (to_walk l.initial.walk))
 
 abbrev pub decreases-body-loop-i : goal.decreases-body-loop-i
-decreases-body-loop-i l = length l.stream - l.at
+decreases-body-loop-i l = length l.section.stream.now - l.at
