@@ -222,7 +222,7 @@ fn find_param(scope: &[u64], count: usize, name: u64) -> usize
 fn plain_own(table: &[u16; table::LENGTH], name: u64) -> u64
     ensures { result ≡ plain_found (own_local table.now name) }
 {
-    let k = access::get_u16(table, table::LOCALS + (name % 1024) as usize) as u64;
+    let k = access::get(table, table::LOCALS + (name % 1024) as usize) as u64;
     if k == 0 {
         return 0;
     }

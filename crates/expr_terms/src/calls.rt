@@ -56,7 +56,7 @@ fn inbuilt_or(inbuilt: Inbuilt, table: &[u16; table::LENGTH], name: u64, count: 
 pub fn callee_of(stream: &[u8], table: &[u16; table::LENGTH], name: u64, count: u64) -> Callee
     ensures { result ≡ callee_of stream.now table.now name count }
 {
-    let at = access::get_u16(table, (name % 1024) as usize) as usize;
+    let at = access::get(table, (name % 1024) as usize) as usize;
     inbuilt_or(translate_inbuilt_func(stream, at), table, name, count)
 }
 

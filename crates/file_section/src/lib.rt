@@ -34,7 +34,7 @@ mod zeros;
 fn own_statements(stream: &[u8], cursor: Cursor, table: &mut [u16]) -> Cursor
     ensures { reading result table.new ≡ statements stream.now (reading cursor table.old) }
 {
-    access::put_u16(table, table::STATEMENTS, low(cursor.at));
+    access::put(table, table::STATEMENTS, low(cursor.at));
     tail(
         stream,
         body(

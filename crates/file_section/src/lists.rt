@@ -44,10 +44,10 @@ fn mark(at: usize, value: u16, cursor: Cursor, table: &mut [u16]) -> Cursor
     if cursor.bad != 0 {
         return cursor;
     }
-    if access::get_u16(table, at) != 0 {
+    if access::get(table, at) != 0 {
         return refuse(refusal::SPELLED_TWICE, cursor);
     }
-    access::put_u16(table, at, value);
+    access::put(table, at, value);
     cursor
 }
 
@@ -110,10 +110,10 @@ fn note_macro(index: usize, at: usize, count: u64, table: &mut [u16])
     requires { index < 65536 }
     ensures { table.new ≡ noted index at count table.old }
 {
-    let first = access::get_u16(table, table::FIRST_ORDINAL);
-    access::put_u16(table, table::MACROS + index, low(at));
-    access::put_u16(table, table::MACRO_ORDINALS + index, first);
-    access::put_u16(
+    let first = access::get(table, table::FIRST_ORDINAL);
+    access::put(table, table::MACROS + index, low(at));
+    access::put(table, table::MACRO_ORDINALS + index, first);
+    access::put(
         table,
         table::FIRST_ORDINAL,
         low(first as usize + (count % 65536) as usize),
@@ -148,7 +148,7 @@ fn list(kind: usize, stream: &[u8], cursor: Cursor, table: &mut [u16]) -> Cursor
     requires { kind < 9 }
     ensures { reading result table.new ≡ list stream.now kind (reading cursor table.old) }
 {
-    access::put_u16(table, table::LISTS + kind, low(cursor.at));
+    access::put(table, table::LISTS + kind, low(cursor.at));
     let n = access::u16_at(stream, header::SPACES + 2 * kind) as usize;
     let mut cursor = cursor;
     for i in 0..n {

@@ -61,13 +61,13 @@ fn known(
     requires { Linked stream.now table.now chains.now count × Hashed stream.now at chain }
     ensures { result ≡ known stream.now table.now at count }
 {
-    let mut j = place(access::get_u16(chains, LAST + chain));
+    let mut j = place(access::get(chains, LAST + chain));
     while 0 < j {
         let i = j - 1;
-        if alike(stream, at, place(access::get_u16(table, i))) {
+        if alike(stream, at, place(access::get(table, i))) {
             return true;
         }
-        j = place(access::get_u16(chains, i));
+        j = place(access::get(chains, i));
     }
     false
 }
@@ -126,8 +126,8 @@ fn name_at(
 {
     let h = hash(stream, cursor.at);
     let e = spelling(stream, table, chains, index, h, cursor);
-    access::put_u16(table, index, low(cursor.at));
-    let p = place(access::get_u16(table, index));
+    access::put(table, index, low(cursor.at));
+    let p = place(access::get(table, index));
     link(hash_at(stream, cursor.at, h, p), index, chains);
     e
 }

@@ -81,9 +81,9 @@ fn walk_section(
     ensures { stepped result actions.new temporaries.new ≡ walk_section stream.now table.now actions.old temporaries.old subtables pointer }
 {
     let mut scope = [0u64; SCOPE_WORDS];
-    let pos = access::get_u16(table, table::STATEMENTS) as usize;
+    let pos = access::get(table, table::STATEMENTS) as usize;
     let n = access::u16_at(stream, header::STATEMENTS);
-    let ordinal = access::get_u16(table, table::FIRST_ORDINAL) as u64;
+    let ordinal = access::get(table, table::FIRST_ORDINAL) as u64;
     let e = start_env(pointer);
     let w = at_start(subtables);
     stmt_bodies::statements::body(

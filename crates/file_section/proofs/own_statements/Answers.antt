@@ -5,8 +5,8 @@ use Rattle.file_section.proofs.own_statements.Goals as goal
 pub low-requires : goal.low-requires
 low-requires c = search (list_laws, rules)
 
-pub put_u16-requires : goal.put_u16-requires
-put_u16-requires c = search (list_laws, rules)
+pub put-requires : goal.put-requires
+put-requires c = search (list_laws, rules)
 
 pub u16_at-requires : goal.u16_at-requires
 u16_at-requires c = search (list_laws, rules)

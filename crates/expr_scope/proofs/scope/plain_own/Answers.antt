@@ -5,8 +5,8 @@ use Rattle.expr_scope.proofs.scope.plain_own.Goals as goal
 pub overflow_add-name : goal.overflow_add-name
 overflow_add-name c = search (plain_laws, rules)
 
-pub get_u16-k-requires : goal.get_u16-k-requires
-get_u16-k-requires c = search (plain_laws, rules)
+pub get-k-requires : goal.get-k-requires
+get-k-requires c = search (plain_laws, rules)
 
 pub overflow_cast-k : goal.overflow_cast-k
 overflow_cast-k c = search (plain_laws, rules)

@@ -2,8 +2,8 @@ use Rattle.std.proofs.Common.{rules}
 use Rattle.expr_terms.proofs.CallLaws.{call_laws}
 use Rattle.expr_terms.proofs.calls.callee_of.Goals as goal
 
-pub get_u16-at-requires : goal.get_u16-at-requires
-get_u16-at-requires c = search (call_laws, rules)
+pub get-at-requires : goal.get-at-requires
+get-at-requires c = search (call_laws, rules)
 
 pub overflow_cast-at : goal.overflow_cast-at
 overflow_cast-at c = search (call_laws, rules)

@@ -12,8 +12,8 @@ loop-i-preserved c =
     (omega arith, c.entry-cursor.auto.table ∙ c.loop-i.invariant.1, run_again _ _ _ _ _ _ (omega arith) c.loop-i.invariant.2 c.entry-cursor.ensures)
 
 pub shape_of-table : goal.shape_of-table
-shape_of-table c = c.loop-i.invariant.1 ∙ c.put_u16.auto.list
+shape_of-table c = c.loop-i.invariant.1 ∙ c.put.auto.list
 
 pub returns : goal.returns
 returns c =
-    list_law _ _ _ _ _ _ _ _ _ _ c.low.ensures c.put_u16.ensures c.u16_at-n.ensures (omega arith) c.loop-i.invariant.2
+    list_law _ _ _ _ _ _ _ _ _ _ c.low.ensures c.put.ensures c.u16_at-n.ensures (omega arith) c.loop-i.invariant.2

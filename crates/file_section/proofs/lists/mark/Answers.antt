@@ -5,20 +5,20 @@ use Rattle.file_section.proofs.lists.mark.Goals as goal
 pub returns-then-cursor-ne0 : goal.returns-then-cursor-ne0
 returns-then-cursor-ne0 c = search (list_laws, rules)
 
-pub get_u16-requires : goal.get_u16-requires
-get_u16-requires c = search (list_laws, rules)
+pub get-requires : goal.get-requires
+get-requires c = search (list_laws, rules)
 
 pub refuse-requires : goal.refuse-requires
 refuse-requires c = search (list_laws, rules)
 
-pub shape_of-table-then-get_u16-ne0 : goal.shape_of-table-then-get_u16-ne0
-shape_of-table-then-get_u16-ne0 c = search (list_laws, rules)
+pub shape_of-table-then-get-ne0 : goal.shape_of-table-then-get-ne0
+shape_of-table-then-get-ne0 c = search (list_laws, rules)
 
-pub returns-then-get_u16-ne0 : goal.returns-then-get_u16-ne0
-returns-then-get_u16-ne0 c = search (list_laws, rules)
+pub returns-then-get-ne0 : goal.returns-then-get-ne0
+returns-then-get-ne0 c = search (list_laws, rules)
 
-pub put_u16-requires : goal.put_u16-requires
-put_u16-requires c = search (list_laws, rules)
+pub put-requires : goal.put-requires
+put-requires c = search (list_laws, rules)
 
 pub shape_of-table : goal.shape_of-table
 shape_of-table c = search (list_laws, rules)
