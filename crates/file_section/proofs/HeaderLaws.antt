@@ -5,8 +5,7 @@ use Prim.Native.Nat.{ℕ, suc, ◌+◌, ◌≤◌, ◌<◌}
 use native.Mathlib.Omega.{arith}
 use lib.ListN.{length}
 use Rattle.access.specs.Le.{le16}
-use Rattle.file_syntax.specs.declared.cursor.Cursor.{Cursor}
-use Rattle.file_syntax.specs.Cursors.{cursor, u16, u16or, name}
+use Rattle.file_syntax.specs.Cursors.{Cursor, cursor, u16, u16or, name}
 use Rattle.file_section.specs.Headers.{global_counts, counts, roles, header}
 use Rattle.file_syntax.proofs.CursorLaws.{u16-read, u16or-read}
 

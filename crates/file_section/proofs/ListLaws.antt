@@ -8,8 +8,7 @@ use lib.ListN.{length, get_or, set}
 use borrow.Author.Tests.{eq-eqb, ne_eqb, lt-ltb, le-ltb}
 use Rattle.prelude.specs.Base.{when◌then◌else◌}
 use Rattle.access.specs.Le.{le16, le32, le64}
-use Rattle.file_syntax.specs.declared.cursor.Cursor.{Cursor}
-use Rattle.file_syntax.specs.Cursors.{refuse, u16, code, name, size, size_or, bits, small_count}
+use Rattle.file_syntax.specs.Cursors.{Cursor, refuse, u16, code, name, size, size_or, bits, small_count}
 use Rattle.access.specs.Loops.{run}
 use Rattle.file_syntax.specs.Statements.{body}
 use Rattle.file_section.specs.Names.{reading, names}

@@ -9,8 +9,7 @@ use lib.ListN.{get_or, set}
 use borrow.Author.Tests.{eq-eqb, ne_eqb}
 use Rattle.prelude.specs.Base.{when◌then◌else◌}
 use Rattle.access.specs.Le.{le16}
-use Rattle.file_syntax.specs.declared.cursor.Cursor.{Cursor}
-use Rattle.file_syntax.specs.Cursors.{refuse, u8, skip}
+use Rattle.file_syntax.specs.Cursors.{Cursor, refuse, u8, skip}
 use Rattle.file_section.specs.Names.{reading, agree, rest_alike, alike, known, letters, spelling, name_at}
 
 pub agree_start : (s : List ℕ) (a b n : ℕ) → agree (n + 1 - 2) 2 s a b ≡ rest_alike s a b n
