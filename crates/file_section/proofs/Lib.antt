@@ -3,3 +3,4 @@ mod HeaderLaws
 mod NameLaws
 mod ChainLaws
 mod ListLaws
+mod RefusedLaws

@@ -170,3 +170,11 @@ pub fn bits(stream: &[u8], cursor: Cursor) -> Result<Cursor, Refused>
     let first = u16_below(stream, BITS, Refusal::OutsideLimit, cursor)?;
     u16_below(stream, BITS, Refusal::OutsideLimit, first)
 }
+
+impl From<Refused> for Refusal {
+    ghost from_gives = { λ refused refusal. refusal ≡ refused.refusal };
+
+    fn from(refused: Refused) -> Refusal {
+        refused.refusal
+    }
+}
