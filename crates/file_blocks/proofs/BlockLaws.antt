@@ -1,6 +1,6 @@
 -- One law for each way out of the functions over blocks.
 use mathlib.Core.Path.{◌≡◌, refl, sym, ◌∙◌, ap}
-use mathlib.Core.Bool.{true, false}
+use mathlib.Core.Bool.{Bool, true, false}
 use mathlib.Core.List.{List, [], ◌∷◌, ◌++◌, append-nil, append_assoc}
 use Prim.Native.Nat.{ℕ, suc, ◌+◌, ◌-◌, ◌*◌, ◌/◌, ◌%◌, ◌≤◌, ◌<◌}
 use native.Mathlib.Omega.{arith}
@@ -62,19 +62,19 @@ refusal_map (refused r) f = refl
 one_more : (left block rest : List ℕ) → left ≡ block ++ rest → length block ≡ 512 → (length left / 512 ≡ suc (length rest / 512)) × (take 512 left ≡ block) × (drop 512 left ≡ rest)
 one_more left block rest e l = (rw (e, length-append, l) (omega arith), rw e (take_at block rest 512 l), rw e (drop_at block rest 512 l))
 
-pub block_right : (left block rest : List ℕ) (k w : ℕ) → left ≡ block ++ rest → length block ≡ 512 → checks_out k block ≡ true → refusal_of (payloads (length left / 512) k left) ≡ w → refusal_of (payloads (length rest / 512) (k + 1) rest) ≡ w
+pub block_right : (left block rest : List ℕ) (k j w : ℕ) (b : Bool) → left ≡ block ++ rest → length block ≡ 512 → j ≡ k → b ≡ checks_out j block → b ≡ true → refusal_of (payloads (length left / 512) k left) ≡ w → refusal_of (payloads (length rest / 512) (k + 1) rest) ≡ w
 unfolding payloads bytes require on
-block_right left block rest k w e l q g =
+block_right left block rest k j w b e l h p q g =
     let m = one_more left block rest e l in
     let o : k + 1 ≡ suc k = omega arith in
-    let c : checks_out k (take 512 left) ≡ true = rw m.1 q in
+    let c : checks_out k (take 512 left) ≡ true = rw (m.1, ← h, ← p) q in
     rw o (sym (refusal_map _ _) ∙ rw (m.0, c, m.2) at g)
 
-pub block-wrong : (left block rest : List ℕ) (k w : ℕ) → left ≡ block ++ rest → length block ≡ 512 → checks_out k block ≡ false → refusal_of (payloads (length left / 512) k left) ≡ w → 2 ≡ w
+pub block-wrong : (left block rest : List ℕ) (k j w : ℕ) (b : Bool) → left ≡ block ++ rest → length block ≡ 512 → j ≡ k → b ≡ checks_out j block → b ≡ false → refusal_of (payloads (length left / 512) k left) ≡ w → 2 ≡ w
 unfolding payloads bytes require on refusal_of refusal_number
-block-wrong left block rest k w e l q g =
+block-wrong left block rest k j w b e l h p q g =
     let m = one_more left block rest e l in
-    let c : checks_out k (take 512 left) ≡ false = rw m.1 q in
+    let c : checks_out k (take 512 left) ≡ false = rw (m.1, ← h, ← p) q in
     rw (m.0, c) at g
 
 pub blocks_end : (left : List ℕ) (k w : ℕ) → length left < 512 → refusal_of (payloads (length left / 512) k left) ≡ w → 0 ≡ w

@@ -1,4 +1,4 @@
-use mathlib.Core.Path.{sym, ◌∙◌}
+use mathlib.Core.Path.{◌∙◌}
 use native.Mathlib.Omega.{arith}
 use Rattle.file_blocks.proofs.BlockLaws.{length_none, length_past, length_broken, blocks_start, block_right, block-wrong, blocks_end}
 use Rattle.file_blocks.proofs.blocks.check_blocks.Goals as goal
@@ -18,12 +18,12 @@ loop-k-init c = let b = blocks_start _ c.if-len-eq0.false c.if-len-gt65536.false
 pub returns-then-not-checks_out : goal.returns-then-not-checks_out
 returns-then-not-checks_out c =
     let s = c.in-Some.ensures.steps in
-    block-wrong _ _ _ _ _ s.0.1.0 (s.0.1.1 ∙ c.loop-k.invariant.0) (rw s.1 at (sym c.checks_out.ensures ∙ c.if-not-checks_out.true)) c.loop-k.invariant.1
+    block-wrong _ _ _ _ _ _ _ s.0.1.0 (s.0.1.1 ∙ c.loop-k.invariant.0) s.1 c.checks_out.ensures c.if-not-checks_out.true c.loop-k.invariant.1
 
 pub loop-k-preserved : goal.loop-k-preserved
 loop-k-preserved c =
     let s = c.in-Some.ensures.steps in
-    (s.0.0 ∙ c.loop-k.invariant.0, rw s.2 (block_right _ _ _ _ _ s.0.1.0 (s.0.1.1 ∙ c.loop-k.invariant.0) (rw s.1 at (sym c.checks_out.ensures ∙ c.if-not-checks_out.false)) c.loop-k.invariant.1))
+    (s.0.0 ∙ c.loop-k.invariant.0, rw s.2 (block_right _ _ _ _ _ _ _ s.0.1.0 (s.0.1.1 ∙ c.loop-k.invariant.0) s.1 c.checks_out.ensures c.if-not-checks_out.false c.loop-k.invariant.1))
 
 pub returns : goal.returns
 returns c =
