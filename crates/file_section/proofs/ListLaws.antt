@@ -7,12 +7,12 @@ use native.Mathlib.Omega.{arith}
 use lib.ListN.{length, get_or, set}
 use borrow.Author.Tests.{eq-eqb, ne_eqb}
 use Rattle.access.specs.Le.{le16, le32, le64}
-use Rattle.file_syntax.specs.Cursors.{Cursor, refuse}
+use Rattle.file_syntax.specs.Cursors.{Cursor}
 use Rattle.access.specs.Loops.{run}
 use Rattle.file_syntax.specs.Statements.{body}
 use Rattle.file_section.specs.Names.{reading}
 use Rattle.file_section.specs.Lists.{macro_head, noted, macro, entry, list}
-use Rattle.file_section.specs.Stream.{zeros, tail}
+use Rattle.file_section.specs.Stream.{zeros}
 use Rattle.access.proofs.LoopLaws.{run_end}
 
 pub macro_opened : (s : List ℕ) (m i : ℕ) (c : Cursor) (t : List ℕ) → macro s m i (reading c t) ≡ reading (body s m (macro_head s m c).val (macro_head s m c)) (noted i c.at (macro_head s m c).val t)

@@ -20,19 +20,17 @@ ghost use Rattle.file_syntax.specs.Reads.{to_cursor};
 
 use codes::refusal::Refusal;
 use codes::table;
-use file_syntax::cursor::{Cursor, Refused};
+use file_syntax::cursor::{Cursor, Refused, place_of};
 use file_syntax::statements::body;
 use header::header;
 use lists::lists;
 use names::{low, names};
-use places::place_of;
 use zeros::tail;
 
 mod chains;
 mod header;
 mod lists;
 mod names;
-mod places;
 mod zeros;
 
 // The section's own statements, and the end.

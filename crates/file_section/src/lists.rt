@@ -6,11 +6,11 @@ ghost use Rattle.file_section.specs.Lists.{slot, stamp, mark, named, after, para
 ghost use Rattle.file_syntax.specs.Reads.{good, to_cursor};
 
 use crate::names::low;
-use crate::places::{last_number, place_of};
 use codes::refusal::Refusal;
 use codes::{header, symbol_kind, table};
 use file_syntax::cursor::{
-    Cursor, Refused, bits, code, name, refuse, size, size_or, small_count, u16_below,
+    Cursor, Refused, bits, code, last_number, name, place_of, refuse, size, size_or, small_count,
+    u16_below,
 };
 use file_syntax::statements::body;
 

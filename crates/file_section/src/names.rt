@@ -6,9 +6,8 @@ ghost use Rattle.file_section.specs.Chains.{Hashed, Linked};
 ghost use Rattle.file_syntax.specs.Reads.{to_cursor};
 
 use crate::chains::{CHAINS, LAST, hash, link};
-use crate::places::place_of;
 use codes::refusal::Refusal;
-use file_syntax::cursor::{Cursor, Refused, refuse, skip, u8_below};
+use file_syntax::cursor::{Cursor, Refused, place_of, refuse, skip, u8_below};
 
 // A name has fewer letters than this.
 const LETTERS: u64 = 25;

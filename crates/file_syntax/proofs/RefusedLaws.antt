@@ -3,53 +3,20 @@ use mathlib.Core.Path.{◌≡◌, refl, sym, ◌∙◌}
 use mathlib.Core.Bool.{false}
 use mathlib.Core.List.{List}
 use Prim.Native.Nat.{ℕ, zero, suc, ◌+◌, ◌-◌, ◌<◌}
+use native.Mathlib.Omega.{arith}
 use lib.Dec.{eqb}
+use borrow.Author.Tests.{ne_eqb}
 use Rattle.codes.specs.declared.refusal.Refusal.{Refusal}
 use Rattle.codes.specs.Refusals as refusals
+use Rattle.codes.proofs.Numbers.{number-positive}
 use Rattle.access.specs.Loops.{run}
 use Rattle.access.proofs.LoopLaws.{run_again}
 use Rattle.file_syntax.specs.Cursors.{Cursor, cursor, refuse, number, u8, u16, u16or, skip}
 use Rattle.file_syntax.specs.Expressions.{counted, kind_of, after_code, expr}
 use Rattle.file_syntax.specs.Statements.{jump_of, after_jump, jump_label, target_of, after_target, branch_dst, form_of, after_form, statement, body}
 
--- no refusal has the number 0
 pub refusal_number : (r : Refusal) → eqb (refusals.number r) 0 ≡ false
-refusal_number Refusal.BadLength = refl
-refusal_number Refusal.BlockCheck = refl
-refusal_number Refusal.Malformed = refl
-refusal_number Refusal.OutsideLimit = refl
-refusal_number Refusal.NamesNothing = refl
-refusal_number Refusal.SpelledTwice = refl
-refusal_number Refusal.TooManyStatements = refl
-refusal_number Refusal.MacroTooDeep = refl
-refusal_number Refusal.ListFull = refl
-refusal_number Refusal.TooManyTemporaries = refl
-refusal_number Refusal.TooManyLabels = refl
-refusal_number Refusal.AfterExport = refl
-refusal_number Refusal.Redeclared = refl
-refusal_number Refusal.Undefined = refl
-refusal_number Refusal.WrongKind = refl
-refusal_number Refusal.AbsentTable = refl
-refusal_number Refusal.DelaySlotArgument = refl
-refusal_number Refusal.MacroArguments = refl
-refusal_number Refusal.LabelTwice = refl
-refusal_number Refusal.StoreToNoAddress = refl
-refusal_number Refusal.JumpToNonLocal = refl
-refusal_number Refusal.AddressOfNonLocal = refl
-refusal_number Refusal.AddressOfOffset = refl
-refusal_number Refusal.ConstantPool = refl
-refusal_number Refusal.ArgumentCount = refl
-refusal_number Refusal.MacroInExpression = refl
-refusal_number Refusal.SubpieceArgument = refl
-refusal_number Refusal.SlicePastEnd = refl
-refusal_number Refusal.NotAssignable = refl
-refusal_number Refusal.ConstSpace = refl
-refusal_number Refusal.NoDefaultSpace = refl
-refusal_number Refusal.OtherSpace = refl
-refusal_number Refusal.ShiftTooFar = refl
-refusal_number Refusal.OffsetTooFar = refl
-refusal_number Refusal.SubpieceSize = refl
-refusal_number Refusal.ErrorsRecorded = refl
+refusal_number r = ne_eqb (refusals.number r) 0 (λ z. omega (arith, number-positive r))
 
 pub number_passes : (v n len lim k p : ℕ) (r : Refusal) → number v n len lim k (cursor p (refusals.number r) 0) ≡ cursor p (refusals.number r) 0
 unfolding number

@@ -29,6 +29,26 @@ pub struct Refused {
     pub refusal: Refusal,
 }
 
+// Where a reading stands, refused or not.
+pub fn place_of(reading: Result<Cursor, Refused>) -> usize
+    ensures { result ≡ (to_cursor reading).at }
+{
+    match reading {
+        Ok(cursor) => cursor.at,
+        Err(refused) => refused.at,
+    }
+}
+
+// The number read last, 0 once the reading is refused.
+pub fn last_number(reading: Result<Cursor, Refused>) -> u64
+    ensures { result ≡ (to_cursor reading).val }
+{
+    match reading {
+        Ok(cursor) => cursor.val,
+        Err(_) => 0,
+    }
+}
+
 #[tactic(auto, unfolding(crate::specs::Cursors::refuse))]
 pub fn refuse(refusal: Refusal, cursor: Cursor) -> Result<Cursor, Refused>
     ensures { to_cursor result ≡ refuse (number refusal) (good cursor) }
