@@ -10,8 +10,6 @@ use types.Run.{OneOf, miss}
 use denote.Enum.Declared.{tag_of}
 use borrow.Author.Tests.{eqb-true, eqb-false, eq-eqb, ne_eqb, lt-ltb, le-ltb}
 use Rattle.access.specs.Le.{le16, le64}
-use Rattle.file_syntax.specs.Cursors.{Cursor, cursor}
-use Rattle.file_syntax.specs.Expressions as section
 use Rattle.list_values.specs.declared.value.Value.{Value}
 use Rattle.list_pushes.specs.declared.push.State.{State}
 use Rattle.list_pushes.specs.declared.push.Env.{Env}
@@ -54,10 +52,6 @@ part_deref code h = rw (eq-eqb code 6 h)
 pub part_other : (code : ℕ) → (code ≡ 6 → ⊥) → 1 ≡ part_at code
 unfolding part_at
 part_other code h = rw (ne_eqb code 6 h)
-
-pub skip_law : (s : List ℕ) (pos n : ℕ) (c : Cursor) → n ≡ le16 s 2 → c ≡ section.expr 32 s n (cursor pos 0 0) → c.at ≡ skip_expr s pos
-unfolding skip_expr
-skip_law s pos n c e q = ap (λ (x : Cursor). x.at) (q ∙ ap (λ (k : ℕ). section.expr 32 s k (cursor pos 0 0)) (e))
 
 -- ---- answers
 pub then_no : (next : ℕ) (r : Read) (n : ℕ) → r ≡ Read.No n → Operand.No n ≡ value_then next r
@@ -394,6 +388,6 @@ value_plain d s t p e pos a m st q z f h g = rw g (go (eqb d 0) refl (eqb (get_o
     go false ex false ey true ew f = rw f (integer_atom d s t p e pos a m st (eqb-false d 0 ex) (eqb-true (get_or s (pos + 0) 0) 1 ew))
     go false ex false ey false ew f = absurd (omega arith)
 
-pub ruleset expr_laws = (later_second, later_first, part_deref, part_other, skip_law, then_no, then_value, means-wrong, means_value, apply1_no, apply1_value, apply2_no, apply2_value, address_local, address_other, address_wrong, address_meant_lem, name_plain, name_other, atom_name, atom_integer, atom_address, plain_deep, plain_name, plain_integer, plain_none, operand-local, operand_integer, operation_33, operation_34, operation_35, operation_36, operation_37, operation_38, operation-same, order_written, order_swapped, with_truncate, with_slice, with_deref)
+pub ruleset expr_laws = (later_second, later_first, part_deref, part_other, then_no, then_value, means-wrong, means_value, apply1_no, apply1_value, apply2_no, apply2_value, address_local, address_other, address_wrong, address_meant_lem, name_plain, name_other, atom_name, atom_integer, atom_address, plain_deep, plain_name, plain_integer, plain_none, operand-local, operand_integer, operation_33, operation_34, operation_35, operation_36, operation_37, operation_38, operation-same, order_written, order_swapped, with_truncate, with_slice, with_deref)
 
 pub ruleset walk_laws = (part_no, part_yes, value_no, value_yes, value_plain, operator_no, operator_yes, inbuilt-one, inbuilt_no, inbuilt-two, user_no, user_yes, call-inbuilt, call-user-op, call-subpiece, call-refused, expr_deep, expr-atom, expr_operator, expr-part, expr_pool, expr-call)

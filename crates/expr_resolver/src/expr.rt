@@ -12,7 +12,7 @@ use expr_terms::address::resolve_address;
 use expr_terms::answers::{Expr, Operand, after};
 use expr_terms::calls::{Callee, applied, call_user_op, callee_of, subpiece};
 use expr_terms::slices::slice_bits;
-use file_syntax::cursor::Cursor;
+use file_syntax::cursor::{Cursor, place_of};
 use list_pushes::push::{Env, Read, State};
 use list_values::value::{Value, absent, local};
 
@@ -152,20 +152,13 @@ fn later(place: usize, other: usize) -> usize
 }
 
 // Where the expression at a position ends.
+#[tactic(auto, unfolding(crate::specs::Expressions::skip_expr))]
 pub fn skip_expr(stream: &[u8], pos: usize) -> usize
     ensures { result ≡ skip_expr stream.now pos }
 {
-    let c = file_syntax::expressions::expr(
-        DEPTH,
-        stream,
-        access::u16_at(stream, header::NAMES),
-        Cursor {
-            at: pos,
-            bad: 0,
-            val: 0,
-        },
-    );
-    c.at
+    let start = Cursor { at: pos, val: 0 };
+    let names = access::u16_at(stream, header::NAMES);
+    place_of(file_syntax::expressions::expr(DEPTH, stream, names, start))
 }
 
 // The six greater operators swap their operands before either is resolved.

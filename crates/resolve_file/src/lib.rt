@@ -120,15 +120,15 @@ fn resolve_section(
     }
 }
 
+#[tactic(auto, using(crate::proofs::FileLaws::not_zero), unfolding(crate::specs::Files::resolve_stream, crate::specs::Files::resolve_read))]
 fn resolve_stream(stream: &[u8], actions: &mut [u64], temporaries: &mut [u64]) -> Answer
     ensures { resolved_to result actions.new temporaries.new ≡ resolve_stream stream.now actions.old temporaries.old }
 {
     let mut t = [0u16; table::LENGTH];
-    let bad = file_section::read_stream(stream, &mut t);
-    if bad != 0 {
-        return refused(actions, temporaries, bad, NONE, 0);
+    match file_section::read_stream(stream, &mut t) {
+        Ok(()) => resolve_section(stream, &t, actions, temporaries),
+        Err(refusal) => refused(actions, temporaries, u64::from(refusal), NONE, 0),
     }
-    resolve_section(stream, &t, actions, temporaries)
 }
 
 // The stream is the first n bytes.
@@ -150,12 +150,12 @@ fn resolve_blocks(file: &[u8], actions: &mut [u64], temporaries: &mut [u64]) -> 
     resolve_front(&buf, n, actions, temporaries)
 }
 
+#[tactic(auto, using(crate::proofs::FileLaws::words_laws), unfolding(crate::specs::Files::resolve_file))]
 pub fn resolve_words(file: &[u8], actions: &mut [u64], temporaries: &mut [u64]) -> Answer
     ensures { resolved_to result actions.new temporaries.new ≡ resolve_file file.now actions.old temporaries.old }
 {
-    let bad = file_blocks::blocks::check_blocks(file);
-    if bad != 0 {
-        return refused(actions, temporaries, bad, NONE, 0);
+    if let Err(refusal) = file_blocks::blocks::check_blocks(file) {
+        return refused(actions, temporaries, u64::from(refusal), NONE, 0);
     }
     if file.len() == 512 {
         return resolve_front(file, 510, actions, temporaries);
