@@ -4,3 +4,4 @@ mod NameLaws
 mod ChainLaws
 mod ListLaws
 mod RefusedLaws
+mod ZeroLaws

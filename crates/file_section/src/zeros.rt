@@ -7,34 +7,28 @@ use access::inside::eight;
 use codes::refusal::Refusal;
 use file_syntax::cursor::{Cursor, Refused, refuse};
 
-// From a place on: the place of the first eight bytes that are not all zero, or of the last seven.
-fn past_zeros(stream: &[u8], from: usize) -> usize
-    ensures { zeros (length stream.now - result) result stream.now ≡ zeros (length stream.now - from) from stream.now }
+// Whether all bytes are zero.
+fn all_zeros(bytes: &[u8]) -> bool
+    ensures { result ≡ zeros (length bytes.now) 0 bytes.now }
 {
-    let n = stream.len();
-    if n < 8 {
-        return from;
-    }
-    let mut i = from;
-    while i < n - 7 {
-        if eight(stream, i) != 0 {
-            return i;
+    let words = bytes.chunks_exact(8);
+    let last = words.remainder();
+    for word in words {
+        if eight(word, 0) != 0 {
+            return false;
         }
-        i += 8;
     }
-    i
+    last.iter().all(|&byte| byte == 0)
 }
 
 // Whether the stream is zero from a place on.
 fn only_zeros(stream: &[u8], from: usize) -> bool
     ensures { result ≡ zeros (length stream.now - from) from stream.now }
 {
-    for i in past_zeros(stream, from)..stream.len() {
-        if stream[i] != 0 {
-            return false;
-        }
+    if stream.len() < from {
+        return true;
     }
-    true
+    all_zeros(&stream[from..])
 }
 
 // The stream after the cursor is zero.

@@ -1,16 +1,8 @@
-use Rattle.file_section.proofs.ListLaws.{zeros_found, zeros_more, zeros-end}
+use Rattle.file_section.proofs.ZeroLaws.{clear_past, clear_tail}
 use Rattle.file_section.proofs.zeros.only_zeros.Goals as goal
 
-pub loop-i-init : goal.loop-i-init
-loop-i-init c = c.past_zeros-i.ensures
-
-pub returns-then-stream-i-ne0 : goal.returns-then-stream-i-ne0
-returns-then-stream-i-ne0 c =
-    zeros_found c.args.stream.now _ _ c.loop-i-test.true c.if-stream-i-ne0.true c.loop-i.invariant
-
-pub loop-i-preserved : goal.loop-i-preserved
-loop-i-preserved c =
-    zeros_more c.args.stream.now _ _ c.loop-i-test.true c.if-stream-i-ne0.false c.loop-i.invariant
+pub returns-then-stream-from : goal.returns-then-stream-from
+returns-then-stream-from c = clear_past _ _ c.if-stream-from.true
 
 pub returns : goal.returns
-returns c = zeros-end c.args.stream.now _ _ c.loop-i-test.false c.loop-i.invariant
+returns c = clear_tail c.args.stream.now c.args.from _ c.all_zeros.ensures
