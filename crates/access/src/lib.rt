@@ -16,7 +16,7 @@ pub fn byte(bytes: &[u8], at: usize, index: usize) -> u64
 {
     if at < bytes.len() {
         if index < bytes.len() - at {
-            return bytes[at + index] as u64;
+            return u64::from(bytes[at + index]);
         }
     }
     0
@@ -125,6 +125,6 @@ pub fn mask(bits: u64) -> u64
     if bits < 64 {
         (1u64 << bits) - 1
     } else {
-        18446744073709551615
+        u64::MAX
     }
 }
