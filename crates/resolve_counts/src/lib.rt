@@ -31,6 +31,7 @@ fn table_counts(stream: &[u8], table: &[u16; table::LENGTH]) -> Counts
     Counts { subtables, pointer }
 }
 
+#[tactic(auto, using(crate::proofs::Laws::not_zero), unfolding(crate::specs::Counts::stream_counts, crate::specs::Counts::read_counts))]
 fn stream_counts(stream: &[u8]) -> Counts
     ensures { result ≡ stream_counts stream.now }
 {
@@ -60,6 +61,7 @@ fn blocks_counts(file: &[u8]) -> Counts
     front_counts(&buf, n)
 }
 
+#[tactic(auto, using(crate::proofs::Laws::section_laws))]
 pub fn section_counts(file: &[u8]) -> Counts
     ensures { result ≡ counts (subtable_count (read file.now)) (pointer_size_in (read file.now)) }
 {
