@@ -30,13 +30,7 @@ pub fn check_blocks(file: &[u8]) -> Result<(), Refusal>
     ensures { number_or_zero result ≡ refusal_of (stream_of file.now) }
 {
     let len = file.len();
-    if len == 0 {
-        return Err(Refusal::BadLength);
-    }
-    if len > 65536 {
-        return Err(Refusal::BadLength);
-    }
-    if len % 512 != 0 {
+    if len == 0 || len > 65536 || len % 512 != 0 {
         return Err(Refusal::BadLength);
     }
     for (k, block) in file.chunks_exact(512).enumerate() {

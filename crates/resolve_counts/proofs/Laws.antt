@@ -3,12 +3,13 @@ use Prim.Native.Nat.{ℕ, ◌*◌, ◌/◌, ◌≤◌, ◌<◌}
 use mathlib.Core.Path.{◌≡◌, sym, ◌∙◌}
 use mathlib.Core.List.{List, ◌++◌}
 use lib.ListN.{length, take, replicate}
-use mathlib.Core.Bool.{false}
+use mathlib.Core.Bool.{Bool, true, false}
 use lib.Dec.{eqb}
 use borrow.Author.Tests.{ne_eqb}
 use Rattle.access.specs.Le.{le16}
 use Rattle.codes.specs.declared.refusal.Refusal.{Refusal}
-use Rattle.codes.specs.Refusals.{number}
+use Rattle.codes.specs.Refusals.{number, number_or_zero}
+use Rattle.std.specs.Prelude.{Result, Ok, Err, is_err}
 use Rattle.codes.proofs.Numbers.{number-nonzero}
 use Rattle.definition.specs.SectionFile.{stream_of, read}
 use Rattle.definition.specs.Passing.{subtable_count, pointer_size_in}
@@ -32,8 +33,9 @@ pub blocks_law : (file rest buf : List ℕ) (r : Counts) → buf ≡ joined (len
 blocks_law file rest buf r e f = rw (e, front file rest) at f
 
 module _ (file : List ℕ) where
-  pub refused : (r : Refusal) → number r ≡ refusal_of (stream_of file) → counts 0 0 ≡ counts (subtable_count (read file)) (pointer_size_in (read file))
-  refused r p = refused-counts file (number r) p (number-nonzero r)
+  pub refused_when : {A : Type 0} (r : Result A Refusal) (b : Bool) → number_or_zero r ≡ refusal_of (stream_of file) → b ≡ is_err r → b ≡ true → counts 0 0 ≡ counts (subtable_count (read file)) (pointer_size_in (read file))
+  refused_when (Ok x) b p q h = cc
+  refused_when (Err e) b p q h = refused-counts file (number e) p (number-nonzero e)
 
   pub blocks : (r : Counts) → 0 ≡ refusal_of (stream_of file) → r ≡ stream_counts (joined (length file / 512) file) → r ≡ counts (subtable_count (read file)) (pointer_size_in (read file))
   blocks r p e = e ∙ file-counts file (sym p)
@@ -44,6 +46,6 @@ module _ (file : List ℕ) where
   pub room : 0 ≡ refusal_of (stream_of file) → length file / 512 * 510 ≤ 65280
   room p = checked_room file (sym p)
 
-pub ruleset section_laws = (refused, blocks, one, room)
+pub ruleset section_laws = (blocks, one, room)
 
 pub ruleset laws = (table_law, front_room, blocks_law)
