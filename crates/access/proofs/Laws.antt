@@ -1,14 +1,13 @@
 -- What the wide reads, `zero_from` and `mask` stand on.
 use mathlib.Core.Path.{◌≡◌, sym, ◌∙◌, subst}
-use mathlib.Core.List.{List, ◌++◌, append-nil, append_assoc}
-use Prim.Native.Nat.{ℕ, suc, ◌+◌, ◌-◌, ◌*◌, ◌%◌, ◌^◌, ◌≤◌, ◌<◌, min}
+use mathlib.Core.List.{List}
+use Prim.Native.Nat.{ℕ, ◌+◌, ◌-◌, ◌*◌, ◌%◌, ◌^◌, ◌≤◌, ◌<◌, min}
 use native.Mathlib.Nat.{one-mul, add-zero, add_assoc, min-eq_left, min-eq_right}
-use native.Mathlib.Numerals.{add-one, one-add}
+use native.Mathlib.Numerals.{one-add}
 use native.Mathlib.Omega.{arith}
 use lib.Dec.{lit<}
 use lib.Pow.{shl_exact}
-use lib.ListN.{length, get_or, take, replicate, set, length-set, get_or-eq_default}
-use lib.Seq.{take_all, take-suc-set}
+use lib.ListN.{length, get_or, get_or-eq_default}
 use Rattle.access.specs.Le.{le16, le32, le64}
 
 -- two bytes of which the second is past the end, or both
@@ -26,22 +25,6 @@ quad_law s p i a b h k = (rw (add_assoc p i 2, ← h.0, ← k.0), omega arith)
 pub whole_law : (s : List ℕ) (p a b : ℕ) → (a ≡ le32 s (p + 0)) × (a < 4294967296) → (b ≡ le32 s (p + 4)) × (b < 4294967296) → a + 4294967296 * b ≡ le64 s p
 unfolding le64
 whole_law s p a b h k = rw (← k.0, h.0, add-zero)
-
--- the words from i on made 0
-unfoldable pub zeroed : ℕ → List ℕ → List ℕ
-zeroed i s = take i s ++ replicate (length s - i) 0
-
-pub zero_more : (s w : List ℕ) (i : ℕ) → i < length s → zeroed i s ≡ w → zeroed (i + 1) (set s i 0) ≡ w
-unfolding zeroed
-zero_more s w i h e =
-    let n : length s - i ≡ suc (length s - suc i) = omega arith in
-    rw (add-one, take-suc-set s i 0 h, length-set, append_assoc) (rw n at e)
-
-pub zero_done : (s w : List ℕ) (i : ℕ) → length s ≤ i → zeroed i s ≡ w → s ≡ w
-unfolding zeroed
-zero_done s w i h e =
-    let n : length s - i ≡ 0 = omega arith in
-    rw (take_all i s h, n, append-nil) at e
 
 -- `1 << n`, which the machine has as a product cut to 64 bits
 pub one_shl : (n : ℕ) → n < 64 → (1 * 2 ^ n) % 2 ^ 64 ≡ 2 ^ n

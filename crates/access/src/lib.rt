@@ -16,7 +16,7 @@ pub fn byte(bytes: &[u8], at: usize, index: usize) -> u64
 {
     if at < bytes.len() {
         if index < bytes.len() - at {
-            return bytes[at + index] as u64;
+            return u64::from(bytes[at + index]);
         }
     }
     0
@@ -67,27 +67,41 @@ pub fn u64_at(bytes: &[u8], at: usize) -> u64
     quad(bytes, at, 0) + 4294967296 * quad(bytes, at, 4)
 }
 
-pub fn get(list: &[u64], index: usize) -> u64
-    ensures { result ≡ get_or list.now index 0 }
-{
-    if index < list.len() { list[index] } else { 0 }
+// The numbers that a list may hold, each with its 0.
+pub trait Number: Copy {
+    ghost zero: { Self };
+
+    fn zero() -> Self
+        ensures { result ≡ zero };
 }
 
-pub fn put(list: &mut [u64], index: usize, value: u64)
-    ensures { list.new ≡ set list.old index value }
-{
-    if index < list.len() {
-        list[index] = value;
+impl Number for u64 {
+    ghost zero = { 0 };
+
+    fn zero() -> u64 {
+        0
     }
 }
 
-pub fn get_u16(list: &[u16], index: usize) -> u16
-    ensures { result ≡ get_or list.now index 0 }
-{
-    if index < list.len() { list[index] } else { 0 }
+impl Number for u16 {
+    ghost zero = { 0 };
+
+    fn zero() -> u16 {
+        0
+    }
 }
 
-pub fn put_u16(list: &mut [u16], index: usize, value: u16)
+pub fn get<T: Number>(list: &[T], index: usize) -> T
+    ensures { result ≡ get_or list.now index T.zero }
+{
+    if index < list.len() {
+        list[index]
+    } else {
+        T::zero()
+    }
+}
+
+pub fn put<T: Number>(list: &mut [T], index: usize, value: T)
     ensures { list.new ≡ set list.old index value }
 {
     if index < list.len() {
@@ -99,10 +113,8 @@ pub fn put_u16(list: &mut [u16], index: usize, value: u16)
 pub fn zero_from(list: &mut [u64], from: usize)
     ensures { list.new ≡ take from list.old ++ replicate (length list.old - from) 0 }
 {
-    let mut i = from;
-    while i < list.len() {
-        list[i] = 0;
-        i += 1;
+    if from < list.len() {
+        list[from..].fill(0);
     }
 }
 
@@ -113,6 +125,6 @@ pub fn mask(bits: u64) -> u64
     if bits < 64 {
         (1u64 << bits) - 1
     } else {
-        18446744073709551615
+        u64::MAX
     }
 }

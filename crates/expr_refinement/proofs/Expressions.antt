@@ -32,7 +32,7 @@ use Rattle.list_pushes.specs.declared.push.Env.{Env as WordEnv}
 use Rattle.list_pushes.specs.declared.push.Read.{Read as WordRead}
 use Rattle.list_values.specs.Values.{absent}
 use Rattle.list_pushes.specs.Pushes.{ReadOut, read}
-use Rattle.file_syntax.specs.declared.cursor.Cursor.{Cursor}
+use Rattle.file_syntax.specs.Cursors.{Cursor}
 use Rattle.file_refinement.specs.Holds.{Holds, absent_at}
 use Rattle.file_refinement.proofs.Inversion.{OpAt, CallAt, expr-begun, nothing_deeper, ident_at, integer_at, address_of_at, truncate_at, slice_bits_at, op_at, deref_at, constant_pool_at, call_at, arg_at_lem, no_arg_at}
 use Rattle.list_refinement.specs.Encoding.{enc_v, Sound, Each, first_of, second_of}

@@ -12,8 +12,7 @@ use Rattle.prelude.specs.Base.{when◌then◌else◌}
 use Rattle.definition.specs.Ast.{PcodeExpr}
 use Rattle.definition.specs.SectionFile.{Parsed, parsed, refused, on, Read, choose, args_of, expr_within}
 use Rattle.definition.specs.SectionFile as d
-use Rattle.file_syntax.specs.declared.cursor.Cursor.{Cursor}
-use Rattle.file_syntax.specs.Cursors.{cursor, refuse, number, u8, u16, u16or, skip}
+use Rattle.file_syntax.specs.Cursors.{Cursor, cursor, refuse, number, u8, u16, u16or, skip}
 use Rattle.access.specs.Loops.{run}
 use Rattle.file_syntax.specs.Expressions.{Kind, kind_of, after_code, counted}
 use Rattle.file_syntax.specs.Expressions as section

@@ -15,7 +15,7 @@ use expr_terms::address::resolve_address;
 use expr_terms::answers::{Operand, Resolved, after};
 use expr_terms::calls::{Callee, applied, call_user_op, callee_of, subpiece};
 use expr_terms::slices::slice_bits;
-use file_syntax::cursor::Cursor;
+use file_syntax::cursor::{Cursor, place_of};
 use list_pushes::push::{Env, Operation, State};
 use list_values::section::Section;
 
@@ -125,13 +125,9 @@ fn later(place: usize, other: usize) -> usize
 pub fn skip_expr(stream: &[u8], pos: usize) -> usize
     ensures { result ≡ skip_expr stream.now pos }
 {
-    let start = Cursor {
-        at: pos,
-        bad: 0,
-        val: 0,
-    };
+    let start = Cursor { at: pos, val: 0 };
     let names = access::u16_at(stream, header::NAMES);
-    file_syntax::expressions::expr(DEPTH, stream, names, start).at
+    place_of(file_syntax::expressions::expr(DEPTH, stream, names, start))
 }
 
 // The six greater operators swap their operands before either is resolved.

@@ -21,7 +21,7 @@ pub enum Symbol {
 pub fn lookup(table: &[u16; table::LENGTH], name: u64) -> Symbol
     ensures { (result ≡ lookup table.now name) × (place_of result < 8192) }
 {
-    let g = access::get_u16(table, table::GLOBALS + (name % 1024) as usize) as u64;
+    let g = access::get(table, table::GLOBALS + (name % 1024) as usize) as u64;
     if g == 0 {
         return Symbol::Undefined;
     }

@@ -72,7 +72,7 @@ pub fn callee_of(section: Section<'_>, name: u64, count: u64) -> Result<Callee, 
     ensures { to_callee result ≡ callee_of section.entry.stream.now section.entry.table.now name count }
 {
     let table = section.table;
-    let at = access::get_u16(table, (name % 1024) as usize) as usize;
+    let at = access::get(table, (name % 1024) as usize) as usize;
     let inbuilt = translate_inbuilt_func(section.stream, at);
     inbuilt_or(inbuilt, table, name, count)
 }

@@ -3,31 +3,26 @@ use mathlib.Core.Path.{◌≡◌, refl, sym, ◌∙◌, ap}
 use mathlib.Core.Bool.{Bool, true, false}
 use mathlib.Core.List.{List, [], ◌∷◌, ◌++◌, append-nil, append_assoc}
 use Prim.Native.Nat.{ℕ, suc, ◌+◌, ◌-◌, ◌*◌, ◌/◌, ◌%◌, ◌≤◌, ◌<◌}
-use native.Mathlib.Nat.{add_assoc}
-use native.Mathlib.Numerals.{add-one}
 use native.Mathlib.Omega.{arith}
-use lib.ListN.{length, get_or, set, take, drop, take-append-drop, length-append, length-drop, drop_of_length-le}
-use lib.Seq.{drop-cons, drop-drop, take-suc, take-add, set_at, length-take-le, take_all, take_at, drop_at}
+use lib.ListN.{length, take, drop, take-append-drop, length-append, length-drop}
+use lib.Seq.{drop-drop, take-add, length-take-le, take_at, drop_at}
 use lib.Dec.{eqb}
 use borrow.Author.Tests.{eq-eqb, ne_eqb, le-leb, lt-leb}
+use Rattle.std.specs.Prelude as list
 use Rattle.prelude.specs.Base.{sum}
 use Rattle.definition.specs.Refusals.{refusal_number}
 use Rattle.definition.specs.SectionFile.{Parsed, parsed, refused, on, pure, require, checks_out, bytes, payloads, whole_blocks, stream_of}
 use Rattle.access.specs.Le.{le16}
 use Rattle.file_blocks.specs.Blocks.{refusal_of, joined}
 
-pub sum_start : (b : List ℕ) → 0 + sum (drop 0 b) ≡ sum b
-sum_start b = omega arith
-
-pub sum_more : (b : List ℕ) (i total w : ℕ) → i < length b → total + sum (drop i b) ≡ w → total + get_or b i 0 + sum (drop (i + 1) b) ≡ w
+sum_from : (xs : List ℕ) (n : ℕ) → list.fold (λ a x. a + x) n xs ≡ n + sum xs
 unfolding sum
-sum_more b i total w h e = rw (add-one, add_assoc) (rw (drop-cons b i 0 h) at e)
+sum_from [] n = omega arith
+sum_from (x ∷ xs) n = omega (arith, sum_from xs (n + x))
 
-pub sum-end : (b : List ℕ) (i total w : ℕ) → length b ≤ i → total + sum (drop i b) ≡ w → total ≡ w
-unfolding sum
-sum-end b i total w h e =
-    let z : sum (drop i b) ≡ 0 = rw (drop_of_length-le b h) in
-    omega arith
+-- the library's sum
+pub sum_same : (xs : List ℕ) → list.sum xs ≡ sum xs
+sum_same xs = sum_from xs 0 ∙ omega arith
 
 sum_append : (a b : List ℕ) → sum (a ++ b) ≡ sum a + sum b
 unfolding sum
@@ -53,11 +48,10 @@ pub length_broken : (file : List ℕ) → (length file ≡ 0 → ⊥) → length
 unfolding stream_of whole_blocks require on refusal_of refusal_number
 length_broken file h p d = rw (le-leb 1 (length file) (omega arith), le-leb (length file) 65536 p, ne_eqb (length file % 512) 0 d)
 
-pub blocks_start : (file : List ℕ) → (length file ≡ 0 → ⊥) → length file ≤ 65536 → length file % 512 ≡ 0 → refusal_of (payloads (length file / 512 - 0) 0 (drop (512 * 0) file)) ≡ refusal_of (stream_of file)
+pub blocks_start : (file : List ℕ) → (length file ≡ 0 → ⊥) → length file ≤ 65536 → length file % 512 ≡ 0 → refusal_of (payloads (length file / 512) 0 file) ≡ refusal_of (stream_of file)
 unfolding stream_of whole_blocks require on
 blocks_start file h p d =
-    let z : length file / 512 - 0 ≡ length file / 512 = omega arith in
-    rw (z, le-leb 1 (length file) (omega arith), le-leb (length file) 65536 p, eq-eqb (length file % 512) 0 d)
+    rw (le-leb 1 (length file) (omega arith), le-leb (length file) 65536 p, eq-eqb (length file % 512) 0 d)
 
 refusal_map : {A B : Type 0} (x : Parsed A) (f : A → B) → refusal_of (on x (λ a. pure (f a))) ≡ refusal_of x
 unfolding on refusal_of
@@ -65,48 +59,37 @@ refusal_map (parsed a s) f = refl
 refusal_map (refused r) f = refl
 
 -- one block more: a right check leaves the rest to say, a wrong one is 2
-pub block_right : (file : List ℕ) (n k w : ℕ) (b : Bool) → k < n → b ≡ checks_out k (take (512 * k + 512 - 512 * k) (drop (512 * k) file)) → b ≡ true → refusal_of (payloads (n - k) k (drop (512 * k) file)) ≡ w → refusal_of (payloads (n - (k + 1)) (k + 1) (drop (512 * (k + 1)) file)) ≡ w
+one_more : (left block rest : List ℕ) → left ≡ block ++ rest → length block ≡ 512 → (length left / 512 ≡ suc (length rest / 512)) × (take 512 left ≡ block) × (drop 512 left ≡ rest)
+one_more left block rest e l = (rw (e, length-append, l) (omega arith), rw e (take_at block rest 512 l), rw e (drop_at block rest 512 l))
+
+pub block_right : (left block rest : List ℕ) (k j w : ℕ) (b : Bool) → left ≡ block ++ rest → length block ≡ 512 → j ≡ k → b ≡ checks_out j block → b ≡ true → refusal_of (payloads (length left / 512) k left) ≡ w → refusal_of (payloads (length rest / 512) (k + 1) rest) ≡ w
 unfolding payloads bytes require on
-block_right file n k w b h e q g =
-    let z : n - k ≡ suc (n - (k + 1)) = omega arith in
+block_right left block rest k j w b e l h p q g =
+    let m = one_more left block rest e l in
     let o : k + 1 ≡ suc k = omega arith in
-    let d : 512 * k + 512 - 512 * k ≡ 512 = omega arith in
-    let m : 512 * k + 512 ≡ 512 * suc k = omega arith in
-    let c : checks_out k (take 512 (drop (512 * k) file)) ≡ true = rw d at (sym e) ∙ q in
-    rw o (sym (refusal_map _ _) ∙ rw (z, o, c, drop-drop, m) at g)
+    let c : checks_out k (take 512 left) ≡ true = rw (m.1, ← h, ← p) q in
+    rw o (sym (refusal_map _ _) ∙ rw (m.0, c, m.2) at g)
 
-pub block-wrong : (file : List ℕ) (n k w : ℕ) (b : Bool) → k < n → b ≡ checks_out k (take (512 * k + 512 - 512 * k) (drop (512 * k) file)) → b ≡ false → refusal_of (payloads (n - k) k (drop (512 * k) file)) ≡ w → 2 ≡ w
+pub block-wrong : (left block rest : List ℕ) (k j w : ℕ) (b : Bool) → left ≡ block ++ rest → length block ≡ 512 → j ≡ k → b ≡ checks_out j block → b ≡ false → refusal_of (payloads (length left / 512) k left) ≡ w → 2 ≡ w
 unfolding payloads bytes require on refusal_of refusal_number
-block-wrong file n k w b h e q g =
-    let z : n - k ≡ suc (n - (k + 1)) = omega arith in
-    let d : 512 * k + 512 - 512 * k ≡ 512 = omega arith in
-    let c : checks_out k (take 512 (drop (512 * k) file)) ≡ false = rw d at (sym e) ∙ q in
-    rw (z, c) at g
+block-wrong left block rest k j w b e l h p q g =
+    let m = one_more left block rest e l in
+    let c : checks_out k (take 512 left) ≡ false = rw (m.1, ← h, ← p) q in
+    rw (m.0, c) at g
 
-pub blocks_end : (file : List ℕ) (n k w : ℕ) → n ≤ k → refusal_of (payloads (n - k) k (drop (512 * k) file)) ≡ w → 0 ≡ w
+pub blocks_end : (left : List ℕ) (k w : ℕ) → length left < 512 → refusal_of (payloads (length left / 512) k left) ≡ w → 0 ≡ w
 unfolding payloads refusal_of
-blocks_end file n k w h g = let z : n - k ≡ 0 = omega arith in rw z at g
-
--- one byte more of a payload
-pub copy_more : (block to₀ to : List ℕ) (i : ℕ) → i < length block → i < length to₀ → to ≡ take i block ++ drop i to₀ → set to i (get_or block i 0) ≡ take (i + 1) block ++ drop (i + 1) to₀
-copy_more block to₀ to i h k e =
-    rw (e, add-one, drop-cons to₀ i 0 k, take-suc block i 0 h, set_at (take i block) (get_or to₀ i 0) (drop (suc i) to₀) (get_or block i 0) i (length-take-le i block (omega arith)), append_assoc)
-
-pub copy_end : (block to₀ to : List ℕ) (i n : ℕ) → i ≤ n → n ≤ i → to ≡ take i block ++ drop i to₀ → to ≡ take n block ++ drop n to₀
-copy_end block to₀ to i n h k e = let z : i ≡ n = omega arith in rw (← z) e
+blocks_end left k w h g = let z : length left / 512 ≡ 0 = omega arith in rw z at g
 
 -- a payload in its place: what stands before it, the payload, and what stands after it
-pub placed : (file stream x y : List ℕ) (k : ℕ) → 512 * k + 512 ≤ length file → 510 * k + 510 ≤ length stream →
-    y ≡ take 510 (take (length file - 512 * k) (drop (512 * k) file)) ++ drop 510 (take (length stream - 510 * k) (drop (510 * k) stream)) →
-    x ≡ take (510 * k) stream ++ (y ++ drop (length stream - 510 * k) (drop (510 * k) stream)) →
+pub placed : (file stream x y : List ℕ) (k : ℕ) →
+    y ≡ take (512 * k + 510 - 512 * k) (drop (512 * k) file) →
+    x ≡ take (510 * k) stream ++ (y ++ drop (510 * k + 510 - 510 * k) (drop (510 * k) stream)) →
     x ≡ (take (510 * k) stream ++ take 510 (drop (512 * k) file)) ++ drop 510 (drop (510 * k) stream)
-placed file stream x y k hf hs ey ex =
-    let lf : length (drop (512 * k) file) ≡ length file - 512 * k = length-drop (512 * k) file in
-    let ls : length (drop (510 * k) stream) ≡ length stream - 510 * k = length-drop (510 * k) stream in
-    let a : take (length file - 512 * k) (drop (512 * k) file) ≡ drop (512 * k) file = take_all (length file - 512 * k) (drop (512 * k) file) (omega arith) in
-    let b : take (length stream - 510 * k) (drop (510 * k) stream) ≡ drop (510 * k) stream = take_all (length stream - 510 * k) (drop (510 * k) stream) (omega arith) in
-    let z : drop (length stream - 510 * k) (drop (510 * k) stream) ≡ [] = drop_of_length-le (drop (510 * k) stream) {i = length stream - 510 * k} (omega arith) in
-    ex ∙ rw (z, append-nil, ey, a, b, append_assoc)
+placed file stream x y k ey ex =
+    let a : 512 * k + 510 - 512 * k ≡ 510 = omega arith in
+    let b : 510 * k + 510 - 510 * k ≡ 510 = omega arith in
+    ex ∙ rw (ey, a, b, append_assoc)
 
 before : (file stream : List ℕ) (k : ℕ) → 512 * k + 512 ≤ length file → 510 * k + 510 ≤ length stream → length (take (510 * k) stream ++ take 510 (drop (512 * k) file)) ≡ 510 * (k + 1)
 before file stream k hf hs =

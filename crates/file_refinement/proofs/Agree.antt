@@ -16,8 +16,7 @@ use Rattle.definition.specs.Refusals.{Refusal, refusal_number, malformed, outsid
 use Rattle.definition.specs.SectionFile.{Parsed, parsed, refused, on, Read, require, little_endian, up_to, naming, or_absent, pure}
 use Rattle.definition.specs.SectionFile as d
 use Rattle.access.specs.Le.{le16}
-use Rattle.file_syntax.specs.declared.cursor.Cursor.{Cursor}
-use Rattle.file_syntax.specs.Cursors.{cursor, refuse, number, u8, u16, u16or, skip}
+use Rattle.file_syntax.specs.Cursors.{Cursor, cursor, refuse, number, u8, u16, u16or, skip}
 
 -- P says what holds of the thing, the position after it and the cursor's number
 pub data Agrees (s : List ℕ) {A : Type 0} (P : A → ℕ → ℕ → Type 0) (x : Parsed A) (c : Cursor) : Type 0 where

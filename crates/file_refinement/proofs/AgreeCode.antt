@@ -14,8 +14,7 @@ use Rattle.definition.specs.Refusals.{refusal_number, malformed, outside_limit, 
 use Rattle.definition.specs.Ast.{PcodeExpr, Args, no_args, arg, JumpLabel, BranchDst, BranchHint, Statement}
 use Rattle.definition.specs.SectionFile.{parsed, refused, on, Read, pure, refuse, choose, little_endian, up_to, naming, args_of, list_of}
 use Rattle.definition.specs.SectionFile as d
-use Rattle.file_syntax.specs.declared.cursor.Cursor.{Cursor}
-use Rattle.file_syntax.specs.Cursors.{cursor, number, u8, u16, skip}
+use Rattle.file_syntax.specs.Cursors.{Cursor, cursor, number, u8, u16, skip}
 use Rattle.access.specs.Loops.{run}
 use Rattle.file_syntax.specs.Cursors as w
 use Rattle.file_syntax.specs.Expressions.{counted, Kind, kind_of, after_code}

@@ -8,7 +8,6 @@ use native.Mathlib.Omega.{arith}
 use lib.ListN.{length, get_or, set, take, drop, get_elem?, length-set, length-drop}
 use lib.Seq.{get_or-set_same, get_or-set_other}
 use borrow.Author.Tests.{ne_eqb, lt-ltb, le-ltb}
-use Rattle.prelude.specs.Base.{when◌then◌else◌}
 use Rattle.definition.specs.Refusals.{refusal_number, names_nothing}
 use Rattle.definition.specs.Ast.{SpaceKind, Macro, Statement}
 use Rattle.definition.specs.SectionFile.{Parsed, parsed, refused, on, Read, pure, list_of, up_to, naming, little_endian}

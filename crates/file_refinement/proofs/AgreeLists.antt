@@ -16,8 +16,7 @@ use Rattle.definition.specs.Refusals.{Refusal, refusal_number, spelled_twice}
 use Rattle.definition.specs.SectionFile.{on, Read, require}
 use Rattle.definition.specs.SectionFile as d
 use Rattle.access.specs.Le.{le16}
-use Rattle.file_syntax.specs.declared.cursor.Cursor.{Cursor}
-use Rattle.file_syntax.specs.Cursors.{cursor, refuse}
+use Rattle.file_syntax.specs.Cursors.{Cursor, cursor, refuse}
 use Rattle.access.specs.Loops.{run}
 use Rattle.file_syntax.specs.Cursors as w
 use Rattle.file_section.specs.Names.{Reading, reading}

@@ -16,8 +16,7 @@ use Rattle.definition.specs.SectionFile.{Parsed, parsed, refused, on, Read, pure
 use Rattle.definition.specs.Ast.{Header}
 use Rattle.definition.specs.SectionFile as d
 use Rattle.access.specs.Le.{le16}
-use Rattle.file_syntax.specs.declared.cursor.Cursor.{Cursor}
-use Rattle.file_syntax.specs.Cursors.{cursor, number, u8, u16, u16or, skip}
+use Rattle.file_syntax.specs.Cursors.{Cursor, cursor, number, u8, u16, u16or, skip}
 use Rattle.access.specs.Loops.{run}
 use Rattle.file_syntax.specs.Cursors as w
 use Rattle.file_section.specs.Headers.{global_counts, counts, roles, header}

@@ -14,8 +14,7 @@ use Rattle.definition.specs.Ast.{Space, Register, BitRange, Table, Macro, Field,
 use Rattle.definition.specs.SectionFile.{on, pure, require, list_of, nothing_left}
 use Rattle.definition.specs.SectionFile as d
 use Rattle.access.specs.Le.{le16}
-use Rattle.file_syntax.specs.declared.cursor.Cursor.{Cursor}
-use Rattle.file_syntax.specs.Cursors.{cursor, refuse}
+use Rattle.file_syntax.specs.Cursors.{Cursor, cursor, refuse}
 use Rattle.access.specs.Loops.{run}
 use Rattle.file_syntax.specs.Statements.{body}
 use Rattle.file_section.specs.Names.{reading, name_at, names}

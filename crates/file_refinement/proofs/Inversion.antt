@@ -14,7 +14,7 @@ use Rattle.definition.specs.Ast.{PcodeOp, PcodeExpr, Args, no_args, arg, JumpLab
 use Rattle.definition.specs.SectionFile.{Parsed, parsed, refused, on, Read, pure, choose, little_endian, up_to, naming, or_absent, args_of, list_of}
 use Rattle.definition.specs.SectionFile as d
 use Rattle.access.specs.Le.{le16, le32, le64}
-use Rattle.file_syntax.specs.declared.cursor.Cursor.{Cursor}
+use Rattle.file_syntax.specs.Cursors.{Cursor}
 use Rattle.file_refinement.specs.Holds.{absent_at}
 use Rattle.file_refinement.proofs.Agree.{Agrees, went, stopped, Any, Number, NumberOr, Tests, le, le_16, u8_at, u8_cut, up_to_lem, naming-below, u16_agrees, u8_agrees, u16or_agrees, skip_agrees}
 use Rattle.file_refinement.proofs.AgreeCode.{OneOf, one_of_agrees, args_agrees, list_agrees, expr_agrees, jump_agrees, target_agrees, statement_agrees}

@@ -17,7 +17,7 @@ use Rattle.definition.specs.SectionFile.{Parsed, parsed, refused, on}
 use Rattle.definition.specs.SectionFile as d
 use Rattle.definition.specs.Scope.{Symbol, symbols, find, globals}
 use Rattle.access.specs.Le.{le16}
-use Rattle.file_syntax.specs.Cursors.{cursor}
+use Rattle.file_syntax.specs.Cursors.{Cursor, cursor}
 use Rattle.file_section.specs.Names.{Reading, reading, names}
 use Rattle.file_section.specs.Headers.{header}
 use Rattle.file_section.specs.Lists.{stamp, lists}
@@ -39,7 +39,7 @@ module _ (s t0 : List ℕ) (short : length s < 65536) (long : length t0 ≡ 3344
   filled : (v : ℕ) → Limits s → 34 ≤ length s → Fills s (λ sec _ t. Steps s t0 sec t) (d.lists (header_at s) (drop 34 s)) (statements s (lists s (names s (le16 s 2) (reading (cursor 34 0 v) t0)))) →
       Answered s t0 (d.lists (header_at s) (drop 34 s)) (answer_of (statements s (lists s (names s (le16 s 2) (reading (cursor 34 0 v) t0)))))
   filled v lim b (goes sec q u t c h e f) = accepted sec (drop q s) (rw f h) e (ap (λ (w : Reading). w.cursor.bad) f)
-  filled v lim b (stops r q e f) = turned r e (ap (λ (c : Rattle.file_syntax.specs.declared.cursor.Cursor.Cursor). c.bad) f)
+  filled v lim b (stops r q e f) = turned r e (ap (λ (c : Cursor). c.bad) f)
 
   answered : Answered s t0 (d.read_section s) (read_stream s t0)
   unfolding d.read_section read_stream on

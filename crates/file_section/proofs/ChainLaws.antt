@@ -19,7 +19,7 @@ use Rattle.file_section.specs.Chains.{last_four, key, spread, hash, Hashed, last
 
 -- What a test that is true tells.
 
-both : (b x : Bool) → (when b then x else false) ≡ true → (b ≡ true) × (x ≡ true)
+pub both : (b x : Bool) → (when b then x else false) ≡ true → (b ≡ true) × (x ≡ true)
 both true x e = (refl, e)
 both false x e = let z : ◌≡◌ {A = ℕ} 0 1 = cc in absurd (omega arith)
 

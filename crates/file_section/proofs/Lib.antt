@@ -3,3 +3,5 @@ mod HeaderLaws
 mod NameLaws
 mod ChainLaws
 mod ListLaws
+mod RefusedLaws
+mod ZeroLaws

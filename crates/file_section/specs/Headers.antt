@@ -1,8 +1,7 @@
 -- The header, as a cursor passes it. In all of these s is the stream, c the cursor.
 use Rattle.std.specs.Prelude.{ℕ, List}
 use Rattle.access.specs.Le.{le16}
-use Rattle.file_syntax.specs.declared.cursor.Cursor.{Cursor}
-use Rattle.file_syntax.specs.Cursors.{cursor, u16, u16or, name}
+use Rattle.file_syntax.specs.Cursors.{Cursor, cursor, u16, u16or, name}
 
 -- rule set, names and the counts of the globals
 unfoldable pub global_counts : List ℕ → Cursor → Cursor

@@ -3,8 +3,7 @@
 use Rattle.std.specs.Prelude.{ℕ, ◌+◌, ◌-◌, ◌*◌, ◌%◌, List, [], ◌∷◌, get_or, set, eqb, ltb}
 use Rattle.prelude.specs.Base.{when◌then◌else◌}
 use Rattle.access.specs.Le.{le16}
-use Rattle.file_syntax.specs.declared.cursor.Cursor.{Cursor}
-use Rattle.file_syntax.specs.Cursors.{refuse, u16, code, small_count, name, size, size_or, bits}
+use Rattle.file_syntax.specs.Cursors.{Cursor, refuse, u16, code, small_count, name, size, size_or, bits}
 use Rattle.access.specs.Loops.{run}
 use Rattle.file_syntax.specs.Expressions.{counted}
 use Rattle.file_syntax.specs.Statements.{body}

@@ -3,8 +3,7 @@
 use Rattle.std.specs.Prelude.{ℕ, zero, suc, ◌+◌, ◌-◌, ◌%◌, Bool, true, false, List, get_or, set, eqb}
 use Rattle.prelude.specs.Base.{when◌then◌else◌}
 use Rattle.access.specs.Le.{le16}
-use Rattle.file_syntax.specs.declared.cursor.Cursor.{Cursor}
-use Rattle.file_syntax.specs.Cursors.{refuse, u8, skip}
+use Rattle.file_syntax.specs.Cursors.{Cursor, refuse, u8, skip}
 use Rattle.access.specs.Loops.{run}
 
 -- a cursor, and the table

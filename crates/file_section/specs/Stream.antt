@@ -10,8 +10,7 @@
 use Rattle.std.specs.Prelude.{ℕ, zero, suc, ◌-◌, ◌%◌, Bool, true, false, List, length, get_or, set, eqb}
 use Rattle.prelude.specs.Base.{when◌then◌else◌}
 use Rattle.access.specs.Le.{le16}
-use Rattle.file_syntax.specs.declared.cursor.Cursor.{Cursor}
-use Rattle.file_syntax.specs.Cursors.{refuse}
+use Rattle.file_syntax.specs.Cursors.{Cursor, refuse}
 use Rattle.file_syntax.specs.Statements.{body}
 use Rattle.file_section.specs.Names.{Reading, reading, names}
 use Rattle.file_section.specs.Headers.{header}

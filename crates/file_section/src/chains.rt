@@ -43,6 +43,6 @@ pub fn link(chain: usize, index: usize, chains: &mut [u16])
     requires { (chain < 256) × (index < 1024) }
     ensures { chains.new ≡ link chain index chains.old }
 {
-    access::put_u16(chains, index, access::get_u16(chains, LAST + chain));
-    access::put_u16(chains, LAST + chain, low(index + 1));
+    access::put(chains, index, access::get(chains, LAST + chain));
+    access::put(chains, LAST + chain, low(index + 1));
 }

@@ -13,11 +13,14 @@
 #![tactic(auto)]
 
 ghost use Rattle.std.specs.Prelude.{◌≡◌};
+ghost use Rattle.codes.specs.Refusals.{number_or_zero};
 ghost use Rattle.file_section.specs.Stream.{statements, answer, read_stream};
 ghost use Rattle.file_section.specs.Names.{reading};
+ghost use Rattle.file_syntax.specs.Reads.{to_cursor};
 
+use codes::refusal::Refusal;
 use codes::table;
-use file_syntax::cursor::Cursor;
+use file_syntax::cursor::{Cursor, Refused, place_of};
 use file_syntax::statements::body;
 use header::header;
 use lists::lists;
@@ -31,40 +34,34 @@ mod names;
 mod zeros;
 
 // The section's own statements, and the end.
-fn own_statements(stream: &[u8], cursor: Cursor, table: &mut [u16]) -> Cursor
-    ensures { reading result table.new ≡ statements stream.now (reading cursor table.old) }
+#[tactic(auto, using(crate::proofs::RefusedLaws::passing), unfolding(crate::specs::Stream::statements))]
+fn own_statements(
+    stream: &[u8],
+    so_far: Result<Cursor, Refused>,
+    table: &mut [u16],
+) -> Result<Cursor, Refused>
+    ensures { reading (to_cursor result) table.new ≡ statements stream.now (reading (to_cursor so_far) table.old) }
 {
-    access::put_u16(table, table::STATEMENTS, low(cursor.at));
-    tail(
-        stream,
-        body(
-            stream,
-            access::u16_at(stream, codes::header::NAMES),
-            access::u16_at(stream, codes::header::STATEMENTS),
-            cursor,
-        ),
-    )
+    access::put(table, table::STATEMENTS, low(place_of(so_far)));
+    let names = access::u16_at(stream, codes::header::NAMES);
+    let count = access::u16_at(stream, codes::header::STATEMENTS);
+    let end = body(stream, names, count, so_far?)?;
+    tail(stream, end)
 }
 
-// The refusal of a stream, or 0, and the table.
-pub fn read_stream(stream: &[u8], table: &mut [u16; table::LENGTH]) -> u64
-    ensures { answer result table.new ≡ read_stream stream.now table.old }
+// The refusal of a stream, if there is one, and the table.
+#[tactic(auto, using(crate::proofs::RefusedLaws::passing), unfolding(crate::specs::Stream::read_stream))]
+pub fn read_stream(stream: &[u8], table: &mut [u16; table::LENGTH]) -> Result<(), Refusal>
+    ensures { answer (number_or_zero result) table.new ≡ read_stream stream.now table.old }
 {
     // Called from two places, the header is not compiled into what follows, which is faster without it.
     if stream.len() < codes::header::LENGTH {
-        return header(stream).bad;
+        header(stream)?;
     }
-    let h = header(stream);
-    if h.bad != 0 {
-        return h.bad;
-    }
-    let named = names(
-        stream,
-        access::u16_at(stream, codes::header::NAMES) as usize,
-        h,
-        table,
-    );
+    let head = header(stream)?;
+    let count = access::u16_at(stream, codes::header::NAMES) as usize;
+    let named = names(stream, count, Ok(head), table);
     let listed = lists(stream, named, table);
-    let end = own_statements(stream, listed, table);
-    end.bad
+    own_statements(stream, listed, table)?;
+    Ok(())
 }

@@ -2,12 +2,15 @@
 // globals from 1,024 on, fields and subtables from 2,048 on.
 ghost use Rattle.std.specs.Prelude.{◌≡◌, ◌<◌};
 ghost use Rattle.file_section.specs.Names.{reading};
-ghost use Rattle.file_section.specs.Lists.{slot, stamp, mark, after, params, macro_head, noted, macro, entry, list, lists};
+ghost use Rattle.file_section.specs.Lists.{slot, stamp, mark, named, after, params, macro_head, noted, macro, entry, list, lists};
+ghost use Rattle.file_syntax.specs.Reads.{good, to_cursor};
 
 use crate::names::low;
-use codes::{header, refusal, symbol_kind, table};
+use codes::refusal::Refusal;
+use codes::{header, symbol_kind, table};
 use file_syntax::cursor::{
-    Cursor, bits, code, name, refuse, size, size_or, small_count, u16_below,
+    Cursor, Refused, bits, code, last_number, name, place_of, refuse, size, size_or, small_count,
+    u16_below,
 };
 use file_syntax::statements::body;
 
@@ -18,6 +21,7 @@ const FIELDS: u64 = 7;
 const STATEMENTS: u64 = 1025;
 
 // Where list k marks a name.
+#[tactic(auto, unfolding(crate::specs::Lists::slot))]
 fn slot(kind: u64, name: u64) -> usize
     ensures { result ≡ slot kind name }
 {
@@ -28,6 +32,7 @@ fn slot(kind: u64, name: u64) -> usize
 }
 
 // What list k marks the name of its entry i with.
+#[tactic(auto, unfolding(crate::specs::Lists::stamp))]
 fn stamp(kind: u64, index: u64) -> u16
     requires { (kind < 9) × (index < 65536) }
     ensures { result ≡ stamp kind index }
@@ -38,132 +43,167 @@ fn stamp(kind: u64, index: u64) -> u16
     ((kind - 6 + 2 * index) % 65536) as u16
 }
 
-fn mark(at: usize, value: u16, cursor: Cursor, table: &mut [u16]) -> Cursor
-    ensures { reading result table.new ≡ mark at value (reading cursor table.old) }
+#[tactic(auto, unfolding(crate::specs::Lists::mark))]
+fn mark(at: usize, value: u16, cursor: Cursor, table: &mut [u16]) -> Result<Cursor, Refused>
+    ensures { reading (to_cursor result) table.new ≡ mark at value (reading (good cursor) table.old) }
 {
-    if cursor.bad != 0 {
-        return cursor;
+    if access::get(table, at) != 0 {
+        return refuse(Refusal::SpelledTwice, cursor);
     }
-    if access::get_u16(table, at) != 0 {
-        return refuse(refusal::SPELLED_TWICE, cursor);
-    }
-    access::put_u16(table, at, value);
-    cursor
+    access::put(table, at, value);
+    Ok(cursor)
+}
+
+// The name of entry i of list k.
+#[tactic(auto, using(crate::proofs::RefusedLaws::passing), unfolding(crate::specs::Lists::named))]
+fn named(
+    kind: u64,
+    stream: &[u8],
+    index: usize,
+    so_far: Result<Cursor, Refused>,
+    table: &mut [u16],
+) -> Result<Cursor, Refused>
+    requires { (kind < 9) × (index < 65536) }
+    ensures { reading (to_cursor result) table.new ≡ named kind stream.now index (reading (to_cursor so_far) table.old) }
+{
+    let names = access::u16_at(stream, header::NAMES);
+    let found = name(stream, names, so_far?)?;
+    let place = slot(kind, found.val);
+    mark(place, stamp(kind, index as u64), found, table)
 }
 
 // What follows the name in an entry of list k that is no macro.
-fn after(kind: u64, stream: &[u8], cursor: Cursor) -> Cursor
-    ensures { result ≡ after kind stream.now cursor }
+#[tactic(auto, using(crate::proofs::RefusedLaws::passing), unfolding(crate::specs::Lists::after, crate::specs::Lists::after_name, crate::specs::Lists::which_of))]
+fn after(kind: u64, stream: &[u8], cursor: Cursor) -> Result<Cursor, Refused>
+    ensures { to_cursor result ≡ after kind stream.now (good cursor) }
 {
     match kind {
-        symbol_kind::SPACE => size(stream, code(stream, 3, cursor)),
+        symbol_kind::SPACE => size(stream, code(stream, 3, cursor)?),
         symbol_kind::REGISTER => size(stream, cursor),
-        symbol_kind::BIT_RANGE => bits(
-            stream,
-            u16_below(
+        symbol_kind::BIT_RANGE => {
+            let registers = access::u16_at(stream, header::REGISTERS);
+            bits(
                 stream,
-                access::u16_at(stream, header::REGISTERS),
-                refusal::NAMES_NOTHING,
-                cursor,
-            ),
-        ),
+                u16_below(stream, registers, Refusal::NamesNothing, cursor)?,
+            )
+        }
         symbol_kind::TABLE => size_or(stream, cursor),
-        symbol_kind::USER_OP => cursor,
-        symbol_kind::MACRO => cursor,
-        symbol_kind::OTHER => cursor,
+        symbol_kind::USER_OP => Ok(cursor),
+        symbol_kind::MACRO => Ok(cursor),
+        symbol_kind::OTHER => Ok(cursor),
         FIELDS => size_or(stream, cursor),
-        _ => u16_below(
-            stream,
-            access::u16_at(stream, header::TABLES),
-            refusal::NAMES_NOTHING,
-            cursor,
-        ),
+        _ => {
+            let tables = access::u16_at(stream, header::TABLES);
+            u16_below(stream, tables, Refusal::NamesNothing, cursor)
+        }
     }
 }
 
 // As many names as the cursor's number says.
-fn params(stream: &[u8], names: u64, cursor: Cursor) -> Cursor
-    ensures { result ≡ params stream.now names cursor }
+fn params(stream: &[u8], names: u64, cursor: Cursor) -> Result<Cursor, Refused>
+    ensures { to_cursor result ≡ params stream.now names (good cursor) }
 {
     let n = cursor.val;
     let mut cursor = cursor;
     for i in 0..n {
-        cursor = name(stream, names, cursor);
+        cursor = name(stream, names, cursor)?;
     }
-    cursor
+    Ok(cursor)
 }
 
 // A macro's parameters and its count of statements.
-fn macro_head(stream: &[u8], names: u64, cursor: Cursor) -> Cursor
-    ensures { result ≡ macro_head stream.now names cursor }
+#[tactic(auto, using(crate::proofs::RefusedLaws::passing), unfolding(crate::specs::Lists::macro_head))]
+fn macro_head(stream: &[u8], names: u64, so_far: Result<Cursor, Refused>) -> Result<Cursor, Refused>
+    ensures { to_cursor result ≡ macro_head stream.now names (to_cursor so_far) }
 {
-    u16_below(
-        stream,
-        STATEMENTS,
-        refusal::OUTSIDE_LIMIT,
-        params(stream, names, small_count(stream, cursor)),
-    )
+    let counted = small_count(stream, so_far?)?;
+    let named = params(stream, names, counted)?;
+    u16_below(stream, STATEMENTS, Refusal::OutsideLimit, named)
 }
 
 // Where macro i stands, its first ordinal, and the next free ordinal after its n statements.
+#[tactic(auto, unfolding(crate::specs::Lists::noted))]
 fn note_macro(index: usize, at: usize, count: u64, table: &mut [u16])
     requires { index < 65536 }
     ensures { table.new ≡ noted index at count table.old }
 {
-    let first = access::get_u16(table, table::FIRST_ORDINAL);
-    access::put_u16(table, table::MACROS + index, low(at));
-    access::put_u16(table, table::MACRO_ORDINALS + index, first);
-    access::put_u16(
+    let first = access::get(table, table::FIRST_ORDINAL);
+    access::put(table, table::MACROS + index, low(at));
+    access::put(table, table::MACRO_ORDINALS + index, first);
+    access::put(
         table,
         table::FIRST_ORDINAL,
-        low(first as usize + (count % 65536) as usize),
+        low(usize::from(first) + (count % 65536) as usize),
     );
 }
 
-fn macro_entry(stream: &[u8], names: u64, index: usize, cursor: Cursor, table: &mut [u16]) -> Cursor
+#[tactic(auto, using(crate::proofs::RefusedLaws::passing, crate::proofs::ListLaws::macro_opened))]
+fn macro_entry(
+    stream: &[u8],
+    names: u64,
+    index: usize,
+    so_far: Result<Cursor, Refused>,
+    table: &mut [u16],
+) -> Result<Cursor, Refused>
     requires { index < 65536 }
-    ensures { reading result table.new ≡ macro stream.now names index (reading cursor table.old) }
+    ensures { reading (to_cursor result) table.new ≡ macro stream.now names index (reading (to_cursor so_far) table.old) }
 {
-    let h = macro_head(stream, names, cursor);
-    note_macro(index, cursor.at, h.val, table);
-    body(stream, names, h.val, h)
+    let head = macro_head(stream, names, so_far);
+    note_macro(index, place_of(so_far), last_number(head), table);
+    let begun = head?;
+    body(stream, names, begun.val, begun)
 }
 
 // Entry i of list k.
-fn entry(kind: u64, stream: &[u8], index: usize, cursor: Cursor, table: &mut [u16]) -> Cursor
+#[tactic(auto, using(crate::proofs::RefusedLaws::passing), unfolding(crate::specs::Lists::entry, crate::specs::Lists::rest_of))]
+fn entry(
+    kind: u64,
+    stream: &[u8],
+    index: usize,
+    so_far: Result<Cursor, Refused>,
+    table: &mut [u16],
+) -> Result<Cursor, Refused>
     requires { (kind < 9) × (index < 65536) }
-    ensures { reading result table.new ≡ entry kind stream.now index (reading cursor table.old) }
+    ensures { reading (to_cursor result) table.new ≡ entry kind stream.now index (reading (to_cursor so_far) table.old) }
 {
-    let m = access::u16_at(stream, header::NAMES);
-    let v = name(stream, m, cursor);
-    let g = mark(slot(kind, v.val), stamp(kind, index as u64), v, table);
+    let marked = named(kind, stream, index, so_far, table);
     if kind == symbol_kind::MACRO {
-        return macro_entry(stream, m, index, g, table);
+        let names = access::u16_at(stream, header::NAMES);
+        return macro_entry(stream, names, index, marked, table);
     }
-    after(kind, stream, g)
+    after(kind, stream, marked?)
 }
 
 // List k, whose count stands in the header.
-fn list(kind: usize, stream: &[u8], cursor: Cursor, table: &mut [u16]) -> Cursor
+fn list(
+    kind: usize,
+    stream: &[u8],
+    so_far: Result<Cursor, Refused>,
+    table: &mut [u16],
+) -> Result<Cursor, Refused>
     requires { kind < 9 }
-    ensures { reading result table.new ≡ list stream.now kind (reading cursor table.old) }
+    ensures { reading (to_cursor result) table.new ≡ list stream.now kind (reading (to_cursor so_far) table.old) }
 {
-    access::put_u16(table, table::LISTS + kind, low(cursor.at));
+    access::put(table, table::LISTS + kind, low(place_of(so_far)));
     let n = access::u16_at(stream, header::SPACES + 2 * kind) as usize;
-    let mut cursor = cursor;
+    let mut so_far = so_far;
     for i in 0..n {
-        cursor = entry(kind as u64, stream, i, cursor, table);
+        so_far = entry(kind as u64, stream, i, so_far, table);
     }
-    cursor
+    so_far
 }
 
 // The nine lists from spaces to subtables.
-pub fn lists(stream: &[u8], cursor: Cursor, table: &mut [u16]) -> Cursor
-    ensures { reading result table.new ≡ lists stream.now (reading cursor table.old) }
+pub fn lists(
+    stream: &[u8],
+    so_far: Result<Cursor, Refused>,
+    table: &mut [u16],
+) -> Result<Cursor, Refused>
+    ensures { reading (to_cursor result) table.new ≡ lists stream.now (reading (to_cursor so_far) table.old) }
 {
-    let mut cursor = cursor;
+    let mut so_far = so_far;
     for k in 0..9 {
-        cursor = list(k, stream, cursor, table);
+        so_far = list(k, stream, so_far, table);
     }
-    cursor
+    so_far
 }

@@ -3,10 +3,11 @@
 ghost use Rattle.std.specs.Prelude.{◌≡◌, ◌+◌, ◌%◌, ◌≤◌, ◌<◌};
 ghost use Rattle.file_section.specs.Names.{reading, rest_alike, alike, known, spelling, name_at, names};
 ghost use Rattle.file_section.specs.Chains.{Hashed, Linked};
+ghost use Rattle.file_syntax.specs.Reads.{to_cursor};
 
 use crate::chains::{CHAINS, LAST, hash, link};
-use codes::refusal;
-use file_syntax::cursor::{Cursor, refuse, skip, u8_below};
+use codes::refusal::Refusal;
+use file_syntax::cursor::{Cursor, Refused, place_of, refuse, skip, u8_below};
 
 // A name has fewer letters than this.
 const LETTERS: u64 = 25;
@@ -16,17 +17,16 @@ fn rest_alike(stream: &[u8], place: usize, other: usize, count: u64) -> bool
     requires { count < 256 }
     ensures { result ≡ rest_alike stream.now place other count }
 {
-    let mut i: usize = 2;
-    while i <= count as usize {
+    for i in 2..count as usize + 1 {
         if access::byte(stream, place, i) != access::byte(stream, other, i) {
             return false;
         }
-        i += 1;
     }
     true
 }
 
 // Whether the names at two places, each a length byte and its bytes, are spelled alike.
+#[tactic(auto, unfolding(crate::specs::Names::alike))]
 fn alike(stream: &[u8], place: usize, other: usize) -> bool
     ensures { result ≡ alike stream.now place other }
 {
@@ -34,12 +34,6 @@ fn alike(stream: &[u8], place: usize, other: usize) -> bool
         return false;
     }
     rest_alike(stream, place, other, access::byte(stream, place, 0))
-}
-
-pub fn place(number: u16) -> usize
-    ensures { result ≡ number }
-{
-    number as usize
 }
 
 // A place in the stream, which has fewer than 65,536 bytes.
@@ -61,44 +55,40 @@ fn known(
     requires { Linked stream.now table.now chains.now count × Hashed stream.now at chain }
     ensures { result ≡ known stream.now table.now at count }
 {
-    let mut j = place(access::get_u16(chains, LAST + chain));
+    let mut j = usize::from(access::get(chains, LAST + chain));
     while 0 < j {
         let i = j - 1;
-        if alike(stream, at, place(access::get_u16(table, i))) {
+        if alike(stream, at, usize::from(access::get(table, i))) {
             return true;
         }
-        j = place(access::get_u16(chains, i));
+        j = usize::from(access::get(chains, i));
     }
     false
 }
 
 // Name i: its length, 1 to 24, and its bytes.
+#[tactic(auto, using(crate::proofs::RefusedLaws::passing), unfolding(crate::specs::Names::spelling, crate::specs::Names::letters))]
 fn spelling(
     stream: &[u8],
     table: &[u16],
     chains: &[u16],
     index: usize,
     chain: usize,
-    cursor: Cursor,
-) -> Cursor
-    requires { Linked stream.now table.now chains.now index × Hashed stream.now cursor.at chain }
-    ensures { result ≡ spelling stream.now table.now index cursor }
+    so_far: Result<Cursor, Refused>,
+) -> Result<Cursor, Refused>
+    requires { Linked stream.now table.now chains.now index × Hashed stream.now (to_cursor so_far).at chain }
+    ensures { to_cursor result ≡ spelling stream.now table.now index (to_cursor so_far) }
 {
-    let l = u8_below(stream, LETTERS, refusal::OUTSIDE_LIMIT, cursor);
-    if l.bad != 0 {
-        return l;
-    }
+    let start = so_far?;
+    let l = u8_below(stream, LETTERS, Refusal::OutsideLimit, start)?;
     if l.val == 0 {
-        return refuse(refusal::OUTSIDE_LIMIT, l);
+        return refuse(Refusal::OutsideLimit, l);
     }
-    let e = skip(stream, l.val as usize, l);
-    if e.bad != 0 {
-        return e;
+    let end = skip(stream, l.val as usize, l)?;
+    if known(stream, table, chains, start.at, chain, index) {
+        return refuse(Refusal::SpelledTwice, end);
     }
-    if known(stream, table, chains, cursor.at, chain, index) {
-        return refuse(refusal::SPELLED_TWICE, e);
-    }
-    e
+    Ok(end)
 }
 
 // The hash of the name at q, given that of the name at p: the same place in a stream of fewer than 65,536 bytes.
@@ -117,43 +107,49 @@ fn hash_at(stream: &[u8], at: usize, chain: usize, other: usize) -> usize
 fn name_at(
     stream: &[u8],
     index: usize,
-    cursor: Cursor,
+    so_far: Result<Cursor, Refused>,
     table: &mut [u16],
     chains: &mut [u16],
-) -> Cursor
+) -> Result<Cursor, Refused>
     requires { (index < 1024) × Linked stream.now table.old chains.old index }
-    ensures { (reading result table.new ≡ name_at stream.now index (reading cursor table.old)) × Linked stream.now table.new chains.new (index + 1) }
+    ensures { (reading (to_cursor result) table.new ≡ name_at stream.now index (reading (to_cursor so_far) table.old)) × Linked stream.now table.new chains.new (index + 1) }
 {
-    let h = hash(stream, cursor.at);
-    let e = spelling(stream, table, chains, index, h, cursor);
-    access::put_u16(table, index, low(cursor.at));
-    let p = place(access::get_u16(table, index));
-    link(hash_at(stream, cursor.at, h, p), index, chains);
-    e
+    let at = place_of(so_far);
+    let h = hash(stream, at);
+    let spelled = spelling(stream, table, chains, index, h, so_far);
+    access::put(table, index, low(at));
+    let p = usize::from(access::get(table, index));
+    link(hash_at(stream, at, h, p), index, chains);
+    spelled
 }
 
 // The names, by chains that are empty at first.
 fn chained(
     stream: &[u8],
     count: usize,
-    cursor: Cursor,
+    so_far: Result<Cursor, Refused>,
     table: &mut [u16],
     chains: &mut [u16; CHAINS],
-) -> Cursor
+) -> Result<Cursor, Refused>
     requires { (count ≤ 1024) × Linked stream.now table.old chains.old 0 }
-    ensures { reading result table.new ≡ names stream.now count (reading cursor table.old) }
+    ensures { reading (to_cursor result) table.new ≡ names stream.now count (reading (to_cursor so_far) table.old) }
 {
-    let mut cursor = cursor;
+    let mut so_far = so_far;
     for i in 0..count {
-        cursor = name_at(stream, i, cursor, table, chains);
+        so_far = name_at(stream, i, so_far, table, chains);
     }
-    cursor
+    so_far
 }
 
-pub fn names(stream: &[u8], count: usize, cursor: Cursor, table: &mut [u16]) -> Cursor
+pub fn names(
+    stream: &[u8],
+    count: usize,
+    so_far: Result<Cursor, Refused>,
+    table: &mut [u16],
+) -> Result<Cursor, Refused>
     requires { count ≤ 1024 }
-    ensures { reading result table.new ≡ names stream.now count (reading cursor table.old) }
+    ensures { reading (to_cursor result) table.new ≡ names stream.now count (reading (to_cursor so_far) table.old) }
 {
     let mut k = [0u16; CHAINS];
-    chained(stream, count, cursor, table, &mut k)
+    chained(stream, count, so_far, table, &mut k)
 }

@@ -1,39 +1,43 @@
 // The stream after its statements is zero, which is tested by eight bytes at a time.
 ghost use Rattle.std.specs.Prelude.{◌≡◌, ◌-◌, length};
 ghost use Rattle.file_section.specs.Stream.{zeros, tail};
+ghost use Rattle.file_syntax.specs.Reads.{good, to_cursor};
 
 use access::inside::eight;
-use codes::refusal;
-use file_syntax::cursor::{Cursor, refuse};
+use codes::refusal::Refusal;
+use file_syntax::cursor::{Cursor, Refused, refuse};
 
-// From a place on: the place of the first eight bytes that are not all zero, or of the last seven.
-fn past_zeros(stream: &[u8], from: usize) -> usize
-    ensures { zeros (length stream.now - result) result stream.now ≡ zeros (length stream.now - from) from stream.now }
+// Whether all bytes are zero.
+fn all_zeros(bytes: &[u8]) -> bool
+    ensures { result ≡ zeros (length bytes.now) 0 bytes.now }
 {
-    let n = stream.len();
-    if n < 8 {
-        return from;
-    }
-    let mut i = from;
-    while i < n - 7 {
-        if eight(stream, i) != 0 {
-            return i;
+    let words = bytes.chunks_exact(8);
+    let last = words.remainder();
+    for word in words {
+        if eight(word, 0) != 0 {
+            return false;
         }
-        i += 8;
     }
-    i
+    last.iter().all(|&byte| byte == 0)
+}
+
+// Whether the stream is zero from a place on.
+fn only_zeros(stream: &[u8], from: usize) -> bool
+    ensures { result ≡ zeros (length stream.now - from) from stream.now }
+{
+    if stream.len() < from {
+        return true;
+    }
+    all_zeros(&stream[from..])
 }
 
 // The stream after the cursor is zero.
-pub fn tail(stream: &[u8], cursor: Cursor) -> Cursor
-    ensures { result ≡ tail stream.now cursor }
+#[tactic(auto, unfolding(crate::specs::Stream::tail))]
+pub fn tail(stream: &[u8], cursor: Cursor) -> Result<Cursor, Refused>
+    ensures { to_cursor result ≡ tail stream.now (good cursor) }
 {
-    let mut i = past_zeros(stream, cursor.at);
-    while i < stream.len() {
-        if stream[i] != 0 {
-            return refuse(refusal::MALFORMED, cursor);
-        }
-        i += 1;
+    if !only_zeros(stream, cursor.at) {
+        return refuse(Refusal::Malformed, cursor);
     }
-    cursor
+    Ok(cursor)
 }

@@ -1,3 +1,4 @@
 -- The laws that the functions' proofs cite.
 pub mod CursorLaws
+pub mod RefusedLaws
 pub mod CodeLaws

@@ -4,7 +4,12 @@
 use Rattle.std.specs.Prelude.{ℕ, ◌+◌, List, length, get_or, ltb, leb, eqb}
 use Rattle.prelude.specs.Base.{when◌then◌else◌}
 use Rattle.access.specs.Le.{le16}
-use Rattle.file_syntax.specs.declared.cursor.Cursor.{Cursor}
+
+-- where the reading is, the refusal, and the number read last
+pub record Cursor : Type 0 where
+  pub at : ℕ
+  pub bad : ℕ
+  pub val : ℕ
 
 abbrev pub cursor : ℕ → ℕ → ℕ → Cursor
 cursor p bad v = record { at = p; bad = bad; val = v }

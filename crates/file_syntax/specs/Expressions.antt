@@ -1,8 +1,7 @@
 -- Expressions, each ahead of its parts, as a cursor passes them. In all of these s is the stream, c the cursor, m the number
 -- of names.
 use Rattle.std.specs.Prelude.{ℕ, zero, suc, List, [], ◌∷◌, get_or}
-use Rattle.file_syntax.specs.declared.cursor.Cursor.{Cursor}
-use Rattle.file_syntax.specs.Cursors.{refuse, skip, code, small_count, name, name_or, size, size_or, bits}
+use Rattle.file_syntax.specs.Cursors.{Cursor, refuse, skip, code, small_count, name, name_or, size, size_or, bits}
 use Rattle.access.specs.Loops.{run}
 
 abbrev pub address_of : List ℕ → ℕ → Cursor → Cursor

@@ -1,8 +1,7 @@
 -- Statements, and what only they hold, as a cursor passes them. In all of these s is the stream, c the cursor, m the number
 -- of names.
 use Rattle.std.specs.Prelude.{ℕ, List, [], ◌∷◌, get_or}
-use Rattle.file_syntax.specs.declared.cursor.Cursor.{Cursor}
-use Rattle.file_syntax.specs.Cursors.{skip, code, name, size, size_or}
+use Rattle.file_syntax.specs.Cursors.{Cursor, skip, code, name, size, size_or}
 use Rattle.access.specs.Loops.{run}
 use Rattle.file_syntax.specs.Expressions.{space, call, expr, exprs}
 

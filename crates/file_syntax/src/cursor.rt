@@ -1,10 +1,13 @@
-// A cursor over the stream, and the fields that it reads. A refused cursor passes every read unchanged, so that the first
-// position that is wrong gives the refusal.
+// A cursor over the stream, and the fields that it reads. Each reader gives the cursor behind its field or says where and why
+// the stream is refused, so that the first position that is wrong gives the refusal.
 ghost use Rattle.std.specs.Prelude.{◌≡◌};
-ghost use Rattle.file_syntax.specs.Cursors.{refuse, number, u8, u16, u16or, skip, code, small_count, name, name_or, size, size_or, bits};
+ghost use Rattle.codes.specs.Refusals.{number};
+ghost use Rattle.file_syntax.specs.Cursors.{refuse, u8, u16, u16or, skip, code, small_count, name, name_or, size, size_or, bits};
+ghost use Rattle.file_syntax.specs.Reads.{good, to_cursor};
 
 use access::inside::two;
-use codes::{NONE, refusal};
+use codes::NONE;
+use codes::refusal::Refusal;
 
 // Sizes, in bytes, are below this.
 const SIZES: u64 = 1025;
@@ -12,96 +15,110 @@ const SIZES: u64 = 1025;
 // First bits and bit counts are below this.
 const BITS: u64 = 8193;
 
-// Where the reading is, the refusal (0 none), and the number read last.
+// Where the reading is, and the number read last.
 #[derive(Clone, Copy)]
 pub struct Cursor {
     pub at: usize,
-    pub bad: u64,
     pub val: u64,
 }
 
-pub fn refuse(refusal: u64, cursor: Cursor) -> Cursor
-    ensures { result ≡ refuse refusal cursor }
+// Where the stream is refused, and why.
+#[derive(Clone, Copy)]
+pub struct Refused {
+    pub at: usize,
+    pub refusal: Refusal,
+}
+
+// Where a reading stands, refused or not.
+pub fn place_of(reading: Result<Cursor, Refused>) -> usize
+    ensures { result ≡ (to_cursor reading).at }
 {
-    if cursor.bad != 0 {
-        return cursor;
+    match reading {
+        Ok(cursor) => cursor.at,
+        Err(refused) => refused.at,
     }
-    Cursor {
+}
+
+// The number read last, 0 once the reading is refused.
+pub fn last_number(reading: Result<Cursor, Refused>) -> u64
+    ensures { result ≡ (to_cursor reading).val }
+{
+    match reading {
+        Ok(cursor) => cursor.val,
+        Err(_) => 0,
+    }
+}
+
+#[tactic(auto, unfolding(crate::specs::Cursors::refuse))]
+pub fn refuse(refusal: Refusal, cursor: Cursor) -> Result<Cursor, Refused>
+    ensures { to_cursor result ≡ refuse (number refusal) (good cursor) }
+{
+    Err(Refused {
         at: cursor.at,
-        bad: refusal,
-        val: 0,
-    }
-}
-
-// The number v, which stands in the next n bytes of len: cut is 3, and lim or more is k.
-fn number(value: u64, count: usize, len: usize, limit: u64, refusal: u64, cursor: Cursor) -> Cursor
-    ensures { result ≡ number value count len limit refusal cursor }
-{
-    if cursor.bad != 0 {
-        return cursor;
-    }
-    if len < cursor.at {
-        return refuse(refusal::MALFORMED, cursor);
-    }
-    if len - cursor.at < count {
-        return refuse(refusal::MALFORMED, cursor);
-    }
-    if value < limit {
-        return Cursor {
-            at: cursor.at + count,
-            bad: 0,
-            val: value,
-        };
-    }
-    refuse(refusal, cursor)
-}
-
-pub fn u8_below(stream: &[u8], limit: u64, refusal: u64, cursor: Cursor) -> Cursor
-    ensures { result ≡ u8 stream.now limit refusal cursor }
-{
-    number(
-        access::byte(stream, cursor.at, 0),
-        1,
-        stream.len(),
-        limit,
         refusal,
-        cursor,
-    )
+    })
 }
 
-// Read at once inside the stream. A refused cursor, and one at the end, is left to `number`, which then asks for no number.
-pub fn u16_below(stream: &[u8], limit: u64, refusal: u64, cursor: Cursor) -> Cursor
-    ensures { result ≡ u16 stream.now limit refusal cursor }
+// A byte below the limit.
+#[tactic(auto, unfolding(crate::specs::Cursors::u8, crate::specs::Cursors::number, crate::specs::Cursors::refuse))]
+pub fn u8_below(
+    stream: &[u8],
+    limit: u64,
+    refusal: Refusal,
+    cursor: Cursor,
+) -> Result<Cursor, Refused>
+    ensures { to_cursor result ≡ u8 stream.now limit (number refusal) (good cursor) }
 {
     let at = cursor.at;
-    if (at < stream.len()) & (cursor.bad == 0) {
-        if 2 <= stream.len() - at {
-            let v = two(stream, at);
-            if v < limit {
-                return Cursor {
-                    at: at + 2,
-                    bad: 0,
-                    val: v,
-                };
-            }
-            return Cursor {
-                at,
-                bad: refusal,
-                val: 0,
-            };
-        }
-        return Cursor {
-            at,
-            bad: refusal::MALFORMED,
-            val: 0,
-        };
+    if at >= stream.len() {
+        return refuse(Refusal::Malformed, cursor);
     }
-    number(0, 2, stream.len(), limit, refusal, cursor)
+    let byte = u64::from(stream[at]);
+    if byte >= limit {
+        return refuse(refusal, cursor);
+    }
+    Ok(Cursor {
+        at: at + 1,
+        val: byte,
+    })
+}
+
+// A number of two bytes below the limit.
+#[tactic(auto, unfolding(crate::specs::Cursors::u16, crate::specs::Cursors::number, crate::specs::Cursors::refuse))]
+pub fn u16_below(
+    stream: &[u8],
+    limit: u64,
+    refusal: Refusal,
+    cursor: Cursor,
+) -> Result<Cursor, Refused>
+    ensures { to_cursor result ≡ u16 stream.now limit (number refusal) (good cursor) }
+{
+    let at = cursor.at;
+    if at >= stream.len() {
+        return refuse(Refusal::Malformed, cursor);
+    }
+    if stream.len() - at < 2 {
+        return refuse(Refusal::Malformed, cursor);
+    }
+    let value = two(stream, at);
+    if value >= limit {
+        return refuse(refusal, cursor);
+    }
+    Ok(Cursor {
+        at: at + 2,
+        val: value,
+    })
 }
 
 // The same, or 65,535, which stands for absent.
-pub fn u16_or(stream: &[u8], limit: u64, refusal: u64, cursor: Cursor) -> Cursor
-    ensures { result ≡ u16or stream.now limit refusal cursor }
+#[tactic(auto, unfolding(crate::specs::Cursors::u16or, crate::specs::Cursors::u16))]
+pub fn u16_or(
+    stream: &[u8],
+    limit: u64,
+    refusal: Refusal,
+    cursor: Cursor,
+) -> Result<Cursor, Refused>
+    ensures { to_cursor result ≡ u16or stream.now limit (number refusal) (good cursor) }
 {
     if access::u16_at(stream, cursor.at) == NONE {
         return u16_below(stream, 65536, refusal, cursor);
@@ -109,59 +126,75 @@ pub fn u16_or(stream: &[u8], limit: u64, refusal: u64, cursor: Cursor) -> Cursor
     u16_below(stream, limit, refusal, cursor)
 }
 
-pub fn skip(stream: &[u8], count: usize, cursor: Cursor) -> Cursor
-    ensures { result ≡ skip stream.now count cursor }
+#[tactic(auto, unfolding(crate::specs::Cursors::skip, crate::specs::Cursors::number, crate::specs::Cursors::refuse))]
+pub fn skip(stream: &[u8], count: usize, cursor: Cursor) -> Result<Cursor, Refused>
+    ensures { to_cursor result ≡ skip stream.now count (good cursor) }
 {
-    number(0, count, stream.len(), 1, 0, cursor)
+    let at = cursor.at;
+    if at > stream.len() {
+        return refuse(Refusal::Malformed, cursor);
+    }
+    if stream.len() - at < count {
+        return refuse(Refusal::Malformed, cursor);
+    }
+    Ok(Cursor {
+        at: at + count,
+        val: 0,
+    })
 }
 
 // One of n codes.
-pub fn code(stream: &[u8], count: u64, cursor: Cursor) -> Cursor
-    ensures { result ≡ code stream.now count cursor }
+pub fn code(stream: &[u8], count: u64, cursor: Cursor) -> Result<Cursor, Refused>
+    ensures { to_cursor result ≡ code stream.now count (good cursor) }
 {
-    u8_below(stream, count, refusal::MALFORMED, cursor)
+    u8_below(stream, count, Refusal::Malformed, cursor)
 }
 
 // A count of arguments or parameters.
-pub fn small_count(stream: &[u8], cursor: Cursor) -> Cursor
-    ensures { result ≡ small_count stream.now cursor }
+pub fn small_count(stream: &[u8], cursor: Cursor) -> Result<Cursor, Refused>
+    ensures { to_cursor result ≡ small_count stream.now (good cursor) }
 {
-    u8_below(stream, 9, refusal::OUTSIDE_LIMIT, cursor)
+    u8_below(stream, 9, Refusal::OutsideLimit, cursor)
 }
 
 // One of m names.
-pub fn name(stream: &[u8], names: u64, cursor: Cursor) -> Cursor
-    ensures { result ≡ name stream.now names cursor }
+pub fn name(stream: &[u8], names: u64, cursor: Cursor) -> Result<Cursor, Refused>
+    ensures { to_cursor result ≡ name stream.now names (good cursor) }
 {
-    u16_below(stream, names, refusal::NAMES_NOTHING, cursor)
+    u16_below(stream, names, Refusal::NamesNothing, cursor)
 }
 
-pub fn name_or(stream: &[u8], names: u64, cursor: Cursor) -> Cursor
-    ensures { result ≡ name_or stream.now names cursor }
+pub fn name_or(stream: &[u8], names: u64, cursor: Cursor) -> Result<Cursor, Refused>
+    ensures { to_cursor result ≡ name_or stream.now names (good cursor) }
 {
-    u16_or(stream, names, refusal::NAMES_NOTHING, cursor)
+    u16_or(stream, names, Refusal::NamesNothing, cursor)
 }
 
-pub fn size(stream: &[u8], cursor: Cursor) -> Cursor
-    ensures { result ≡ size stream.now cursor }
+pub fn size(stream: &[u8], cursor: Cursor) -> Result<Cursor, Refused>
+    ensures { to_cursor result ≡ size stream.now (good cursor) }
 {
-    u16_below(stream, SIZES, refusal::OUTSIDE_LIMIT, cursor)
+    u16_below(stream, SIZES, Refusal::OutsideLimit, cursor)
 }
 
-pub fn size_or(stream: &[u8], cursor: Cursor) -> Cursor
-    ensures { result ≡ size_or stream.now cursor }
+pub fn size_or(stream: &[u8], cursor: Cursor) -> Result<Cursor, Refused>
+    ensures { to_cursor result ≡ size_or stream.now (good cursor) }
 {
-    u16_or(stream, SIZES, refusal::OUTSIDE_LIMIT, cursor)
+    u16_or(stream, SIZES, Refusal::OutsideLimit, cursor)
 }
 
 // A first bit and a bit count.
-pub fn bits(stream: &[u8], cursor: Cursor) -> Cursor
-    ensures { result ≡ bits stream.now cursor }
+#[tactic(auto, using(crate::proofs::RefusedLaws::passing))]
+pub fn bits(stream: &[u8], cursor: Cursor) -> Result<Cursor, Refused>
+    ensures { to_cursor result ≡ bits stream.now (good cursor) }
 {
-    u16_below(
-        stream,
-        BITS,
-        refusal::OUTSIDE_LIMIT,
-        u16_below(stream, BITS, refusal::OUTSIDE_LIMIT, cursor),
-    )
+    let first = u16_below(stream, BITS, Refusal::OutsideLimit, cursor)?;
+    u16_below(stream, BITS, Refusal::OutsideLimit, first)
+}
+
+impl From<Refused> for Refusal {
+    ghost from_gives = { λ refused refusal. refusal ≡ refused.refusal };
+
+    fn from(refused: Refused) -> Refusal {
+        refused.refusal
+    }
 }

@@ -22,7 +22,7 @@ pub struct Sizing {
 pub fn entry(table: &[u16; table::LENGTH], list: usize, bytes: u64) -> usize
     ensures { result ≡ entry table.now list bytes }
 {
-    access::get_u16(table, table::LISTS + list % 16) as usize + (bytes % 1048576) as usize
+    access::get(table, table::LISTS + list % 16) as usize + (bytes % 1048576) as usize
 }
 
 // The size of entry i of list k, whose entries are a name and a size.

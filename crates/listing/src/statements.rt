@@ -50,7 +50,7 @@ fn macro_of(stream: &[u8], table: &[u16; table::LENGTH], ordinal: u64) -> usize 
 }
 
 fn later(table: &[u16; table::LENGTH], index: usize, ordinal: u64, last: usize) -> usize {
-    if access::get_u16(table, table::MACRO_ORDINALS + index % 128) as u64 <= ordinal {
+    if access::get(table, table::MACRO_ORDINALS + index % 128) as u64 <= ordinal {
         return index;
     }
     last
@@ -81,8 +81,8 @@ fn in_macro<W: Write>(
     ordinal: u64,
 ) -> io::Result<()> {
     let i = macro_of(stream, table, ordinal) % 128;
-    let first = access::get_u16(table, table::MACRO_ORDINALS + i) as u64;
-    let at = access::get_u16(table, table::MACROS + i);
+    let first = access::get(table, table::MACRO_ORDINALS + i) as u64;
+    let at = access::get(table, table::MACROS + i);
     kind_at(out, stream, body_at(stream, at), since(ordinal, first))?;
     text(out, b" in macro ")?;
     if 2 <= at {
@@ -97,11 +97,11 @@ fn described<W: Write>(
     table: &[u16; table::LENGTH],
     ordinal: u64,
 ) -> io::Result<()> {
-    let first = access::get_u16(table, table::FIRST_ORDINAL) as u64;
+    let first = access::get(table, table::FIRST_ORDINAL) as u64;
     if ordinal < first {
         return in_macro(out, stream, table, ordinal);
     }
-    let at = access::get_u16(table, table::STATEMENTS) as usize;
+    let at = access::get(table, table::STATEMENTS) as usize;
     kind_at(out, stream, at, since(ordinal, first))
 }
 

@@ -26,7 +26,7 @@ fn spelled<'a>(stream: &'a [u8], at: usize) -> &'a [u8]
 pub fn name<'a>(stream: &'a [u8], table: &[u16; table::LENGTH], number: u64) -> &'a [u8]
     ensures { result.now ≡ name_of stream.now table.now number }
 {
-    let at = access::get_u16(table, number as usize) as usize;
+    let at = access::get(table, number as usize) as usize;
     spelled(stream, at)
 }
 

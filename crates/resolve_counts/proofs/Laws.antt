@@ -3,8 +3,14 @@ use Prim.Native.Nat.{ℕ, ◌*◌, ◌/◌, ◌≤◌, ◌<◌}
 use mathlib.Core.Path.{◌≡◌, sym, ◌∙◌}
 use mathlib.Core.List.{List, ◌++◌}
 use lib.ListN.{length, take, replicate}
-use borrow.Author.Tests.{eq-eqb, ne_eqb}
+use mathlib.Core.Bool.{Bool, true, false}
+use lib.Dec.{eqb}
+use borrow.Author.Tests.{ne_eqb}
 use Rattle.access.specs.Le.{le16}
+use Rattle.codes.specs.declared.refusal.Refusal.{Refusal}
+use Rattle.codes.specs.Refusals.{number, number_or_zero}
+use Rattle.std.specs.Prelude.{Result, Ok, Err, is_err}
+use Rattle.codes.proofs.Numbers.{number-nonzero}
 use Rattle.definition.specs.SectionFile.{stream_of, read}
 use Rattle.definition.specs.Passing.{subtable_count, pointer_size_in}
 use Rattle.prelude.specs.Base.{when◌then◌else◌}
@@ -20,29 +26,26 @@ pub table_law : (s t : List ℕ) (subtables pointer : ℕ) → (subtables ≡ le
 unfolding table_counts
 table_law s t subtables pointer p q = rw (p.0, q)
 
-module _ (s t : List ℕ) (bad : ℕ) (f : answer bad t ≡ read_stream s (replicate 3344 0)) where
-  pub stream_refused : (bad ≡ 0 → ⊥) → counts 0 0 ≡ stream_counts s
-  unfolding stream_counts read_counts
-  stream_refused h = rw (← f, ne_eqb bad 0 h)
-
-  pub stream_read : (r : Counts) → bad ≡ 0 → r ≡ table_counts s t → r ≡ stream_counts s
-  unfolding stream_counts read_counts
-  stream_read r h e = rw (← f, eq-eqb bad 0 h) e
+pub not_zero : (r : Refusal) → eqb (number r) 0 ≡ false
+not_zero r = ne_eqb (number r) 0 (number-nonzero r)
 
 pub blocks_law : (file rest buf : List ℕ) (r : Counts) → buf ≡ joined (length file / 512) file ++ rest → r ≡ stream_counts (take (length file / 512 * 510) buf) → r ≡ stream_counts (joined (length file / 512) file)
 blocks_law file rest buf r e f = rw (e, front file rest) at f
 
-module _ (file : List ℕ) (bad : ℕ) (p : bad ≡ refusal_of (stream_of file)) where
-  pub file-refused : (bad ≡ 0 → ⊥) → counts 0 0 ≡ counts (subtable_count (read file)) (pointer_size_in (read file))
-  file-refused h = refused-counts file bad p h
+module _ (file : List ℕ) where
+  pub refused_when : {A : Type 0} (r : Result A Refusal) (b : Bool) → number_or_zero r ≡ refusal_of (stream_of file) → b ≡ is_err r → b ≡ true → counts 0 0 ≡ counts (subtable_count (read file)) (pointer_size_in (read file))
+  refused_when (Ok x) b p q h = cc
+  refused_when (Err e) b p q h = refused-counts file (number e) p (number-nonzero e)
 
-  pub file_blocks : (r : Counts) → bad ≡ 0 → r ≡ stream_counts (joined (length file / 512) file) → r ≡ counts (subtable_count (read file)) (pointer_size_in (read file))
-  file_blocks r h e = e ∙ file-counts file (sym p ∙ h)
+  pub blocks : (r : Counts) → 0 ≡ refusal_of (stream_of file) → r ≡ stream_counts (joined (length file / 512) file) → r ≡ counts (subtable_count (read file)) (pointer_size_in (read file))
+  blocks r p e = e ∙ file-counts file (sym p)
 
-  pub file-one : (r : Counts) → bad ≡ 0 → length file ≡ 512 → r ≡ stream_counts (take 510 file) → r ≡ counts (subtable_count (read file)) (pointer_size_in (read file))
-  file-one r h l e = file_blocks r h (rw (one_block file l) e)
+  pub one : (r : Counts) → 0 ≡ refusal_of (stream_of file) → length file ≡ 512 → r ≡ stream_counts (take 510 file) → r ≡ counts (subtable_count (read file)) (pointer_size_in (read file))
+  one r p l e = blocks r p (rw (one_block file l) e)
 
-  pub room : bad ≡ 0 → length file / 512 * 510 ≤ 65280
-  room h = checked_room file (sym p ∙ h)
+  pub room : 0 ≡ refusal_of (stream_of file) → length file / 512 * 510 ≤ 65280
+  room p = checked_room file (sym p)
 
-pub ruleset laws = (table_law, stream_refused, stream_read, front_room, blocks_law, file-refused, file-one, file_blocks, room)
+pub ruleset section_laws = (blocks, one, room)
+
+pub ruleset laws = (table_law, front_room, blocks_law)

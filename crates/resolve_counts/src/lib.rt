@@ -17,6 +17,12 @@ pub struct Counts {
     pub pointer: u64,
 }
 
+// What is told of a file that is refused.
+const NO_COUNTS: Counts = Counts {
+    subtables: 0,
+    pointer: 0,
+};
+
 fn table_counts(stream: &[u8], table: &[u16; table::LENGTH]) -> Counts
     ensures { result ≡ table_counts stream.now table.now }
 {
@@ -25,18 +31,15 @@ fn table_counts(stream: &[u8], table: &[u16; table::LENGTH]) -> Counts
     Counts { subtables, pointer }
 }
 
+#[tactic(auto, using(crate::proofs::Laws::not_zero), unfolding(crate::specs::Counts::stream_counts, crate::specs::Counts::read_counts))]
 fn stream_counts(stream: &[u8]) -> Counts
     ensures { result ≡ stream_counts stream.now }
 {
     let mut t = [0u16; table::LENGTH];
-    let bad = file_section::read_stream(stream, &mut t);
-    if bad != 0 {
-        return Counts {
-            subtables: 0,
-            pointer: 0,
-        };
+    match file_section::read_stream(stream, &mut t) {
+        Ok(()) => table_counts(stream, &t),
+        Err(_) => NO_COUNTS,
     }
-    table_counts(stream, &t)
 }
 
 // The stream is the first n bytes.
@@ -58,15 +61,12 @@ fn blocks_counts(file: &[u8]) -> Counts
     front_counts(&buf, n)
 }
 
+#[tactic(auto, using(crate::proofs::Laws::section_laws))]
 pub fn section_counts(file: &[u8]) -> Counts
     ensures { result ≡ counts (subtable_count (read file.now)) (pointer_size_in (read file.now)) }
 {
-    let bad = file_blocks::blocks::check_blocks(file);
-    if bad != 0 {
-        return Counts {
-            subtables: 0,
-            pointer: 0,
-        };
+    if file_blocks::blocks::check_blocks(file).is_err() {
+        return NO_COUNTS;
     }
     if file.len() == 512 {
         return front_counts(file, 510);

@@ -1,9 +1,14 @@
 -- One law for each way out of the functions from the stream up to the file.
 use mathlib.Core.Path.{◌≡◌, sym, ◌∙◌}
+use mathlib.Core.Bool.{false}
 use mathlib.Core.List.{List, ◌++◌}
 use Prim.Native.Nat.{ℕ, ◌+◌, ◌*◌, ◌/◌, ◌≤◌, ◌<◌}
 use lib.ListN.{length, get_or, take, replicate}
+use lib.Dec.{eqb}
 use borrow.Author.Tests.{eq-eqb, ne_eqb, lt-ltb, le-ltb}
+use Rattle.codes.specs.declared.refusal.Refusal.{Refusal}
+use Rattle.codes.specs.Refusals.{number}
+use Rattle.codes.proofs.Numbers.{number-nonzero}
 use Rattle.definition.specs.SectionFile.{stream_of}
 use Rattle.access.specs.Le.{le16}
 use Rattle.file_blocks.specs.Blocks.{refusal_of, joined}
@@ -55,32 +60,15 @@ module _ (s t a m : List ℕ) (subtables : ℕ) (p : (subtables ≡ le16 s 20) �
     unfolding resolve_section resolve_walked
     section_next next w k e = rw (← p.0, le-ltb (length a / 24) subtables h, ← q, ← f, k) e
 
-module _ (s a m t : List ℕ) (bad : ℕ) (r : Answer) (a1 m1 : List ℕ) (f : answer bad t ≡ read_stream s (replicate 3344 0)) where
-  pub stream_refused : (bad ≡ 0 → ⊥) → resolved_to r a1 m1 ≡ refused a m bad 65535 0 → resolved_to r a1 m1 ≡ resolve_stream s a m
-  unfolding resolve_stream resolve_read
-  stream_refused h e = rw (← f, ne_eqb bad 0 h) e
-
-  pub stream_read : bad ≡ 0 → resolved_to r a1 m1 ≡ resolve_section s t a m → resolved_to r a1 m1 ≡ resolve_stream s a m
-  unfolding resolve_stream resolve_read
-  stream_read h e = rw (← f, eq-eqb bad 0 h) e
+pub not_zero : (r : Refusal) → eqb (number r) 0 ≡ false
+not_zero r = ne_eqb (number r) 0 (number-nonzero r)
 
 pub blocks_law : (file rest buf a m a1 m1 : List ℕ) (r : Answer) → buf ≡ joined (length file / 512) file ++ rest → resolved_to r a1 m1 ≡ resolve_stream (take (length file / 512 * 510) buf) a m → resolved_to r a1 m1 ≡ resolve_stream (joined (length file / 512) file) a m
 blocks_law file rest buf a m a1 m1 r e f = rw (e, front file rest) at f
 
-module _ (file a m : List ℕ) (bad : ℕ) (r : Answer) (a1 m1 : List ℕ) (p : bad ≡ refusal_of (stream_of file)) where
-  pub file-refused : (bad ≡ 0 → ⊥) → resolved_to r a1 m1 ≡ refused a m bad 65535 0 → resolved_to r a1 m1 ≡ resolve_file file a m
-  unfolding resolve_file
-  file-refused h e = rw (← p, ne_eqb bad 0 h) e
+pub room : (file : List ℕ) → 0 ≡ refusal_of (stream_of file) → length file / 512 * 510 ≤ 65280
+room file p = checked_room file (sym p)
 
-  pub file-one : bad ≡ 0 → length file ≡ 512 → resolved_to r a1 m1 ≡ resolve_stream (take 510 file) a m → resolved_to r a1 m1 ≡ resolve_file file a m
-  unfolding resolve_file
-  file-one h l e = rw (← p, eq-eqb bad 0 h, one_block file l) e
+pub ruleset words_laws = (not_zero, one_block, room)
 
-  pub file_blocks : bad ≡ 0 → resolved_to r a1 m1 ≡ resolve_stream (joined (length file / 512) file) a m → resolved_to r a1 m1 ≡ resolve_file file a m
-  unfolding resolve_file
-  file_blocks h e = rw (← p, eq-eqb bad 0 h) e
-
-  pub room : bad ≡ 0 → length file / 512 * 510 ≤ 65280
-  room h = checked_room file (sym p ∙ h)
-
-pub ruleset file_laws = (pointer_none, pointer-some, start_law, walk_law, section_small, section_stop, section_next, stream_refused, stream_read, front_room, blocks_law, file-refused, file-one, file_blocks, room)
+pub ruleset file_laws = (pointer_none, pointer-some, start_law, walk_law, section_small, section_stop, section_next, front_room, blocks_law)

@@ -71,23 +71,25 @@ fn start_env(pointer: u64) -> Env
 
 // The section's own statements, which have no parameters, with macro calls 16 deep at most.
 fn walk_section(
-    section: Section<'_>,
+    stream: &[u8],
+    table: &[u16; table::LENGTH],
     actions: &mut [u64],
     temporaries: &mut [u64],
     subtables: usize,
     pointer: u64,
 ) -> Step
-    ensures { stepped result actions.new temporaries.new ≡ walk_section section.entry.stream.now section.entry.table.now actions.old temporaries.old subtables pointer }
+    ensures { stepped result actions.new temporaries.new ≡ walk_section stream.now table.now actions.old temporaries.old subtables pointer }
 {
     let mut scope = [0u64; SCOPE_WORDS];
-    let pos = access::get_u16(section.table, table::STATEMENTS) as usize;
-    let n = access::u16_at(section.stream, header::STATEMENTS);
-    let ordinal = access::get_u16(section.table, table::FIRST_ORDINAL) as u64;
+    let pos = access::get(table, table::STATEMENTS) as usize;
+    let n = access::u16_at(stream, header::STATEMENTS);
+    let ordinal = access::get(table, table::FIRST_ORDINAL) as u64;
     let e = start_env(pointer);
     let w = at_start(subtables);
     stmt_bodies::statements::body(
         DEPTH,
-        section,
+        stream,
+        table,
         &mut scope,
         actions,
         temporaries,
@@ -100,32 +102,33 @@ fn walk_section(
 }
 
 fn resolve_section(
-    section: Section<'_>,
+    stream: &[u8],
+    table: &[u16; table::LENGTH],
     actions: &mut [u64],
     temporaries: &mut [u64],
 ) -> Answer
-    ensures { resolved_to result actions.new temporaries.new ≡ resolve_section section.entry.stream.now section.entry.table.now actions.old temporaries.old }
+    ensures { resolved_to result actions.new temporaries.new ≡ resolve_section stream.now table.now actions.old temporaries.old }
 {
-    let subtables = access::u16_at(section.stream, header::SUBTABLES) as usize;
+    let subtables = access::u16_at(stream, header::SUBTABLES) as usize;
     if actions.len() / action::WORDS < subtables {
-        return refused(actions, temporaries, Refusal::ListFull, NONE, 0);
+        return refused(actions, temporaries, refusal::LIST_FULL, NONE, 0);
     }
-    let ptr = pointer_size(section);
-    match walk_section(section, actions, temporaries, subtables, ptr) {
+    let ptr = pointer_size(stream, table);
+    match walk_section(stream, table, actions, temporaries, subtables, ptr) {
         Step::Stop { refusal, ordinal } => refused(actions, temporaries, refusal, ordinal, 0),
-        Step::Next { next: _, w } => finish(section, actions, temporaries, ptr, w),
+        Step::Next { next: _, w } => finish(stream, table, actions, temporaries, ptr, w),
     }
 }
 
+#[tactic(auto, using(crate::proofs::FileLaws::not_zero), unfolding(crate::specs::Files::resolve_stream, crate::specs::Files::resolve_read))]
 fn resolve_stream(stream: &[u8], actions: &mut [u64], temporaries: &mut [u64]) -> Answer
     ensures { resolved_to result actions.new temporaries.new ≡ resolve_stream stream.now actions.old temporaries.old }
 {
     let mut t = [0u16; table::LENGTH];
-    let bad = file_section::read_stream(stream, &mut t);
-    if bad != 0 {
-        return refused(actions, temporaries, bad, NONE, 0);
+    match file_section::read_stream(stream, &mut t) {
+        Ok(()) => resolve_section(stream, &t, actions, temporaries),
+        Err(refusal) => refused(actions, temporaries, u64::from(refusal), NONE, 0),
     }
-    resolve_section(stream, &t, actions, temporaries)
 }
 
 // The stream is the first n bytes.
@@ -147,12 +150,12 @@ fn resolve_blocks(file: &[u8], actions: &mut [u64], temporaries: &mut [u64]) -> 
     resolve_front(&buf, n, actions, temporaries)
 }
 
+#[tactic(auto, using(crate::proofs::FileLaws::words_laws), unfolding(crate::specs::Files::resolve_file))]
 pub fn resolve_words(file: &[u8], actions: &mut [u64], temporaries: &mut [u64]) -> Answer
     ensures { resolved_to result actions.new temporaries.new ≡ resolve_file file.now actions.old temporaries.old }
 {
-    let bad = file_blocks::blocks::check_blocks(file);
-    if bad != 0 {
-        return refused(actions, temporaries, bad, NONE, 0);
+    if let Err(refusal) = file_blocks::blocks::check_blocks(file) {
+        return refused(actions, temporaries, u64::from(refusal), NONE, 0);
     }
     if file.len() == 512 {
         return resolve_front(file, 510, actions, temporaries);

@@ -11,8 +11,7 @@ use Rattle.prelude.specs.Base.{when◌then◌else◌}
 use Rattle.definition.specs.Ast.{PcodeExpr, JumpLabel, BranchDst, Statement}
 use Rattle.definition.specs.SectionFile.{parsed, refused, Read, expr_within}
 use Rattle.definition.specs.SectionFile as d
-use Rattle.file_syntax.specs.declared.cursor.Cursor.{Cursor}
-use Rattle.file_syntax.specs.Cursors.{cursor, number, u8, u16, u16or, skip}
+use Rattle.file_syntax.specs.Cursors.{Cursor, cursor, number, u8, u16, u16or, skip}
 use Rattle.file_syntax.specs.Expressions as expressions
 use Rattle.file_syntax.specs.Statements as section
 use Rattle.file_refinement.proofs.Agree.{Agrees, went, stopped, Any}

@@ -24,7 +24,7 @@ use Rattle.list_pushes.specs.declared.push.Env.{Env as WordEnv}
 use Rattle.list_values.specs.Base.{Listed, listed, then_l}
 use Rattle.list_values.specs.Values.{absent, no_output}
 use Rattle.list_pushes.specs.Pushes.{push, push_op}
-use Rattle.file_syntax.specs.declared.cursor.Cursor.{Cursor}
+use Rattle.file_syntax.specs.Cursors.{Cursor}
 use Rattle.file_refinement.specs.Holds.{absent_at}
 use Rattle.file_refinement.proofs.Inversion.{StoreAt}
 use Rattle.list_refinement.specs.Encoding.{enc_v, Sound, first_of, second_of, output_of}

@@ -200,7 +200,7 @@ pub fn user_op_statement(
 pub fn macro_at(table: &[u16; table::LENGTH], id: u64) -> usize
     ensures { result ≡ macro_at table.now id }
 {
-    access::get_u16(table, table::MACROS + (id % 128) as usize) as usize
+    access::get(table, table::MACROS + (id % 128) as usize) as usize
 }
 
 // Gives n arguments the names of the macro's parameters, which stand from a position on: each slot's first word.

@@ -1,13 +1,9 @@
-use mathlib.Core.Path.{refl, sym}
+use mathlib.Core.Path.{sym}
 use Prim.Native.Nat.{◌+◌}
 use lib.Dec.{lit<}
 use native.Mathlib.Omega.{arith}
 use lib.ListN.{get_or-eq_default}
 use Rattle.access.proofs.byte.Goals as goal
-
-pub returns-then-index-bytes : goal.returns-then-index-bytes
-returns-then-index-bytes c =
-    (refl, omega arith)
 
 pub returns-else-index-bytes : goal.returns-else-index-bytes
 returns-else-index-bytes c =

@@ -2,8 +2,8 @@ use Rattle.std.proofs.Common.{rules}
 use Rattle.resolve_file.proofs.FileLaws.{file_laws}
 use Rattle.resolve_file.proofs.walk_section.Goals as goal
 
-pub get_u16-pos-requires : goal.get_u16-pos-requires
-get_u16-pos-requires c = search (file_laws, rules)
+pub get-pos-requires : goal.get-pos-requires
+get-pos-requires c = search (file_laws, rules)
 
 pub overflow_cast-pos : goal.overflow_cast-pos
 overflow_cast-pos c = search (file_laws, rules)
@@ -11,8 +11,8 @@ overflow_cast-pos c = search (file_laws, rules)
 pub u16_at-n-requires : goal.u16_at-n-requires
 u16_at-n-requires c = search (file_laws, rules)
 
-pub get_u16-ordinal-requires : goal.get_u16-ordinal-requires
-get_u16-ordinal-requires c = search (file_laws, rules)
+pub get-ordinal-requires : goal.get-ordinal-requires
+get-ordinal-requires c = search (file_laws, rules)
 
 pub overflow_cast-ordinal : goal.overflow_cast-ordinal
 overflow_cast-ordinal c = search (file_laws, rules)

@@ -5,8 +5,8 @@ use Rattle.expr_scope.proofs.symbols.lookup.Goals as goal
 pub overflow_add-name : goal.overflow_add-name
 overflow_add-name c = search (symbol_laws, rules)
 
-pub get_u16-g-requires : goal.get_u16-g-requires
-get_u16-g-requires c = search (symbol_laws, rules)
+pub get-g-requires : goal.get-g-requires
+get-g-requires c = search (symbol_laws, rules)
 
 pub overflow_cast-g : goal.overflow_cast-g
 overflow_cast-g c = search (symbol_laws, rules)

@@ -9,7 +9,7 @@ loop-k-init c = (omega arith, refl, refl, join_start _ c.args.stream.now _)
 
 pub loop-k-preserved : goal.loop-k-preserved
 loop-k-preserved c =
-    (let x = placed c.args.file.now c.loop-k.stream _ _ c.loop-k.k (omega arith) (omega arith) c.copy_payload.ensures refl in (omega arith, search rules, join-rest c.args.file.now c.loop-k.stream _ _ c.loop-k.k (omega arith) (omega arith) x c.loop-k.invariant.2, join_more c.args.file.now c.loop-k.stream _ c.loop-k.k _ (omega arith) (omega arith) (omega arith) x c.loop-k.invariant.3))
+    (let x = placed c.args.file.now c.loop-k.stream _ _ c.loop-k.k c.copy_from_slice.ensures.after refl in (omega arith, search rules, join-rest c.args.file.now c.loop-k.stream _ _ c.loop-k.k (omega arith) (omega arith) x c.loop-k.invariant.2, join_more c.args.file.now c.loop-k.stream _ c.loop-k.k _ (omega arith) (omega arith) (omega arith) x c.loop-k.invariant.3))
 
 pub shape_of-stream : goal.shape_of-stream
 shape_of-stream c = c.loop-k.invariant.1

@@ -9,7 +9,7 @@ loop-k-init c = (omega arith, refl, refl)
 
 pub loop-k-preserved : goal.loop-k-preserved
 loop-k-preserved c =
-    (omega arith, c.list-cursor.auto.table ∙ c.loop-k.invariant.1, run_again 9 _ _ _ _ _ (omega arith) c.loop-k.invariant.2 c.list-cursor.ensures)
+    (omega arith, c.list-so_far.auto.table ∙ c.loop-k.invariant.1, run_again 9 _ _ _ _ _ (omega arith) c.loop-k.invariant.2 c.list-so_far.ensures)
 
 pub shape_of-table : goal.shape_of-table
 shape_of-table c = c.loop-k.invariant.1

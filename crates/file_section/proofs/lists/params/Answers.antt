@@ -1,15 +1,20 @@
 use native.Mathlib.Omega.{arith}
-use mathlib.Core.Path.{refl}
-use Rattle.access.proofs.LoopLaws.{run_start, run_again}
-use Rattle.file_section.proofs.ListLaws.{params_law}
+use Rattle.std.proofs.lemmas.Result.{err_from_is_err_and}
+use Rattle.access.proofs.LoopLaws.{run_again, run_end}
+use Rattle.file_syntax.specs.Expressions.{counted}
+use Rattle.file_syntax.proofs.RefusedLaws.{run_stops, u16_passes}
+use Rattle.file_section.specs.Lists as words
 use Rattle.file_section.proofs.lists.params.Goals as goal
 
-pub loop-i-init : goal.loop-i-init
-loop-i-init c = (omega arith, refl, run_start _ _ _)
-
 pub loop-i-preserved : goal.loop-i-preserved
-loop-i-preserved c =
-    (omega arith, c.loop-i.invariant.1, run_again _ _ _ _ _ _ (omega arith) c.loop-i.invariant.2 c.name-cursor.ensures)
+loop-i-preserved c = (omega arith, c.loop-i.invariant.1, run_again _ _ _ _ _ _ (omega arith) c.loop-i.invariant.2 c.in_ok-cursor.ensures)
+
+pub returns-in_err-cursor : goal.returns-in_err-cursor
+unfolding words.params counted
+returns-in_err-cursor c =
+    let p = err_from_is_err_and c.from_residual.result c.from_residual.ensures.1 in
+    rw (p.1, p.2) (run_stops _ c.loop-i.i _ _ _ _ (omega arith) c.loop-i.invariant.2 c.in_err-cursor.ensures (u16_passes _ _ _ _ _))
 
 pub returns : goal.returns
-returns c = params_law _ _ _ _ _ _ c.loop-i.invariant.1 (omega arith) c.loop-i.invariant.2
+unfolding words.params counted
+returns c = run_end _ c.loop-i.i _ _ _ (omega arith) c.loop-i.invariant.2

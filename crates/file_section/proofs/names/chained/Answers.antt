@@ -7,12 +7,12 @@ use Rattle.file_section.proofs.names.chained.Goals as goal
 pub loop-i-init : goal.loop-i-init
 loop-i-init c = (omega arith, refl, run_start _ _ _, c.requires.1)
 
-pub name_at-cursor-requires : goal.name_at-cursor-requires
-name_at-cursor-requires c = (omega arith, c.loop-i.invariant.3)
+pub name_at-so_far-requires : goal.name_at-so_far-requires
+name_at-so_far-requires c = (omega arith, c.loop-i.invariant.3)
 
 pub loop-i-preserved : goal.loop-i-preserved
 loop-i-preserved c =
-    (omega arith, c.name_at-cursor.auto.table ∙ c.loop-i.invariant.1, run_again _ _ _ _ _ _ (omega arith) c.loop-i.invariant.2 c.name_at-cursor.ensures.0, c.name_at-cursor.ensures.1)
+    (omega arith, c.name_at-so_far.auto.table ∙ c.loop-i.invariant.1, run_again _ _ _ _ _ _ (omega arith) c.loop-i.invariant.2 c.name_at-so_far.ensures.0, c.name_at-so_far.ensures.1)
 
 pub shape_of-table : goal.shape_of-table
 shape_of-table c = c.loop-i.invariant.1

@@ -1,14 +1,19 @@
 use native.Mathlib.Omega.{arith}
-use Rattle.access.proofs.LoopLaws.{run_start, run_again}
-use Rattle.file_syntax.proofs.CodeLaws.{body_law}
+use Rattle.std.proofs.lemmas.Result.{err_from_is_err_and}
+use Rattle.access.proofs.LoopLaws.{run_again, run_end}
+use Rattle.file_syntax.specs.Statements as words
+use Rattle.file_syntax.proofs.RefusedLaws.{run_stops, statement_passes}
 use Rattle.file_syntax.proofs.statements.body.Goals as goal
 
-pub loop-i-init : goal.loop-i-init
-loop-i-init c = (omega arith, run_start _ _ _)
-
 pub loop-i-preserved : goal.loop-i-preserved
-loop-i-preserved c =
-    (omega arith, run_again _ _ _ _ _ _ (omega arith) c.loop-i.invariant.1 c.statement-cursor.ensures)
+loop-i-preserved c = (omega arith, run_again _ _ _ _ _ _ (omega arith) c.loop-i.invariant.1 c.in_ok-cursor.ensures)
+
+pub returns-in_err-cursor : goal.returns-in_err-cursor
+unfolding words.body
+returns-in_err-cursor c =
+    let p = err_from_is_err_and c.from_residual.result c.from_residual.ensures.1 in
+    rw (p.1, p.2) (run_stops _ c.loop-i.i _ _ _ _ (omega arith) c.loop-i.invariant.1 c.in_err-cursor.ensures (statement_passes _ _ _ _))
 
 pub returns : goal.returns
-returns c = body_law _ _ _ _ _ _ (omega arith) c.loop-i.invariant.1
+unfolding words.body
+returns c = run_end _ c.loop-i.i _ _ _ (omega arith) c.loop-i.invariant.1

@@ -6,4 +6,4 @@ use Rattle.listing_names.proofs.names.name.Goals as goal
 pub returns : goal.returns
 unfolding name_of
 returns c =
-    c.spelled.ensures ∙ ap (spelled_at c.args.stream.now) c.get_u16-at.ensures
+    c.spelled.ensures ∙ ap (spelled_at c.args.stream.now) c.get-at.ensures

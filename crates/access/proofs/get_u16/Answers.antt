@@ -1,6 +1,0 @@
-use mathlib.Core.Path.{sym}
-use lib.ListN.{get_or-eq_default}
-use Rattle.access.proofs.get_u16.Goals as goal
-
-pub returns-else-index-list : goal.returns-else-index-list
-returns-else-index-list c = sym (get_or-eq_default c.args.list.now 0 c.if-index-list.false)

@@ -1,0 +1,106 @@
+-- Bytes that are all zero, by eight at a time.
+use mathlib.Core.Path.{◌≡◌, refl, sym, ◌∙◌}
+use mathlib.Core.Bool.{Bool, true, false}
+use mathlib.Core.List.{List, [], ◌∷◌, ◌++◌}
+use Prim.Native.Nat.{ℕ, zero, suc, ◌+◌, ◌-◌, ◌%◌, ◌<◌}
+use native.Mathlib.Omega.{arith}
+use lib.ListN.{length, get_or, take, drop, length-drop, length-append, drop_of_length-le}
+use lib.Seq.{take_all, drop-cons, drop-drop, drop_at}
+use lib.Dec.{eqb}
+use borrow.Author.Tests.{eq-eqb, eqb-true}
+use Rattle.std.specs.Bool.{MatchBool}
+use Rattle.std.specs.List.{AllWithin, HoldsAt}
+use Rattle.prelude.specs.Base.{when◌then◌else◌}
+use Rattle.access.specs.Le.{le16, le32, le64}
+use Rattle.file_section.specs.Stream.{zeros}
+use Rattle.file_section.proofs.ChainLaws.{both}
+
+unfoldable pub clear : List ℕ → Bool
+clear [] = true
+clear (x ∷ xs) = when eqb x 0 then clear xs else false
+
+clear_drop : (n i : ℕ) (s : List ℕ) → n ≡ length s - i → zeros n i s ≡ clear (drop i s)
+unfolding zeros clear
+clear_drop zero i s e = rw (drop_of_length-le s {i = i} (omega arith))
+clear_drop (suc n) i s e = rw (drop-cons s i 0 (omega arith), clear_drop n (suc i) s (omega arith))
+
+pub clear_all : (s : List ℕ) → zeros (length s) 0 s ≡ clear s
+clear_all s = clear_drop (length s) 0 s (omega arith)
+
+pub clear_tail : (s : List ℕ) (i : ℕ) (r : Bool) → r ≡ zeros (length (take (length s - i) (drop i s))) 0 (take (length s - i) (drop i s)) → r ≡ zeros (length s - i) i s
+clear_tail s i r e =
+    let t : take (length s - i) (drop i s) ≡ drop i s = take_all (length s - i) (drop i s) (omega (arith, length-drop i s)) in
+    e ∙ rw t (clear_all (drop i s)) ∙ sym (clear_drop (length s - i) i s refl)
+
+pub clear_past : (s : List ℕ) (i : ℕ) → length s < i → true ≡ zeros (length s - i) i s
+unfolding zeros
+clear_past s i h = let z : length s - i ≡ 0 = omega arith in rw z
+
+clear_append : (a b : List ℕ) → clear (a ++ b) ≡ (when clear a then clear b else false)
+unfolding clear
+clear_append [] b = refl
+clear_append (x ∷ a) b = go (eqb x 0) (clear_append a b)
+  where
+    go : (t : Bool) → clear (a ++ b) ≡ (when clear a then clear b else false) → (when t then clear (a ++ b) else false) ≡ (when (when t then clear a else false) then clear b else false)
+    go true e = e
+    go false e = refl
+
+clear_at : (b : List ℕ) (i : ℕ) → clear b ≡ true → get_or b i 0 ≡ 0
+unfolding clear
+clear_at [] i e = refl
+clear_at (x ∷ b) zero e = eqb-true x 0 (both (eqb x 0) (clear b) e).0
+clear_at (x ∷ b) (suc i) e = clear_at b i (both (eqb x 0) (clear b) e).1
+
+clear_eight : (b : List ℕ) → clear b ≡ true → le64 b 0 ≡ 0
+unfolding le64 le32 le16
+clear_eight b e = rw (clear_at b 0 e, clear_at b 1 e, clear_at b 2 e, clear_at b 3 e, clear_at b 4 e, clear_at b 5 e, clear_at b 6 e, clear_at b 7 e)
+
+no_byte : (s : List ℕ) → le64 s 0 ≡ 0 →
+    (get_or s 0 0 ≡ 0) × (get_or s 1 0 ≡ 0) × (get_or s 2 0 ≡ 0) × (get_or s 3 0 ≡ 0) × (get_or s 4 0 ≡ 0) × (get_or s 5 0 ≡ 0) × (get_or s 6 0 ≡ 0) × (get_or s 7 0 ≡ 0)
+unfolding le64 le32 le16
+no_byte s e = (omega arith, omega arith, omega arith, omega arith, omega arith, omega arith, omega arith, omega arith)
+
+eight_clear : (b : List ℕ) → length b ≡ 8 → le64 b 0 ≡ 0 → clear b ≡ true
+unfolding zeros
+eight_clear b l e =
+    let n = no_byte b e in
+    sym (clear_drop 8 0 b (omega arith)) ∙ rw (n.0, n.1, n.2, n.3, n.4, n.5, n.6, n.7)
+
+-- eight bytes more
+pub word_clear : (left word rest : List ℕ) (v : ℕ) (w : Bool) → left ≡ word ++ rest → length word ≡ 8 → v ≡ le64 word 0 → v ≡ 0 → clear left ≡ w → clear rest ≡ w
+word_clear left word rest v w e l p z g = rw (e, clear_append word rest, eight_clear word l (sym p ∙ z)) at g
+
+pub word_not_clear : (left word rest : List ℕ) (v : ℕ) (w : Bool) → left ≡ word ++ rest → v ≡ le64 word 0 → (v ≡ 0 → ⊥) → clear left ≡ w → false ≡ w
+word_not_clear left word rest v w e p z g = go (clear word) refl
+  where
+    go : (b : Bool) → clear word ≡ b → false ≡ w
+    go true f = absurd (z (p ∙ clear_eight word f))
+    go false f = rw (e, clear_append word rest, f) at g
+
+-- what is behind the last eight
+pub last_more : (left word rest last : List ℕ) → left ≡ word ++ rest → length word ≡ 8 → drop (length left - length left % 8) left ≡ last → drop (length rest - length rest % 8) rest ≡ last
+last_more left word rest last e l g =
+    let n : length left ≡ 8 + length rest = rw (e, length-append, l) in
+    let m : length left - length left % 8 ≡ 8 + (length rest - length rest % 8) = omega arith in
+    let d : drop 8 left ≡ rest = rw e (drop_at word rest 8 l) in
+    let t : drop (length rest - length rest % 8) (drop 8 left) ≡ last = rw drop-drop (rw m at g) in
+    rw d at t
+
+pub last_left : (left last : List ℕ) (w : Bool) → length left < 8 → drop (length left - length left % 8) left ≡ last → clear left ≡ w → clear last ≡ w
+last_left left last w h g e =
+    let z : length left - length left % 8 ≡ 0 = omega arith in
+    rw (← (rw z at g)) e
+
+clear_each : (s : List ℕ) → ((k : ℕ) → k < length s → get_or s k 0 ≡ 0) → clear s ≡ true
+unfolding clear
+clear_each [] f = refl
+clear_each (x ∷ s) f = rw (eq-eqb x 0 (f 0 (omega arith))) (clear_each s (λ k l. f (suc k) (omega arith)))
+
+-- what `all` says of the bytes
+pub clear_is : (r : Bool) (s : List ℕ) → MatchBool r (AllWithin (λ x. x ≡ 0) s 0 (length s)) ((k : ℕ) × (k < length s) × HoldsAt (λ x. x ≡ 0 → ⊥) s k) → r ≡ clear s
+clear_is true s f = sym (clear_each s (λ k l. f k 0 (omega arith) l))
+clear_is false s f = go (clear s) refl
+  where
+    go : (b : Bool) → clear s ≡ b → false ≡ b
+    go true e = absurd (f.2 0 (clear_at s f.0 e))
+    go false e = refl
