@@ -7,7 +7,11 @@ use Rattle.list_end.specs.End.{zero_from, assemble}
 use Rattle.stmt_walk.specs.Outcomes.{Walk}
 use Rattle.stmt_walk.specs.Outcomes.{Export}
 use Rattle.resolve_answer.specs.declared.answer.Answer.{Answer}
-use Rattle.resolve_answer.specs.declared.answer.Words.{Words}
+
+-- a value's two words
+pub record Words : Type 0 where
+  pub number : ℕ
+  pub second : ℕ
 
 -- an answer, the actions and the temporaries
 pub data Resolved : Type 0 where

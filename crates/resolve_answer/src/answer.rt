@@ -1,13 +1,19 @@
 // The answer, its twelve numbers, and what the two lent lists hold with it: zeros after a refusal, else the actions in their
 // final order and the temporaries.
 ghost use Rattle.std.specs.Prelude.{◌≡◌};
-ghost use Rattle.resolve_answer.specs.Answers.{resolved_to, refused, points_of, export_words, accepted};
+ghost use Rattle.codes.specs.Refusals.{number};
+ghost use Rattle.stmt_walk.specs.Outcomes.{to_walk, to_export};
+ghost use Rattle.resolve_answer.specs.Answers.{resolved_to, refused, points_of, accepted};
+ghost use Rattle.resolve_answer.specs.Outcomes.{of_file, of_statement, of_end, export_numbers};
 
-use codes::NONE;
+use codes::refusal::Refusal;
+use codes::{NONE, export_kind};
+use list_end::end::Unfinished;
 use list_values::value::word;
-use stmt_walk::walk::{Export, Walk};
+use stmt_walk::walk::{Export, Stopped, Walk};
 
-// The last four are the export's: 0 none, 1 value, 2 RAM, 3 register; its two value words; its access size.
+// The twelve numbers of document 01, in its order, which a call from C is given word for word. The last four are the export's:
+// 0 none, 1 value, 2 RAM, 3 register; its two value words; its access size.
 #[derive(Clone, Copy)]
 pub struct Answer {
     pub refusal: u64,
@@ -24,26 +30,63 @@ pub struct Answer {
     pub size: u64,
 }
 
-pub fn refused(
-    actions: &mut [u64],
-    temporaries: &mut [u64],
-    refusal: u64,
-    ordinal: u64,
-    errors: u64,
-) -> Answer
-    ensures { resolved_to result actions.new temporaries.new ≡ refused actions.old temporaries.old refusal ordinal errors }
+// Why a section is refused, at which statement, 65,535 where it is none, and the size errors that were counted.
+#[derive(Clone, Copy)]
+pub struct Rejected {
+    pub refusal: Refusal,
+    pub ordinal: u64,
+    pub errors: u64,
+}
+
+impl From<Refusal> for Rejected {
+    ghost from_gives = { λ refusal e. e ≡ of_file refusal };
+
+    fn from(refusal: Refusal) -> Rejected {
+        Rejected {
+            refusal,
+            ordinal: NONE,
+            errors: 0,
+        }
+    }
+}
+
+impl From<Stopped> for Rejected {
+    ghost from_gives = { λ stopped e. e ≡ of_statement stopped };
+
+    fn from(stopped: Stopped) -> Rejected {
+        Rejected {
+            ordinal: stopped.ordinal,
+            ..Rejected::from(stopped.refusal)
+        }
+    }
+}
+
+impl From<Unfinished> for Rejected {
+    ghost from_gives = { λ unfinished e. e ≡ of_end unfinished };
+
+    fn from(unfinished: Unfinished) -> Rejected {
+        Rejected {
+            ordinal: unfinished.sizing.begun,
+            ..Rejected::from(unfinished.refusal)
+        }
+    }
+}
+
+#[tactic(auto, using(crate::proofs::AnswerLaws::refused_law))]
+pub fn refused(actions: &mut [u64], temporaries: &mut [u64], why: Rejected) -> Answer
+    ensures { resolved_to result actions.new temporaries.new ≡ refused actions.old temporaries.old (number why.refusal) why.ordinal why.errors }
 {
     access::zero_from(actions, 0);
     access::zero_from(temporaries, 0);
     Answer {
-        refusal,
-        ordinal,
+        refusal: u64::from(why.refusal),
+        ordinal: why.ordinal,
         statements: 0,
         actions: 0,
         temporaries: 0,
         labels: 0,
         points: 0,
-        errors,
+        errors: why.errors,
         kind: 0,
         number: 0,
         word: 0,
@@ -51,6 +94,7 @@ pub fn refused(
     }
 }
 
+#[tactic(auto, unfolding(crate::specs::Answers::points_of))]
 fn points(actions: u64, temporaries: u64) -> u64
     ensures { result ≡ points_of actions temporaries }
 {
@@ -62,26 +106,44 @@ fn points(actions: u64, temporaries: u64) -> u64
     0
 }
 
-// The export's two value words, 0 and 0 where there is none.
+// The export's four numbers, all 0 where there is none.
 #[derive(Clone, Copy)]
-pub struct Words {
+pub struct ExportWords {
+    pub kind: u64,
     pub number: u64,
-    pub second: u64,
+    pub word: u64,
+    pub size: u64,
 }
 
-fn export_words(export: Export) -> Words
-    ensures { result ≡ export_words export }
+#[tactic(auto, unfolding(crate::specs::Answers::export_words))]
+fn export_words(export: Option<Export>) -> ExportWords
+    ensures { result ≡ export_numbers (to_export export) }
 {
-    if export.kind == 0 {
-        return Words {
+    match export {
+        None => ExportWords {
+            kind: 0,
             number: 0,
-            second: 0,
-        };
-    }
-    let v = export.v;
-    Words {
-        number: v.number,
-        second: word(v),
+            word: 0,
+            size: 0,
+        },
+        Some(Export::Value(v)) => ExportWords {
+            kind: export_kind::VALUE,
+            number: v.number,
+            word: word(v),
+            size: 0,
+        },
+        Some(Export::RamRef { pointer, size }) => ExportWords {
+            kind: export_kind::RAM_REF,
+            number: pointer.number,
+            word: word(pointer),
+            size,
+        },
+        Some(Export::RegisterRef { pointer, size }) => ExportWords {
+            kind: export_kind::REGISTER_REF,
+            number: pointer.number,
+            word: word(pointer),
+            size,
+        },
     }
 }
 
@@ -91,26 +153,26 @@ pub fn accepted(
     subtables: usize,
     count: usize,
     walk: Walk,
-    export: Export,
+    export: Option<Export>,
 ) -> Answer
-    ensures { resolved_to result actions.new temporaries.new ≡ accepted actions.old temporaries.old subtables count walk export }
+    ensures { resolved_to result actions.new temporaries.new ≡ accepted actions.old temporaries.old subtables count (to_walk walk) (to_export export) }
 {
     let k = list_end::end::assemble(actions, subtables, count);
-    let nt = walk.st.temporaries;
-    access::zero_from(temporaries, nt);
-    let e = export_words(export);
+    let made = walk.st.temporaries;
+    access::zero_from(temporaries, made);
+    let export = export_words(export);
     Answer {
         refusal: 0,
         ordinal: NONE,
         statements: walk.statements,
         actions: k as u64,
-        temporaries: nt as u64,
+        temporaries: made as u64,
         labels: walk.placed,
-        points: points(k as u64, nt as u64),
+        points: points(k as u64, made as u64),
         errors: 0,
         kind: export.kind,
-        number: e.number,
-        word: e.second,
+        number: export.number,
+        word: export.word,
         size: export.size,
     }
 }

@@ -1,39 +1,67 @@
 // The end of a walk: the two passes, the actions finished, the export's size fixed, the size errors counted, the answer.
-ghost use Rattle.std.specs.Prelude.{◌≡◌};
+ghost use Rattle.std.specs.Prelude.{◌≡◌, Some};
 ghost use Rattle.list_values.specs.Sizes.{sized};
-ghost use Rattle.resolve_answer.specs.Answers.{resolved_to};
-ghost use Rattle.resolve_answer.specs.Ends.{judged, finish_export, finish_sized, actions_between, both_passes, finish};
+ghost use Rattle.stmt_walk.specs.Outcomes.{to_walk, to_export};
+ghost use Rattle.resolve_answer.specs.Outcomes.{to_resolved};
+ghost use Rattle.resolve_answer.specs.Ends.{judged, export_fixed, finish_export, finish_sized, actions_between, both_passes, finish};
 
-use crate::answer::{Answer, accepted, refused};
-use codes::{action, header, refusal, table};
+use crate::answer::{Answer, Rejected, accepted};
+use codes::refusal::Refusal;
+use codes::{action, header};
+use list_end::end::{Fixed, finish_actions, fix_size};
+use list_end::passes::{backward_pass, forward_pass};
+use list_values::section::Section;
 use list_values::sizes::Sizing;
-use list_values::value::place;
+use list_values::value::{Value, place};
 use stmt_walk::walk::{Export, Walk};
 
 // Size errors refuse the section.
+#[tactic(auto, unfolding(crate::specs::Ends::judged))]
 fn judged(
     actions: &mut [u64],
     temporaries: &mut [u64],
     subtables: usize,
     count: usize,
     walk: Walk,
-    export: Export,
+    export: Option<Export>,
     sizing: Sizing,
-) -> Answer
-    ensures { resolved_to result actions.new temporaries.new ≡ judged actions.old temporaries.old subtables count walk export sizing }
+) -> Result<Answer, Rejected>
+    ensures { to_resolved result actions.new temporaries.new ≡ judged actions.old temporaries.old subtables count (to_walk walk) (to_export export) sizing }
 {
     if sizing.errors != 0 {
-        return refused(
-            actions,
-            temporaries,
-            Refusal::ErrorsRecorded,
-            sizing.first,
-            sizing.errors,
-        );
+        return Err(Rejected {
+            refusal: Refusal::ErrorsRecorded,
+            ordinal: sizing.first,
+            errors: sizing.errors,
+        });
     }
-    accepted(actions, temporaries, subtables, count, walk, export)
+    Ok(accepted(actions, temporaries, subtables, count, walk, export))
 }
 
+// The value that is exported, or the pointer to it.
+fn exported(export: Export) -> Value
+    ensures { result ≡ (to_export (Some export)).v }
+{
+    match export {
+        Export::Value(v) => v,
+        Export::RamRef { pointer, .. } => pointer,
+        Export::RegisterRef { pointer, .. } => pointer,
+    }
+}
+
+// The export with its value as it was fixed.
+fn with_fixed(export: Export, fixed: Fixed) -> Export
+    ensures { to_export (Some result) ≡ export_fixed (to_export (Some export)) fixed }
+{
+    let pointer = fixed.v;
+    match export {
+        Export::Value(_) => Export::Value(pointer),
+        Export::RamRef { size, .. } => Export::RamRef { pointer, size },
+        Export::RegisterRef { size, .. } => Export::RegisterRef { pointer, size },
+    }
+}
+
+#[tactic(auto, unfolding(crate::specs::Ends::finish_export, crate::specs::Ends::judged_fixed))]
 fn finish_export(
     section: Section<'_>,
     actions: &mut [u64],
@@ -43,25 +71,29 @@ fn finish_export(
     pointer: u64,
     walk: Walk,
     sizing: Sizing,
-) -> Answer
-    ensures { resolved_to result actions.new temporaries.new ≡ finish_export section.entry.stream.now section.entry.table.now actions.old temporaries.old subtables count pointer walk sizing }
+) -> Result<Answer, Rejected>
+    ensures { to_resolved result actions.new temporaries.new ≡ finish_export section.entry.stream.now section.entry.table.now actions.old temporaries.old subtables count pointer (to_walk walk) sizing }
 {
-    let x = walk.export;
-    if x.kind == 0 {
-        return judged(actions, temporaries, subtables, count, walk, x, sizing);
+    match walk.export {
+        None => judged(actions, temporaries, subtables, count, walk, None, sizing),
+        Some(export) => {
+            let fixed = fix_size(section, temporaries, exported(export), pointer, sizing);
+            let export = Some(with_fixed(export, fixed));
+            judged(
+                actions,
+                temporaries,
+                subtables,
+                count,
+                walk,
+                export,
+                fixed.z,
+            )
+        }
     }
-    let v = x.v;
-    let f = list_end::end::fix_size(section, temporaries, v, pointer, sizing);
-    let fixed = f.v;
-    let y = Export {
-        kind: x.kind,
-        v: fixed,
-        size: x.size,
-    };
-    judged(actions, temporaries, subtables, count, walk, y, f.z)
 }
 
 // From the actions with the sizes that the passes found.
+#[tactic(auto, unfolding(crate::specs::Ends::finish_sized, crate::specs::Ends::finish_done, list_values::specs::Base::then_l))]
 fn finish_sized(
     section: Section<'_>,
     actions: &mut [u64],
@@ -71,22 +103,11 @@ fn finish_sized(
     pointer: u64,
     walk: Walk,
     sizing: Sizing,
-) -> Answer
-    ensures { resolved_to result actions.new temporaries.new ≡ finish_sized section.entry.stream.now section.entry.table.now actions.old temporaries.old subtables count pointer walk sizing }
+) -> Result<Answer, Rejected>
+    ensures { to_resolved result actions.new temporaries.new ≡ finish_sized section.entry.stream.now section.entry.table.now actions.old temporaries.old subtables count pointer (to_walk walk) sizing }
 {
-    let f = list_end::end::finish_actions(
-        section,
-        actions,
-        temporaries,
-        place(0, subtables),
-        count,
-        pointer,
-        sizing,
-    );
-    if f.refusal != 0 {
-        let y = f.z;
-        return refused(actions, temporaries, f.refusal, y.begun, 0);
-    }
+    let base = place(0, subtables);
+    let sizing = finish_actions(section, actions, temporaries, base, count, pointer, sizing)?;
     finish_export(
         section,
         actions,
@@ -95,11 +116,12 @@ fn finish_sized(
         count,
         pointer,
         walk,
-        f.z,
+        sizing,
     )
 }
 
 // How many actions stand between two positions.
+#[tactic(auto, unfolding(crate::specs::Ends::actions_between))]
 fn actions_between(base: usize, end: usize) -> usize
     ensures { result ≡ actions_between base end }
 {
@@ -109,6 +131,7 @@ fn actions_between(base: usize, end: usize) -> usize
     (end - base) / action::WORDS
 }
 
+#[tactic(auto, unfolding(crate::specs::Ends::both_passes, list_values::specs::Sizes::then_s))]
 fn both_passes(
     section: Section<'_>,
     actions: &mut [u64],
@@ -120,36 +143,29 @@ fn both_passes(
 ) -> Sizing
     ensures { sized result actions.new temporaries.new ≡ both_passes section.entry.stream.now section.entry.table.now actions.old temporaries.old base count pointer sizing }
 {
-    let y = list_end::passes::backward_pass(
-        section,
-        actions,
-        temporaries,
-        base,
-        count,
-        pointer,
-        sizing,
-    );
-    list_end::passes::forward_pass(section, actions, temporaries, base, count, pointer, y)
+    let back = backward_pass(section, actions, temporaries, base, count, pointer, sizing);
+    forward_pass(section, actions, temporaries, base, count, pointer, back)
 }
 
+#[tactic(auto, unfolding(crate::specs::Ends::finish, crate::specs::Ends::finish_all, list_values::specs::Sizes::then_s))]
 pub fn finish(
     section: Section<'_>,
     actions: &mut [u64],
     temporaries: &mut [u64],
     pointer: u64,
     walk: Walk,
-) -> Answer
-    ensures { resolved_to result actions.new temporaries.new ≡ finish section.entry.stream.now section.entry.table.now actions.old temporaries.old pointer walk }
+) -> Result<Answer, Rejected>
+    ensures { to_resolved result actions.new temporaries.new ≡ finish section.entry.stream.now section.entry.table.now actions.old temporaries.old pointer (to_walk walk) }
 {
     let subtables = access::u16_at(section.stream, header::SUBTABLES) as usize;
     let base = place(0, subtables);
-    let n = actions_between(base, walk.st.end);
-    let z = both_passes(
+    let count = actions_between(base, walk.st.end);
+    let sizing = both_passes(
         section,
         actions,
         temporaries,
         base,
-        n,
+        count,
         pointer,
         walk.st.sizing,
     );
@@ -158,9 +174,9 @@ pub fn finish(
         actions,
         temporaries,
         subtables,
-        n,
+        count,
         pointer,
         walk,
-        z,
+        sizing,
     )
 }

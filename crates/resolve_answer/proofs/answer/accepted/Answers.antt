@@ -1,6 +1,6 @@
-use Rattle.std.proofs.Common.{rules}
-use Rattle.resolve_answer.proofs.AnswerLaws.{answer_laws}
+use Rattle.resolve_answer.proofs.AnswerLaws.{accepted_law}
 use Rattle.resolve_answer.proofs.answer.accepted.Goals as goal
 
 pub returns : goal.returns
-returns c = search (answer_laws, rules)
+returns c =
+    accepted_law _ _ _ _ _ _ _ _ _ _ _ c.assemble-k.ensures c.zero_from.ensures c.export_words-export.ensures c.points.ensures
