@@ -4,39 +4,43 @@
 
 ghost use Rattle.std.specs.Prelude.{◌≡◌, ◌*◌, ◌/◌, ◌≤◌, length, take};
 ghost use Rattle.file_blocks.specs.Blocks.{joined};
+ghost use Rattle.stmt_walk.specs.Outcomes.{to_walk, to_steps};
 ghost use Rattle.stmt_walk.specs.Walks.{stepped};
 ghost use Rattle.resolve_answer.specs.Answers.{resolved_to};
+ghost use Rattle.resolve_answer.specs.Outcomes.{to_resolved};
 ghost use Rattle.resolve_file.specs.Files.{pointer_size, at_start, start_env, walk_section, resolve_section, resolve_stream, resolve_file};
 
-use codes::{NONE, action, header, refusal, table};
+use codes::refusal::Refusal;
+use codes::{NONE, action, header, table};
 use expr_scope::smalls::SCOPE_WORDS;
 use list_pushes::push::{Env, State};
-use list_values::sizes::Sizing;
-use list_values::value::{absent, place};
-use resolve_answer::answer::{Answer, refused};
+use list_values::section::Section;
+use list_values::sizes::{Sizing, entry};
+use list_values::value::place;
+use resolve_answer::answer::{Answer, Rejected, refused};
 use resolve_answer::finish::finish;
-use stmt_walk::walk::{Export, Step, Walk};
+use stmt_bodies::statements::body;
+use stmt_walk::walk::{Stopped, Walk};
 
 // How deep macro calls go at most.
 const DEPTH: u64 = 16;
 
 // The size of the default space's pointers, 8 where there is none.
-pub fn pointer_size(stream: &[u8], table: &[u16; table::LENGTH]) -> u64
-    ensures { result ≡ pointer_size stream.now table.now }
+#[tactic(auto, unfolding(crate::specs::Files::pointer_size))]
+pub fn pointer_size(section: Section<'_>) -> u64
+    ensures { result ≡ pointer_size section.entry.stream.now section.entry.table.now }
 {
-    let i = access::u16_at(stream, header::DEFAULT_SPACE);
+    let i = access::u16_at(section.stream, header::DEFAULT_SPACE);
     if i == NONE {
         return 8;
     }
-    access::u16_at(
-        stream,
-        list_values::sizes::entry(table, table::SPACES, i * 5 + 3),
-    )
+    let at = entry(section.table, table::SPACES, i * 5 + 3);
+    access::u16_at(section.stream, at)
 }
 
 // Actions begin behind room for the Builds of all subtables.
 fn at_start(subtables: usize) -> Walk
-    ensures { result ≡ at_start subtables }
+    ensures { to_walk result ≡ at_start subtables }
 {
     Walk {
         st: State {
@@ -51,11 +55,7 @@ fn at_start(subtables: usize) -> Walk
         labels: 0,
         placed: 0,
         statements: 0,
-        export: Export {
-            kind: 0,
-            v: absent(),
-            size: 0,
-        },
+        export: None,
     }
 }
 
@@ -63,7 +63,7 @@ fn start_env(pointer: u64) -> Env
     ensures { result ≡ start_env pointer }
 {
     Env {
-        pointer: pointer,
+        pointer,
         own: true,
         count: 0,
     }
@@ -71,78 +71,92 @@ fn start_env(pointer: u64) -> Env
 
 // The section's own statements, which have no parameters, with macro calls 16 deep at most.
 fn walk_section(
-    stream: &[u8],
-    table: &[u16; table::LENGTH],
+    section: Section<'_>,
     actions: &mut [u64],
     temporaries: &mut [u64],
     subtables: usize,
     pointer: u64,
-) -> Step
-    ensures { stepped result actions.new temporaries.new ≡ walk_section stream.now table.now actions.old temporaries.old subtables pointer }
+) -> Result<(usize, Walk), Stopped>
+    ensures { stepped (to_steps result) actions.new temporaries.new ≡ walk_section section.entry.stream.now section.entry.table.now actions.old temporaries.old subtables pointer }
 {
     let mut scope = [0u64; SCOPE_WORDS];
+    let table = section.table;
     let pos = access::get(table, table::STATEMENTS) as usize;
-    let n = access::u16_at(stream, header::STATEMENTS);
+    let count = access::u16_at(section.stream, header::STATEMENTS);
     let ordinal = access::get(table, table::FIRST_ORDINAL) as u64;
-    let e = start_env(pointer);
-    let w = at_start(subtables);
-    stmt_bodies::statements::body(
+    let env = start_env(pointer);
+    let walk = at_start(subtables);
+    body(
         DEPTH,
-        stream,
-        table,
+        section,
         &mut scope,
         actions,
         temporaries,
-        e,
+        env,
         pos,
-        n,
+        count,
         ordinal,
-        w,
+        walk,
     )
 }
 
+#[tactic(auto, unfolding(crate::specs::Files::resolve_section, crate::specs::Files::resolve_walked))]
 fn resolve_section(
-    stream: &[u8],
-    table: &[u16; table::LENGTH],
+    section: Section<'_>,
     actions: &mut [u64],
     temporaries: &mut [u64],
-) -> Answer
-    ensures { resolved_to result actions.new temporaries.new ≡ resolve_section stream.now table.now actions.old temporaries.old }
+) -> Result<Answer, Rejected>
+    ensures { to_resolved result actions.new temporaries.new ≡ resolve_section section.entry.stream.now section.entry.table.now actions.old temporaries.old }
 {
-    let subtables = access::u16_at(stream, header::SUBTABLES) as usize;
+    let subtables = access::u16_at(section.stream, header::SUBTABLES) as usize;
     if actions.len() / action::WORDS < subtables {
-        return refused(actions, temporaries, refusal::LIST_FULL, NONE, 0);
+        return Err(Rejected::from(Refusal::ListFull));
     }
-    let ptr = pointer_size(stream, table);
-    match walk_section(stream, table, actions, temporaries, subtables, ptr) {
-        Step::Stop { refusal, ordinal } => refused(actions, temporaries, refusal, ordinal, 0),
-        Step::Next { next: _, w } => finish(stream, table, actions, temporaries, ptr, w),
-    }
+    let pointer = pointer_size(section);
+    let (_, walk) = walk_section(section, actions, temporaries, subtables, pointer)?;
+    finish(section, actions, temporaries, pointer, walk)
 }
 
 #[tactic(auto, using(crate::proofs::FileLaws::not_zero), unfolding(crate::specs::Files::resolve_stream, crate::specs::Files::resolve_read))]
-fn resolve_stream(stream: &[u8], actions: &mut [u64], temporaries: &mut [u64]) -> Answer
-    ensures { resolved_to result actions.new temporaries.new ≡ resolve_stream stream.now actions.old temporaries.old }
+fn resolve_stream(
+    stream: &[u8],
+    actions: &mut [u64],
+    temporaries: &mut [u64],
+) -> Result<Answer, Rejected>
+    ensures { to_resolved result actions.new temporaries.new ≡ resolve_stream stream.now actions.old temporaries.old }
 {
-    let mut t = [0u16; table::LENGTH];
-    match file_section::read_stream(stream, &mut t) {
-        Ok(()) => resolve_section(stream, &t, actions, temporaries),
-        Err(refusal) => refused(actions, temporaries, u64::from(refusal), NONE, 0),
-    }
+    let mut table = [0u16; table::LENGTH];
+    file_section::read_stream(stream, &mut table)?;
+    let section = Section {
+        stream,
+        table: &table,
+    };
+    resolve_section(section, actions, temporaries)
 }
 
 // The stream is the first n bytes.
-fn resolve_front(bytes: &[u8], count: usize, actions: &mut [u64], temporaries: &mut [u64]) -> Answer
+fn resolve_front(
+    bytes: &[u8],
+    count: usize,
+    actions: &mut [u64],
+    temporaries: &mut [u64],
+) -> Result<Answer, Rejected>
     requires { count ≤ length bytes.now }
-    ensures { resolved_to result actions.new temporaries.new ≡ resolve_stream (take count bytes.now) actions.old temporaries.old }
+    ensures { to_resolved result actions.new temporaries.new ≡ resolve_stream (take count bytes.now) actions.old temporaries.old }
 {
     resolve_stream(&bytes[..count], actions, temporaries)
 }
 
-// A file of several blocks, whose payloads are joined.
-fn resolve_blocks(file: &[u8], actions: &mut [u64], temporaries: &mut [u64]) -> Answer
+// A file of several blocks, whose payloads are joined. The one block of a small file is read where it stands, since to make
+// this room for it would take as long as all the rest.
+#[tactic(auto, using(crate::proofs::FileLaws::file_laws))]
+fn resolve_blocks(
+    file: &[u8],
+    actions: &mut [u64],
+    temporaries: &mut [u64],
+) -> Result<Answer, Rejected>
     requires { length file.now / 512 * 510 ≤ 65280 }
-    ensures { resolved_to result actions.new temporaries.new ≡ resolve_stream (joined (length file.now / 512) file.now) actions.old temporaries.old }
+    ensures { to_resolved result actions.new temporaries.new ≡ resolve_stream (joined (length file.now / 512) file.now) actions.old temporaries.old }
 {
     let mut buf = [0u8; 65280];
     file_blocks::blocks::join(file, &mut buf);
@@ -151,14 +165,21 @@ fn resolve_blocks(file: &[u8], actions: &mut [u64], temporaries: &mut [u64]) -> 
 }
 
 #[tactic(auto, using(crate::proofs::FileLaws::words_laws), unfolding(crate::specs::Files::resolve_file))]
-pub fn resolve_words(file: &[u8], actions: &mut [u64], temporaries: &mut [u64]) -> Answer
-    ensures { resolved_to result actions.new temporaries.new ≡ resolve_file file.now actions.old temporaries.old }
+fn resolve(file: &[u8], actions: &mut [u64], temporaries: &mut [u64]) -> Result<Answer, Rejected>
+    ensures { to_resolved result actions.new temporaries.new ≡ resolve_file file.now actions.old temporaries.old }
 {
-    if let Err(refusal) = file_blocks::blocks::check_blocks(file) {
-        return refused(actions, temporaries, u64::from(refusal), NONE, 0);
-    }
+    file_blocks::blocks::check_blocks(file)?;
     if file.len() == 512 {
         return resolve_front(file, 510, actions, temporaries);
     }
     resolve_blocks(file, actions, temporaries)
+}
+
+pub fn resolve_words(file: &[u8], actions: &mut [u64], temporaries: &mut [u64]) -> Answer
+    ensures { resolved_to result actions.new temporaries.new ≡ resolve_file file.now actions.old temporaries.old }
+{
+    match resolve(file, actions, temporaries) {
+        Ok(answer) => answer,
+        Err(why) => refused(actions, temporaries, why),
+    }
 }
