@@ -1,5 +1,5 @@
 -- One law for each way out of the functions from the stream up to the file.
-use mathlib.Core.Path.{◌≡◌, sym, ◌∙◌}
+use mathlib.Core.Path.{◌≡◌, sym}
 use mathlib.Core.Bool.{false}
 use mathlib.Core.List.{List, ◌++◌}
 use Prim.Native.Nat.{ℕ, ◌+◌, ◌*◌, ◌/◌, ◌≤◌, ◌<◌}
@@ -12,11 +12,9 @@ use Rattle.codes.proofs.Numbers.{number-nonzero}
 use Rattle.definition.specs.SectionFile.{stream_of}
 use Rattle.access.specs.Le.{le16}
 use Rattle.file_blocks.specs.Blocks.{refusal_of, joined}
-use Rattle.file_section.specs.Stream.{answer, read_stream}
 use Rattle.file_refinement.proofs.FileTheorem.{one_block, checked_room, front, front_room}
 use Rattle.list_pushes.specs.declared.push.Env.{Env}
 use Rattle.list_values.specs.declared.value.Value.{Value}
-use Rattle.prelude.specs.Base.{when◌then◌else◌}
 use Rattle.list_values.specs.Values.{absent, place}
 use Rattle.list_values.specs.Sizes.{entry}
 use Rattle.stmt_walk.specs.declared.walk.Walk.{Walk}
@@ -26,7 +24,7 @@ use Rattle.stmt_bodies.specs.Statements.{resolve_body}
 use Rattle.resolve_answer.specs.declared.answer.Answer.{Answer}
 use Rattle.resolve_answer.specs.Answers.{resolved_to, refused}
 use Rattle.resolve_answer.specs.Ends.{finish}
-use Rattle.resolve_file.specs.Files.{pointer_size, at_start, start_env, walk_section, resolve_walked, resolve_section, resolve_read, resolve_stream, resolve_file}
+use Rattle.resolve_file.specs.Files.{pointer_size, at_start, start_env, walk_section, resolve_walked, resolve_section, resolve_stream}
 
 module _ (s t : List ℕ) (i : ℕ) (p : (i ≡ le16 s 24) × (i < 65536)) where
   pub pointer_none : i ≡ 65535 → 8 ≡ pointer_size s t
