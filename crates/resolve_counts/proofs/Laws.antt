@@ -2,7 +2,7 @@
 use Prim.Native.Nat.{ℕ, ◌*◌, ◌/◌, ◌≤◌, ◌<◌}
 use mathlib.Core.Path.{◌≡◌, sym, ◌∙◌}
 use mathlib.Core.List.{List, ◌++◌}
-use lib.ListN.{length, take, replicate}
+use lib.ListN.{length, take}
 use mathlib.Core.Bool.{Bool, true, false}
 use lib.Dec.{eqb}
 use borrow.Author.Tests.{ne_eqb}
@@ -13,13 +13,11 @@ use Rattle.std.specs.Prelude.{Result, Ok, Err, is_err}
 use Rattle.codes.proofs.Numbers.{number-nonzero}
 use Rattle.definition.specs.SectionFile.{stream_of, read}
 use Rattle.definition.specs.Passing.{subtable_count, pointer_size_in}
-use Rattle.prelude.specs.Base.{when◌then◌else◌}
 use Rattle.file_blocks.specs.Blocks.{refusal_of, joined}
-use Rattle.file_section.specs.Stream.{answer, read_stream}
 use Rattle.file_refinement.proofs.FileTheorem.{one_block, checked_room, front, front_room}
 use Rattle.resolve_file.specs.Files.{pointer_size}
 use Rattle.resolve_counts.specs.declared.Counts.{Counts}
-use Rattle.resolve_counts.specs.Counts.{counts, table_counts, read_counts, stream_counts}
+use Rattle.resolve_counts.specs.Counts.{counts, table_counts, stream_counts}
 use Rattle.resolve_counts.proofs.Theorem.{file-counts, refused-counts}
 
 pub table_law : (s t : List ℕ) (subtables pointer : ℕ) → (subtables ≡ le16 s 20) × (subtables < 65536) → pointer ≡ pointer_size s t → counts subtables pointer ≡ table_counts s t

@@ -12,7 +12,6 @@ use Rattle.definition.specs.Ast.{Section}
 use Rattle.definition.specs.SectionFile.{Parsed, parsed, refused, on, stream_of, read_section, read}
 use Rattle.definition.specs.ActionList.{when_read}
 use Rattle.definition.specs.Passing.{subtable_count, pointer_size_in}
-use Rattle.prelude.specs.Base.{when◌then◌else◌}
 use Rattle.file_blocks.specs.Blocks.{refusal_of, joined}
 use Rattle.file_section.specs.Stream.{read_stream}
 use Rattle.file_refinement.proofs.Agree.{refusal_bad}

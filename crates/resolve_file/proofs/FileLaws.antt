@@ -1,5 +1,5 @@
 -- One law for each way out of the functions from the stream up to the file.
-use mathlib.Core.Path.{◌≡◌, sym, ◌∙◌}
+use mathlib.Core.Path.{◌≡◌, sym}
 use mathlib.Core.Bool.{false}
 use mathlib.Core.List.{List, ◌++◌}
 use Prim.Native.Nat.{ℕ, ◌+◌, ◌*◌, ◌/◌, ◌≤◌, ◌<◌}
@@ -12,11 +12,9 @@ use Rattle.codes.proofs.Numbers.{number-nonzero}
 use Rattle.definition.specs.SectionFile.{stream_of}
 use Rattle.access.specs.Le.{le16}
 use Rattle.file_blocks.specs.Blocks.{refusal_of, joined}
-use Rattle.file_section.specs.Stream.{answer, read_stream}
 use Rattle.file_refinement.proofs.FileTheorem.{one_block, checked_room, front, front_room}
 use Rattle.list_pushes.specs.declared.push.Env.{Env}
 use Rattle.list_values.specs.declared.value.Value.{Value}
-use Rattle.prelude.specs.Base.{when◌then◌else◌}
 use Rattle.list_values.specs.Values.{absent, place}
 use Rattle.list_values.specs.Sizes.{entry}
 use Rattle.stmt_walk.specs.Outcomes.{Walk}
@@ -26,7 +24,7 @@ use Rattle.stmt_bodies.specs.Statements.{resolve_body}
 use Rattle.resolve_answer.specs.declared.answer.Answer.{Answer}
 use Rattle.resolve_answer.specs.Answers.{Resolved}
 use Rattle.resolve_answer.specs.Ends.{finish}
-use Rattle.resolve_file.specs.Files.{pointer_size, at_start, start_env, walk_section, resolve_walked, resolve_section, resolve_read, resolve_stream, resolve_file}
+use Rattle.resolve_file.specs.Files.{pointer_size, at_start, start_env, walk_section, resolve_walked, resolve_section, resolve_stream}
 
 pub walk_law : (s t a m p1 a1 m1 : List ℕ) (subtables ptr pos n ordinal : ℕ) (e : Env) (w : Walk) (r : Step) → pos ≡ get_or t 3337 0 → (n ≡ le16 s 22) × (n < 65536) → ordinal ≡ get_or t 3338 0 → e ≡ start_env ptr → w ≡ at_start subtables →
     walked r p1 a1 m1 ≡ resolve_body 16 s t (replicate 406 0) a m e pos n ordinal w → stepped r a1 m1 ≡ walk_section s t a m subtables ptr
