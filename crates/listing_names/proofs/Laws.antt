@@ -26,7 +26,7 @@ word_cons x xs zero h = absurd (h refl)
 word_cons x xs (suc l) h = go (eqb x 32) refl
   where
     go : (b : Bool) → eqb x 32 ≡ b → word (when eqb x 32 then suc l - 1 else suc l) xs ≡ word l (when eqb x 32 then xs else rest xs)
-    go true e =  rw (e, less_one l)
+    go true e = rw (e, less_one l)
     go false e = unfold word in rw e
 
 -- one turn of `begin`, and its two ends
@@ -73,8 +73,8 @@ take_first [] = refl
 take_first (x ∷ xs) = go (eqb x 32) refl (take_first xs)
   where
     go : (b : Bool) → eqb x 32 ≡ b → take (length (first xs)) xs ≡ first xs → take (length (when eqb x 32 then [] else (x ∷ first xs))) (x ∷ xs) ≡ (when eqb x 32 then [] else (x ∷ first xs))
-    go true e h =  rw e
-    go false e h =  rw (e, h)
+    go true e h = rw e
+    go false e h = rw (e, h)
 
 pub word_law : (xs : List ℕ) (n from to : ℕ) → first (drop from xs) ≡ word n xs → to ≡ from + length (first (drop from xs)) → take (to - from) (drop from xs) ≡ word n xs
 word_law xs n from to e q =
@@ -93,7 +93,7 @@ rest_wide (x ∷ xs) = go (eqb x 32) refl (rest_wide xs)
   where
     go : (b : Bool) → eqb x 32 ≡ b → widest (rest xs) ≤ widest xs → widest (when eqb x 32 then xs else rest xs) ≤ widest (x ∷ xs)
     go true e h = unfold widest in rw e (omega arith)
-    go false e h =  rw e (let k : widest xs ≤ widest (x ∷ xs) = unfold widest in omega arith in omega arith)
+    go false e h = rw e (let k : widest xs ≤ widest (x ∷ xs) = unfold widest in omega arith in omega arith)
 
 word_wide : (n : ℕ) (xs : List ℕ) → length (word n xs) ≤ widest xs
 unfolding word
