@@ -1,4 +1,6 @@
 // An action on a line, as the field prints p-code; a label stands on its own line, further left.
+ghost use Rattle.std.specs.Prelude.{◌<◌};
+
 use crate::names::{Name, Names};
 use crate::values::{Size, Value};
 use codes::{NONE, action, action_kind, operation, value_kind};
@@ -118,10 +120,9 @@ struct Inputs<'a> {
 
 impl fmt::Display for Inputs<'_> {
     fn fmt<W: fmt::Write>(&self, f: &mut fmt::Formatter<W>) -> fmt::Result {
-        let mut ahead = self.first;
-        for [number, word] in self.words.iter().copied() {
+        for (index, [number, word]) in self.words.iter().copied().enumerate() {
+            let ahead = if index == 0 { self.first } else { ", " };
             write!(f, "{ahead}{}", self.names.value(number, word))?;
-            ahead = ", ";
         }
         Ok(())
     }

@@ -5,6 +5,9 @@ use file_syntax::cursor::Cursor;
 use listing_names::names::Section;
 use std::fmt;
 
+// A section has no more macros.
+const MACROS: usize = 128;
+
 #[derive(Clone, Copy)]
 enum Kind {
     Unimplemented,
@@ -78,15 +81,17 @@ fn after(stream: &[u8], at: usize, count: u64) -> usize {
 }
 
 // The number that stands in the table at a place.
-fn entry(section: Section<'_>, place: usize) -> usize {
-    usize::from(access::get_u16(section.table, place))
+fn entry(section: Section<'_>, place: usize) -> u16 {
+    let table = section.table;
+    access::get_u16(table, place)
 }
 
 // The last macro whose body begins at the ordinal or before.
 fn macro_of(section: Section<'_>, ordinal: u64) -> usize {
-    let macros = access::u16_at(section.stream, header::MACROS) as usize;
-    let ordinals = &section.table[table::MACRO_ORDINALS..table::LISTS];
-    ordinals[..macros.min(ordinals.len())]
+    let table = section.table;
+    let ordinals = &table[table::MACRO_ORDINALS..table::LISTS];
+    let count = access::u16_at(section.stream, header::MACROS) as usize;
+    ordinals[..count.min(ordinals.len())]
         .iter()
         .rposition(|first| u64::from(*first) <= ordinal)
         .unwrap_or(0)
@@ -95,23 +100,24 @@ fn macro_of(section: Section<'_>, ordinal: u64) -> usize {
 // The body of a macro, whose parameter count stands behind its name.
 fn macro_body<'a>(section: Section<'a>, index: usize) -> Body<'a> {
     let stream = section.stream;
-    let at = entry(section, table::MACROS + index);
+    let index = index % MACROS;
+    let at = usize::from(entry(section, table::MACROS + index));
     let parameters = access::byte(stream, at, 0) as usize;
     let name = section.name(access::u16_at(stream, at.saturating_sub(2)));
     Body {
         at: at + 3 + 2 * parameters,
-        first: entry(section, table::MACRO_ORDINALS + index) as u64,
+        first: u64::from(entry(section, table::MACRO_ORDINALS + index)),
         of_macro: Some(Name(name)),
     }
 }
 
 fn body_of<'a>(section: Section<'a>, ordinal: u64) -> Body<'a> {
-    let first = entry(section, table::FIRST_ORDINAL) as u64;
+    let first = u64::from(entry(section, table::FIRST_ORDINAL));
     if ordinal < first {
         return macro_body(section, macro_of(section, ordinal));
     }
     Body {
-        at: entry(section, table::STATEMENTS),
+        at: usize::from(entry(section, table::STATEMENTS)),
         first,
         of_macro: None,
     }
