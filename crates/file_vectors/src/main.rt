@@ -31,9 +31,8 @@ impl<'a> Input<'a> {
         u16::from_le_bytes([self.byte(), self.byte()])
     }
 
-    fn u32(&mut self) -> usize {
-        let bytes = [self.byte(), self.byte(), self.byte(), self.byte()];
-        u32::from_le_bytes(bytes) as usize
+    fn u32(&mut self) -> u32 {
+        u32::from_le_bytes([self.byte(), self.byte(), self.byte(), self.byte()])
     }
 
     // The bytes behind a length byte; none where they are not all there.
@@ -46,7 +45,7 @@ impl<'a> Input<'a> {
 
     // A run's bytes, at their places among the payloads of a file's blocks, as far as the file goes.
     fn run(&mut self, file: &mut [u8]) {
-        let start = self.u32();
+        let start = self.u32() as usize;
         for index in 0..usize::from(self.byte()) {
             let place = (start + index) % 65536;
             let byte = self.byte();
@@ -58,7 +57,7 @@ impl<'a> Input<'a> {
 
     // The file of a description.
     fn file(&mut self, alloc: Global) -> Result<Vec<u8>, AllocError> {
-        let length = self.u32() % (FILE + 1);
+        let length = self.u32() as usize % (FILE + 1);
         let mut file = vec![in alloc; 0u8; length]?;
         for _ in 0..self.u16() {
             self.run(&mut file);

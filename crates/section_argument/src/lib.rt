@@ -152,3 +152,43 @@ pub fn read_section(rt: &(impl Files + AllocGlobal), path: &[u8]) -> Result<Vec<
     }
     Ok(bytes)
 }
+
+#[cfg(test)]
+mod tests {
+    use super::*;
+    use std::test::Fail;
+
+    #[test]
+    fn arguments_are_read(rt: HostRuntime) -> Result<(), Fail> {
+        let words = arguments(&rt)?;
+        assert!(rt; words.len() <= ARGUMENTS);
+        Ok(())
+    }
+
+    // One byte more than the longest file shows that a file is too long.
+    #[test]
+    fn no_more_than_needed_is_read(rt: HostRuntime) -> Result<(), Fail> {
+        assert_eq!(rt; read_section(&rt, b"/dev/zero")?.len(), 65537);
+        assert_eq!(rt; read_section(&rt, b"/dev/null")?.len(), 0);
+        Ok(())
+    }
+
+    #[test]
+    fn a_missing_file_is_named(rt: HostRuntime) -> Result<(), Fail> {
+        let Err(problem) = read_section(&rt, b"/no/such/file") else {
+            return Err(Fail::from("a file that is missing"));
+        };
+        let said = problem.to_string(rt.alloc())?;
+        assert_eq!(rt;
+            said.as_str(),
+            "the file cannot be opened: /no/such/file: No such file or directory"
+        );
+        Ok(())
+    }
+
+    #[test]
+    fn only_the_number_is_cut_off(rt: HostRuntime) {
+        assert_eq!(rt; words("Is a directory (os error 21)"), "Is a directory");
+        assert_eq!(rt; words("unexpected end"), "unexpected end");
+    }
+}
