@@ -46,8 +46,9 @@ impl<'a> Input<'a> {
     // A run's bytes, at their places among the payloads of a file's blocks, as far as the file goes.
     fn run(&mut self, file: &mut [u8]) {
         let start = self.u32() as usize;
-        for index in 0..usize::from(self.byte()) {
-            let place = (start + index) % 65536;
+        let end = start + usize::from(self.byte());
+        for place in start..end {
+            let place = place % 65536;
             let byte = self.byte();
             if let Some(old) = file.get_mut(place / 510 * 512 + place % 510) {
                 *old = byte;

@@ -16,7 +16,6 @@ use Rattle.std.proofs.lemmas.Iterator.{YieldsList}
 use Rattle.std.proofs.lemmas.List.{get_or_past}
 use Rattle.std.specs.List.{slice_split, onto_first}
 use Rattle.std.proofs.lemmas.List.Splits.{length-slice_split}
-use Rattle.prelude.specs.Base.{when◌then◌else◌}
 use Rattle.listing_names.specs.Words.{first, rest, word}
 
 word_nil : (n : ℕ) → word n [] ≡ []

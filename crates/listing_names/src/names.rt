@@ -38,7 +38,6 @@ impl<'a> Section<'a> {
     ghost use Rattle.listing_names.specs.Names.{name_of, name_in, symbol_name};
 
     // Name n.
-    #[tactic(auto, unfolding(crate::specs::Names::name_of))]
     pub fn name(&self, number: u64) -> &'a [u8]
         ensures { result.now ≡ name_of self.now.stream.now self.now.table.now number }
     {
@@ -47,7 +46,6 @@ impl<'a> Section<'a> {
     }
 
     // The name of the entry that begins so many bytes into list k.
-    #[tactic(auto, unfolding(crate::specs::Names::name_in))]
     fn name_in(&self, list: usize, bytes: u64) -> &'a [u8]
         ensures { result.now ≡ name_in self.now.stream.now self.now.table.now list bytes }
     {
@@ -55,7 +53,6 @@ impl<'a> Section<'a> {
     }
 
     // The name of a symbol, by its place among those of its kind.
-    #[tactic(auto, unfolding(crate::specs::Names::register_name, crate::specs::Names::user_op_name, crate::specs::Names::field_name, crate::specs::Names::subtable_name))]
     pub fn symbol(&self, symbol: Symbol, index: u64) -> &'a [u8]
         ensures { result.now ≡ symbol_name self.now.stream.now self.now.table.now symbol index }
     {

@@ -95,14 +95,14 @@ impl Case {
 #[derive(Clone, Copy)]
 pub(crate) struct Cases<'a> {
     left: &'a [u8],
-    number: u64,
+    next: u64,
 }
 
 impl<'a> Cases<'a> {
     // The cases of the data, and how many it says there are. Data that ends before that has none in it.
     pub(crate) fn new(data: &'a [u8]) -> (u64, Cases<'a>) {
         let left = data.get(4..).unwrap_or(data);
-        (access::u32_at(data, 0), Cases { left, number: 0 })
+        (access::u32_at(data, 0), Cases { left, next: 0 })
     }
 
     // Nothing may follow the last case.
@@ -114,7 +114,7 @@ impl<'a> Cases<'a> {
     }
 
     fn ill_formed(&self) -> Problem {
-        Problem::IllFormed(self.number)
+        Problem::IllFormed(self.next)
     }
 
     fn bytes(&mut self, count: usize) -> Result<&'a [u8], Problem> {
@@ -189,7 +189,7 @@ impl<'a> Cases<'a> {
             actions: self.list(alloc, lent_actions)?,
             temporaries: self.list(alloc, lent_temporaries)?,
         };
-        self.number = self.number.saturating_add(1);
+        self.next = self.next.saturating_add(1);
         Ok(case)
     }
 }

@@ -1,5 +1,4 @@
 use mathlib.Core.Path.{◌∙◌, refl, sym}
-use native.Mathlib.Omega.{arith}
 use Rattle.listing_names.proofs.Laws.{spelled_part, cut_or_whole}
 use Rattle.listing_names.proofs.names.spelled.Goals as goal
 
