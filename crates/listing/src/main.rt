@@ -87,15 +87,12 @@ impl Listing {
                 _ => None,
             };
             let errors = answer.errors;
-            return write!(
-                out,
-                "{}",
-                Refused {
-                    reason,
-                    errors,
-                    statement
-                }
-            );
+            let refused = Refused {
+                reason,
+                errors,
+                statement,
+            };
+            return write!(out, "{refused}");
         }
         let Some(section) = section else {
             return Ok(());
@@ -105,17 +102,12 @@ impl Listing {
             section,
             temporaries: &self.temporaries[..count],
         };
-        let list = &self.list;
-        let checked = self.checked;
-        write!(
-            out,
-            "{}",
-            Accepted {
-                names,
-                list,
-                checked
-            }
-        )
+        let accepted = Accepted {
+            names,
+            list: &self.list,
+            checked: self.checked,
+        };
+        write!(out, "{accepted}")
     }
 }
 

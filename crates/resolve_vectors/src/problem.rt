@@ -30,6 +30,8 @@ impl fmt::Display for Problem {
     }
 }
 
+// `section_argument::Problem` has the same three conversions: each enum writes its own, since the gate refuses an impl that a
+// macro of the repository writes.
 impl From<io::Error> for Problem {
     fn from(error: io::Error) -> Problem {
         Problem::Failed(error)
