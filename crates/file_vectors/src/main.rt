@@ -4,157 +4,106 @@
 // stream as a u32, a length byte, and bytes.
 #![tactic(auto)]
 
-ghost use Rattle.std.specs.Prelude.{◌<◌};
-
+use codes::table;
+use std::alloc::{AllocError, Global};
 use std::io::{self, BufWriter, Read, Write};
 
 // So much of the input is read; zeros stand behind a shorter one.
 const INPUT: usize = 65536;
 
-fn put(file: &mut [u8; 65537], index: usize, value: u8) {
-    if index < 65537 {
-        file[index] = value;
+// No file is longer: a byte more than the longest.
+const FILE: usize = 65537;
+
+// What is left of the input, behind which stand zeros.
+#[derive(Clone, Copy)]
+struct Input<'a>(&'a [u8]);
+
+impl<'a> Input<'a> {
+    fn byte(&mut self) -> u8 {
+        let Some((byte, left)) = self.0.split_first() else {
+            return 0;
+        };
+        self.0 = left;
+        *byte
+    }
+
+    fn u16(&mut self) -> u16 {
+        u16::from_le_bytes([self.byte(), self.byte()])
+    }
+
+    fn u32(&mut self) -> u32 {
+        u32::from_le_bytes([self.byte(), self.byte(), self.byte(), self.byte()])
+    }
+
+    // The bytes behind a length byte; none where they are not all there.
+    fn name(&mut self) -> &'a [u8] {
+        let length = usize::from(self.byte());
+        let (name, left) = self.0.split_at_checked(length).unwrap_or((&[], &[]));
+        self.0 = left;
+        name
+    }
+
+    // A run's bytes, at their places among the payloads of a file's blocks, as far as the file goes.
+    fn run(&mut self, file: &mut [u8]) {
+        let start = self.u32() as usize;
+        let end = start + usize::from(self.byte());
+        for place in start..end {
+            let place = place % 65536;
+            let byte = self.byte();
+            if let Some(old) = file.get_mut(place / 510 * 512 + place % 510) {
+                *old = byte;
+            }
+        }
+    }
+
+    // The file of a description.
+    fn file(&mut self, alloc: Global) -> Result<Vec<u8>, AllocError> {
+        let length = self.u32() as usize % (FILE + 1);
+        let mut file = vec![in alloc; 0u8; length]?;
+        for _ in 0..self.u16() {
+            self.run(&mut file);
+        }
+        if self.byte() == 1 {
+            seal(&mut file);
+        }
+        let more = self.byte();
+        if let Some(last) = file.last_mut() {
+            *last = last.wrapping_add(more);
+        }
+        Ok(file)
     }
 }
 
-fn low(number: u64) -> u8 {
-    (number % 256) as u8
-}
-
-// n further on, as long as that is in reach of the input.
-fn further(at: usize, count: u64) -> usize {
-    if at < 1000000 {
-        return at + (count % 1000000) as usize;
-    }
-    at
-}
-
-// Where byte p of the stream stands in the file.
-fn place(number: usize) -> usize {
-    let number = number % 65536;
-    number / 510 * 512 + number % 510
-}
-
-// One run; where the next one begins.
-fn run(input: &[u8], at: usize, file: &mut [u8; 65537]) -> usize {
-    let p = further(0, access::u32_at(input, at));
-    let n = access::byte(input, at, 4);
-    let from = further(at, 5);
-    for i in 0..n {
-        put(
-            file,
-            place(further(p, i)),
-            low(access::byte(input, from, i as usize)),
-        );
-    }
-    further(from, n)
-}
-
-fn runs(input: &[u8], at: usize, count: u64, file: &mut [u8; 65537]) -> usize {
-    let mut at = at;
-    for i in 0..count {
-        at = run(input, at, file);
-    }
-    at
-}
-
-fn sum(file: &[u8; 65537], from: usize) -> u64 {
-    let mut total: u64 = 0;
-    for i in 0..510 {
-        total = (total + access::byte(file, from, i)) % 65536;
-    }
-    total
-}
-
-// The right check of the first n blocks.
-fn seal(file: &mut [u8; 65537], count: usize)
-    requires { count < 129 }
-{
-    for k in 0..count {
-        let total = (sum(file, 512 * k) % 65536 + k as u64) % 65536;
-        put(file, 512 * k + 510, low(total));
-        put(file, 512 * k + 511, low(total / 256));
+// The right check of each block: its payload and its number.
+fn seal(file: &mut [u8]) {
+    let (blocks, _) = file.as_chunks_mut::<512>();
+    for (number, block) in (0..u16::MAX).zip(blocks) {
+        let payload = block[..510].iter();
+        let total = payload.fold(number, |total, byte| total.wrapping_add(u16::from(*byte)));
+        let [low, high] = total.to_le_bytes();
+        block[510] = low;
+        block[511] = high;
     }
 }
 
 // The refusal of a file, or 0.
-fn judge(file: &[u8]) -> u64 {
-    let bad = file_blocks::blocks::check_blocks(file);
-    if bad != 0 {
-        return bad;
+fn judge(alloc: Global, file: &[u8]) -> Result<u64, AllocError> {
+    let refusal = file_blocks::blocks::check_blocks(file);
+    if refusal != 0 {
+        return Ok(refusal);
     }
-    let mut t = [0u16; 3344];
-    if file.len() == 512 {
-        return file_section::read_stream(&file[..510], &mut t);
-    }
-    let mut stream = [0u8; 65280];
+    let mut stream = vec![in alloc; 0u8; file.len() / 512 * 510]?;
     file_blocks::blocks::join(file, &mut stream);
-    let n = file.len() / 512 * 510;
-    file_section::read_stream(&stream[..n], &mut t)
+    let mut table = [0u16; table::LENGTH];
+    Ok(file_section::read_stream(&stream, &mut table))
 }
 
-// How many blocks get their right check.
-fn checked(len: usize, checks: u64) -> usize
-    ensures { result < 129 }
-{
-    if checks == 1 {
-        return len % 65537 / 512;
-    }
-    0
-}
-
-// The last of n bytes raised.
-fn raise(file: &mut [u8; 65537], count: usize, by: u64) {
-    if 0 < count {
-        let last = access::byte(file, count - 1, 0) + by % 256;
-        put(file, count - 1, low(last));
-    }
-}
-
-// The refusal of the first n bytes, which are there.
-fn judge_first(bytes: &[u8], count: usize) -> u64 {
-    if count <= bytes.len() {
-        return judge(&bytes[..count]);
-    }
-    0
-}
-
-fn judge_file(file: &[u8; 65537], count: usize) -> u64 {
-    judge_first(file, count)
-}
-
-// The file of a description whose runs begin at a place, judged and written; where the next description begins.
-fn one<W: Write>(out: &mut W, input: &[u8], at: usize, len: usize) -> io::Result<usize> {
-    let mut file = [0u8; 65537];
-    let next = runs(input, further(at, 2), access::u16_at(input, at), &mut file);
-    seal(&mut file, checked(len, access::byte(input, next, 0)));
-    raise(&mut file, len % 65538, access::byte(input, next, 1));
-    write!(out, "{}", judge_file(&file, len % 65538))?;
-    Ok(further(next, 2))
-}
-
-// A description: the name, then the file.
-fn described<W: Write>(out: &mut W, input: &[u8], at: usize) -> io::Result<usize> {
-    let n = access::byte(input, at, 0);
-    let from = further(at, 1);
-    let to = further(from, n);
-    if from <= to {
-        if to <= input.len() {
-            out.write_all(&input[from..to])?;
-        }
-    }
-    out.write_all(b" ")?;
-    let len = further(0, access::u32_at(input, to));
-    let next = one(out, input, further(to, 4), len)?;
-    out.write_all(b"\n")?;
-    Ok(next)
-}
-
-fn describe<W: Write>(out: &mut W, input: &[u8]) -> io::Result<()> {
-    let n = access::u16_at(input, 0);
-    let mut at: usize = 2;
-    for i in 0..n {
-        at = described(out, input, at)?;
+fn describe<W: Write>(out: &mut W, alloc: Global, input: &[u8]) -> io::Result<()> {
+    let mut input = Input(input);
+    for _ in 0..input.u16() {
+        out.write_all(input.name())?;
+        let file = input.file(alloc)?;
+        writeln!(out, " {}", judge(alloc, &file)?)?;
     }
     Ok(())
 }
@@ -164,6 +113,6 @@ fn main(rt: HostRuntime) -> io::Result<()> {
     rt.reader().take(INPUT as u64).read_to_end(&mut input)?;
     input.resize(INPUT, 0)?;
     let mut out = BufWriter::new(rt.alloc(), io::writer(&rt))?;
-    describe(&mut out, &input)?;
+    describe(&mut out, rt.alloc(), &input)?;
     out.flush()
 }

@@ -1,394 +1,312 @@
 // An action on a line, as the field prints p-code; a label stands on its own line, further left.
-use crate::print::{name, number, text};
-use crate::values::{size, subtable, value};
-use codes::{action, action_kind, operation, table, value_kind};
-use std::io::{self, Write};
+ghost use Rattle.std.specs.Prelude.{◌<◌};
 
-// The second words of the output and the first input.
-const OUTPUT_WORD: usize = action::OUTPUT + 1;
-
-const INPUT_0_WORD: usize = action::INPUT_0 + 1;
+use crate::names::{Name, Names};
+use crate::values::{Size, Value};
+use codes::{NONE, action, action_kind, operation, value_kind};
+use listing_names::names::Symbol;
+use listing_names::operations::operation as name_of;
+use std::fmt;
 
 // The second word of an output that is not there.
 const NO_OUTPUT: u64 = 255;
 
-fn input<W: Write>(
-    out: &mut W,
-    stream: &[u8],
-    table: &[u16; table::LENGTH],
-    temporaries: &[u64],
-    actions: &[u64],
-    index: usize,
-) -> io::Result<()> {
-    let at = action::INPUT_0 + index % 8 * 2;
-    value(
-        out,
-        stream,
-        table,
-        temporaries,
-        access::get(actions, at),
-        access::get(actions, at + 1),
-    )
+// What a pointer points into.
+#[derive(Clone, Copy)]
+pub(crate) enum Space {
+    Ram,
+    Register,
 }
 
-// The output and an equals sign.
-fn output<W: Write>(
-    out: &mut W,
-    stream: &[u8],
-    table: &[u16; table::LENGTH],
-    temporaries: &[u64],
-    actions: &[u64],
-) -> io::Result<()> {
-    value(
-        out,
-        stream,
-        table,
-        temporaries,
-        access::get(actions, action::OUTPUT),
-        access::get(actions, OUTPUT_WORD),
-    )?;
-    text(out, b" = ")
-}
-
-// An Op without output has 0 and 255.
-fn output_there(actions: &[u64]) -> bool {
-    if access::get(actions, action::OUTPUT) != 0 {
-        return true;
-    }
-    access::get(actions, OUTPUT_WORD) != NO_OUTPUT
-}
-
-fn maybe_output<W: Write>(
-    out: &mut W,
-    stream: &[u8],
-    table: &[u16; table::LENGTH],
-    temporaries: &[u64],
-    actions: &[u64],
-) -> io::Result<()> {
-    if output_there(actions) {
-        output(out, stream, table, temporaries, actions)?;
-    }
-    Ok(())
-}
-
-fn operation_name<W: Write>(out: &mut W, op: u64) -> io::Result<()> {
-    let mut word = [0u8; 32];
-    let n = listing_names::operations::operation(op, &mut word);
-    text(out, &word[..n])
-}
-
-// What stands ahead of input i: a comma, but for the first.
-fn separator<W: Write>(out: &mut W, index: u64, first: &[u8]) -> io::Result<()> {
-    if index == 0 {
-        return text(out, first);
-    }
-    text(out, b", ")
-}
-
-fn inputs<W: Write>(
-    out: &mut W,
-    stream: &[u8],
-    table: &[u16; table::LENGTH],
-    temporaries: &[u64],
-    actions: &[u64],
-    first: &[u8],
-) -> io::Result<()> {
-    let n = access::get(actions, action::INPUT_COUNT) % 9;
-    for i in 0..n {
-        separator(out, i, first)?;
-        input(out, stream, table, temporaries, actions, i as usize)?;
-    }
-    Ok(())
-}
-
-fn plain<W: Write>(
-    out: &mut W,
-    stream: &[u8],
-    table: &[u16; table::LENGTH],
-    temporaries: &[u64],
-    actions: &[u64],
-) -> io::Result<()> {
-    maybe_output(out, stream, table, temporaries, actions)?;
-    operation_name(out, access::get(actions, action::OPERATION))?;
-    inputs(out, stream, table, temporaries, actions, b" ")
-}
-
-// A pointer in round brackets, behind the space that it points into.
-fn pointer<W: Write>(
-    out: &mut W,
-    stream: &[u8],
-    table: &[u16; table::LENGTH],
-    temporaries: &[u64],
-    actions: &[u64],
-    space: &[u8],
-) -> io::Result<()> {
-    text(out, space)?;
-    input(out, stream, table, temporaries, actions, 0)?;
-    text(out, b")")
-}
-
-fn load<W: Write>(
-    out: &mut W,
-    stream: &[u8],
-    table: &[u16; table::LENGTH],
-    temporaries: &[u64],
-    actions: &[u64],
-) -> io::Result<()> {
-    output(out, stream, table, temporaries, actions)?;
-    operation_name(out, operation::LOAD)?;
-    pointer(out, stream, table, temporaries, actions, b" ram(")
-}
-
-fn store<W: Write>(
-    out: &mut W,
-    stream: &[u8],
-    table: &[u16; table::LENGTH],
-    temporaries: &[u64],
-    actions: &[u64],
-) -> io::Result<()> {
-    operation_name(out, operation::STORE)?;
-    pointer(out, stream, table, temporaries, actions, b" ram(")?;
-    text(out, b", ")?;
-    input(out, stream, table, temporaries, actions, 1)
-}
-
-// The condition of a branch stands in input 0, and is the constant 1 where there is none.
-fn is_conditional(actions: &[u64]) -> bool {
-    if access::get(actions, action::INPUT_0) != 1 {
-        return true;
-    }
-    access::get(actions, INPUT_0_WORD) % 256 != value_kind::CONSTANT
-}
-
-// BRANCH, or CBRANCH with a condition.
-fn branch_name<W: Write>(out: &mut W, actions: &[u64]) -> io::Result<()> {
-    if is_conditional(actions) {
-        text(out, b"C")?;
-    }
-    operation_name(out, access::get(actions, action::OPERATION))?;
-    text(out, b" ")
-}
-
-fn condition<W: Write>(
-    out: &mut W,
-    stream: &[u8],
-    table: &[u16; table::LENGTH],
-    temporaries: &[u64],
-    actions: &[u64],
-) -> io::Result<()> {
-    if is_conditional(actions) {
-        text(out, b", ")?;
-        input(out, stream, table, temporaries, actions, 0)?;
-    }
-    Ok(())
-}
-
-fn hint<W: Write>(out: &mut W, count: u64) -> io::Result<()> {
-    match count {
-        0 => text(out, b"jump "),
-        1 => text(out, b"call "),
-        _ => text(out, b"return "),
+impl fmt::Display for Space {
+    fn fmt<W: fmt::Write>(&self, f: &mut fmt::Formatter<W>) -> fmt::Result {
+        f.write_str(match self {
+            Space::Ram => "ram",
+            Space::Register => "register",
+        })
     }
 }
 
-fn branch<W: Write>(
-    out: &mut W,
-    stream: &[u8],
-    table: &[u16; table::LENGTH],
-    temporaries: &[u64],
-    actions: &[u64],
-) -> io::Result<()> {
-    branch_name(out, actions)?;
-    hint(out, access::get(actions, action::NUMBER))?;
-    input(out, stream, table, temporaries, actions, 1)?;
-    condition(out, stream, table, temporaries, actions)
+// What a branch is told to be.
+#[derive(Clone, Copy)]
+enum Hint {
+    Jump,
+    Call,
+    Return,
 }
 
-fn label<W: Write>(out: &mut W, count: u64) -> io::Result<()> {
-    text(out, b"<")?;
-    number(out, count)?;
-    text(out, b">")
-}
-
-fn label_branch<W: Write>(
-    out: &mut W,
-    stream: &[u8],
-    table: &[u16; table::LENGTH],
-    temporaries: &[u64],
-    actions: &[u64],
-) -> io::Result<()> {
-    branch_name(out, actions)?;
-    label(out, access::get(actions, action::NUMBER))?;
-    condition(out, stream, table, temporaries, actions)
-}
-
-// A user op by its name.
-fn user_op<W: Write>(
-    out: &mut W,
-    stream: &[u8],
-    table: &[u16; table::LENGTH],
-    temporaries: &[u64],
-    actions: &[u64],
-) -> io::Result<()> {
-    maybe_output(out, stream, table, temporaries, actions)?;
-    operation_name(out, operation::PCODE_OP)?;
-    text(out, b" ")?;
-    name(
-        out,
-        listing_names::names::user_op(stream, table, access::get(actions, action::NUMBER)),
-    )?;
-    inputs(out, stream, table, temporaries, actions, b", ")
-}
-
-// An operand of the user op that follows.
-fn arg<W: Write>(
-    out: &mut W,
-    stream: &[u8],
-    table: &[u16; table::LENGTH],
-    temporaries: &[u64],
-    actions: &[u64],
-) -> io::Result<()> {
-    operation_name(out, operation::ARG)?;
-    text(out, b" ")?;
-    number(out, access::get(actions, action::NUMBER))?;
-    inputs(out, stream, table, temporaries, actions, b", ")
-}
-
-fn operation<W: Write>(
-    out: &mut W,
-    stream: &[u8],
-    table: &[u16; table::LENGTH],
-    temporaries: &[u64],
-    actions: &[u64],
-) -> io::Result<()> {
-    match access::get(actions, action::OPERATION) {
-        operation::LOAD => load(out, stream, table, temporaries, actions),
-        operation::STORE => store(out, stream, table, temporaries, actions),
-        operation::BRANCH => branch(out, stream, table, temporaries, actions),
-        operation::PCODE_BRANCH => label_branch(out, stream, table, temporaries, actions),
-        operation::PCODE_OP => user_op(out, stream, table, temporaries, actions),
-        operation::ARG => arg(out, stream, table, temporaries, actions),
-        _ => plain(out, stream, table, temporaries, actions),
+impl From<u64> for Hint {
+    fn from(number: u64) -> Hint {
+        match number {
+            0 => Hint::Jump,
+            1 => Hint::Call,
+            _ => Hint::Return,
+        }
     }
 }
 
-fn address_of<W: Write>(
-    out: &mut W,
-    stream: &[u8],
-    table: &[u16; table::LENGTH],
-    temporaries: &[u64],
-    actions: &[u64],
-) -> io::Result<()> {
-    output(out, stream, table, temporaries, actions)?;
-    text(out, b"ADDRESS_OF ")?;
-    input(out, stream, table, temporaries, actions, 0)
-}
-
-// A register access has a size beside its pointer's.
-fn load_register<W: Write>(
-    out: &mut W,
-    stream: &[u8],
-    table: &[u16; table::LENGTH],
-    temporaries: &[u64],
-    actions: &[u64],
-) -> io::Result<()> {
-    output(out, stream, table, temporaries, actions)?;
-    operation_name(out, operation::LOAD)?;
-    pointer(out, stream, table, temporaries, actions, b" register(")?;
-    size(out, access::get(actions, action::NUMBER))
-}
-
-fn store_register<W: Write>(
-    out: &mut W,
-    stream: &[u8],
-    table: &[u16; table::LENGTH],
-    temporaries: &[u64],
-    actions: &[u64],
-) -> io::Result<()> {
-    operation_name(out, operation::STORE)?;
-    pointer(out, stream, table, temporaries, actions, b" register(")?;
-    size(out, access::get(actions, action::NUMBER))?;
-    text(out, b", ")?;
-    input(out, stream, table, temporaries, actions, 1)
-}
-
-fn build<W: Write>(
-    out: &mut W,
-    stream: &[u8],
-    table: &[u16; table::LENGTH],
-    actions: &[u64],
-) -> io::Result<()> {
-    text(out, b"BUILD ")?;
-    subtable(out, stream, table, access::get(actions, action::NUMBER))
-}
-
-fn kind<W: Write>(
-    out: &mut W,
-    stream: &[u8],
-    table: &[u16; table::LENGTH],
-    temporaries: &[u64],
-    actions: &[u64],
-) -> io::Result<()> {
-    match access::get(actions, action::KIND) {
-        action_kind::OP => operation(out, stream, table, temporaries, actions),
-        action_kind::ADDRESS_OF => address_of(out, stream, table, temporaries, actions),
-        action_kind::LOAD_REGISTER => load_register(out, stream, table, temporaries, actions),
-        action_kind::STORE_REGISTER => store_register(out, stream, table, temporaries, actions),
-        action_kind::DELAY_SLOT => text(out, b"DELAYSLOT"),
-        _ => build(out, stream, table, actions),
+impl fmt::Display for Hint {
+    fn fmt<W: fmt::Write>(&self, f: &mut fmt::Formatter<W>) -> fmt::Result {
+        f.write_str(match self {
+            Hint::Jump => "jump",
+            Hint::Call => "call",
+            Hint::Return => "return",
+        })
     }
 }
 
-fn is_label(actions: &[u64]) -> bool {
-    if access::get(actions, action::KIND) != action_kind::OP {
-        return false;
+#[derive(Clone, Copy)]
+struct Label(u64);
+
+impl fmt::Display for Label {
+    fn fmt<W: fmt::Write>(&self, f: &mut fmt::Formatter<W>) -> fmt::Result {
+        write!(f, "<{}>", self.0)
     }
-    access::get(actions, action::OPERATION) == operation::PCODE_LABEL
 }
 
-// An action of 24 words.
-fn action<W: Write>(
-    out: &mut W,
-    stream: &[u8],
-    table: &[u16; table::LENGTH],
-    temporaries: &[u64],
-    actions: &[u64],
-) -> io::Result<()> {
-    if is_label(actions) {
-        label(out, access::get(actions, action::NUMBER))?;
-        return text(out, b"\n");
+// The output and an equals sign, where there is an output.
+#[derive(Clone, Copy)]
+struct Output<'a>(Option<Value<'a>>);
+
+impl fmt::Display for Output<'_> {
+    fn fmt<W: fmt::Write>(&self, f: &mut fmt::Formatter<W>) -> fmt::Result {
+        match self.0 {
+            Some(value) => write!(f, "{value} = "),
+            None => Ok(()),
+        }
     }
-    text(out, b"  ")?;
-    kind(out, stream, table, temporaries, actions)?;
-    text(out, b"\n")
 }
 
-fn action_in<W: Write>(
-    out: &mut W,
-    stream: &[u8],
-    table: &[u16; table::LENGTH],
-    temporaries: &[u64],
-    list: &[u64],
-    index: usize,
-) -> io::Result<()> {
-    if index < list.len() / action::WORDS {
-        let from = action::WORDS * index;
-        let to = action::WORDS * index + action::WORDS;
-        action(out, stream, table, temporaries, &list[from..to])?;
+// The condition that follows what a branch goes to, where there is one; the branch's name has a letter for it.
+#[derive(Clone, Copy)]
+struct Condition<'a>(Option<Value<'a>>);
+
+impl Condition<'_> {
+    fn letter(&self) -> &'static str {
+        if self.0.is_some() { "C" } else { "" }
     }
-    Ok(())
 }
 
-pub(crate) fn actions<W: Write>(
-    out: &mut W,
-    s: &[u8],
-    t: &[u16; table::LENGTH],
-    temporaries: &[u64],
-    list: &[u64],
-    n: u64,
-) -> io::Result<()> {
-    for i in 0..n {
-        action_in(out, s, t, temporaries, list, i as usize)?;
+impl fmt::Display for Condition<'_> {
+    fn fmt<W: fmt::Write>(&self, f: &mut fmt::Formatter<W>) -> fmt::Result {
+        match self.0 {
+            Some(value) => write!(f, ", {value}"),
+            None => Ok(()),
+        }
     }
-    Ok(())
+}
+
+// A pointer in round brackets, behind the space that it points into; a register access has a size of its own.
+#[derive(Clone, Copy)]
+struct Access<'a> {
+    space: Space,
+    pointer: Value<'a>,
+    size: Size,
+}
+
+impl fmt::Display for Access<'_> {
+    fn fmt<W: fmt::Write>(&self, f: &mut fmt::Formatter<W>) -> fmt::Result {
+        write!(f, "{}({}){}", self.space, self.pointer, self.size)
+    }
+}
+
+// The inputs, with a comma ahead of each but the first.
+#[derive(Clone, Copy)]
+struct Inputs<'a> {
+    first: &'static str,
+    names: Names<'a>,
+    words: &'a [[u64; 2]],
+}
+
+impl fmt::Display for Inputs<'_> {
+    fn fmt<W: fmt::Write>(&self, f: &mut fmt::Formatter<W>) -> fmt::Result {
+        for (index, [number, word]) in self.words.iter().copied().enumerate() {
+            let ahead = if index == 0 { self.first } else { ", " };
+            write!(f, "{ahead}{}", self.names.value(number, word))?;
+        }
+        Ok(())
+    }
+}
+
+#[derive(Clone, Copy)]
+enum Action<'a> {
+    Plain(Output<'a>, &'static str, Inputs<'a>),
+    UserOp(Output<'a>, Name<'a>, Inputs<'a>),
+    // An operand of the user op that follows.
+    Argument(u64, Inputs<'a>),
+    Load(Output<'a>, Access<'a>),
+    Store(Access<'a>, Value<'a>),
+    Branch(Condition<'a>, Hint, Value<'a>),
+    LabelBranch(Condition<'a>, Label),
+    Label(Label),
+    AddressOf(Output<'a>, Value<'a>),
+    DelaySlot,
+    Build(Name<'a>),
+}
+
+impl fmt::Display for Action<'_> {
+    fn fmt<W: fmt::Write>(&self, f: &mut fmt::Formatter<W>) -> fmt::Result {
+        match *self {
+            Action::Plain(output, name, inputs) => write!(f, "  {output}{name}{inputs}"),
+            Action::UserOp(output, called, inputs) => {
+                write!(
+                    f,
+                    "  {output}{} {called}{inputs}",
+                    name_of(operation::PCODE_OP)
+                )
+            }
+            Action::Argument(number, inputs) => {
+                write!(f, "  {} {number}{inputs}", name_of(operation::ARG))
+            }
+            Action::Load(output, access) => {
+                write!(f, "  {output}{} {access}", name_of(operation::LOAD))
+            }
+            Action::Store(access, value) => {
+                write!(f, "  {} {access}, {value}", name_of(operation::STORE))
+            }
+            Action::Branch(condition, hint, target) => {
+                let name = name_of(operation::BRANCH);
+                write!(
+                    f,
+                    "  {}{name} {hint} {target}{condition}",
+                    condition.letter()
+                )
+            }
+            Action::LabelBranch(condition, label) => {
+                let name = name_of(operation::PCODE_BRANCH);
+                write!(f, "  {}{name} {label}{condition}", condition.letter())
+            }
+            Action::Label(label) => write!(f, "{label}"),
+            Action::AddressOf(output, value) => write!(f, "  {output}ADDRESS_OF {value}"),
+            Action::DelaySlot => write!(f, "  DELAYSLOT"),
+            Action::Build(subtable) => write!(f, "  BUILD {subtable}"),
+        }
+    }
+}
+
+// The words of an action, and what its values are called.
+#[derive(Clone, Copy)]
+struct Words<'a> {
+    words: &'a [u64; action::WORDS],
+    names: Names<'a>,
+}
+
+impl<'a> Words<'a> {
+    fn number(&self) -> u64 {
+        self.words[action::NUMBER]
+    }
+
+    // The value whose words stand at a place.
+    fn value(&self, place: usize) -> Value<'a>
+        requires { place < 23 }
+    {
+        self.names.value(self.words[place], self.words[place + 1])
+    }
+
+    fn output(&self) -> Output<'a> {
+        Output(Some(self.value(action::OUTPUT)))
+    }
+
+    // An operation without output has 0 and 255.
+    fn maybe_output(&self) -> Output<'a> {
+        let number = self.words[action::OUTPUT];
+        let word = self.words[action::OUTPUT + 1];
+        if number == 0 && word == NO_OUTPUT {
+            return Output(None);
+        }
+        self.output()
+    }
+
+    // The condition of a branch stands in input 0, and is the constant 1 where there is none.
+    fn condition(&self) -> Condition<'a> {
+        let number = self.words[action::INPUT_0];
+        let word = self.words[action::INPUT_0 + 1];
+        if number == 1 && word % 256 == value_kind::CONSTANT {
+            return Condition(None);
+        }
+        Condition(Some(self.value(action::INPUT_0)))
+    }
+
+    // The inputs, behind what stands ahead of the first.
+    fn inputs(&self, first: &'static str) -> Inputs<'a> {
+        let words = self.words;
+        let count = (words[action::INPUT_COUNT] % 9) as usize;
+        let (inputs, _) = words[action::INPUT_0..].as_chunks::<2>();
+        Inputs {
+            first,
+            names: self.names,
+            words: &inputs[..count],
+        }
+    }
+
+    fn access(&self, space: Space, size: u64) -> Access<'a> {
+        Access {
+            space,
+            pointer: self.value(action::INPUT_0),
+            size: Size::from(size),
+        }
+    }
+
+    fn operation(&self, number: u64) -> Action<'a> {
+        match number {
+            operation::LOAD => Action::Load(self.output(), self.access(Space::Ram, NONE)),
+            operation::STORE => {
+                Action::Store(self.access(Space::Ram, NONE), self.value(action::INPUT_1))
+            }
+            operation::BRANCH => Action::Branch(
+                self.condition(),
+                Hint::from(self.number()),
+                self.value(action::INPUT_1),
+            ),
+            operation::PCODE_BRANCH => Action::LabelBranch(self.condition(), Label(self.number())),
+            operation::PCODE_LABEL => Action::Label(Label(self.number())),
+            operation::PCODE_OP => Action::UserOp(
+                self.maybe_output(),
+                self.names.symbol(Symbol::UserOp, self.number()),
+                self.inputs(", "),
+            ),
+            operation::ARG => Action::Argument(self.number(), self.inputs(", ")),
+            _ => Action::Plain(self.maybe_output(), name_of(number), self.inputs(" ")),
+        }
+    }
+
+    fn action(&self) -> Action<'a> {
+        match self.words[action::KIND] {
+            action_kind::OP => self.operation(self.words[action::OPERATION]),
+            action_kind::ADDRESS_OF => {
+                Action::AddressOf(self.output(), self.value(action::INPUT_0))
+            }
+            action_kind::LOAD_REGISTER => {
+                Action::Load(self.output(), self.access(Space::Register, self.number()))
+            }
+            action_kind::STORE_REGISTER => Action::Store(
+                self.access(Space::Register, self.number()),
+                self.value(action::INPUT_1),
+            ),
+            action_kind::DELAY_SLOT => Action::DelaySlot,
+            _ => Action::Build(self.names.symbol(Symbol::Subtable, self.number())),
+        }
+    }
+}
+
+// The actions of a list, a line for each.
+#[derive(Clone, Copy)]
+pub(crate) struct Actions<'a> {
+    pub(crate) list: &'a [u64],
+    pub(crate) count: u64,
+    pub(crate) names: Names<'a>,
+}
+
+impl fmt::Display for Actions<'_> {
+    fn fmt<W: fmt::Write>(&self, f: &mut fmt::Formatter<W>) -> fmt::Result {
+        let (actions, _) = self.list.as_chunks::<{ action::WORDS }>();
+        for words in actions.iter().take(self.count as usize) {
+            let words = Words {
+                words,
+                names: self.names,
+            };
+            writeln!(f, "{}", words.action())?;
+        }
+        Ok(())
+    }
 }

@@ -1,119 +1,151 @@
 // A statement by its ordinal: its kind, and the macro in whose body it stands. Macro bodies have the lower ordinals.
-use crate::print::{name, number, text};
+use crate::names::Name;
 use codes::{header, statement, table};
 use file_syntax::cursor::Cursor;
-use std::io::{self, Write};
+use listing_names::names::Section;
+use std::fmt;
 
-fn kind<W: Write>(out: &mut W, code: u64) -> io::Result<()> {
-    match code {
-        statement::UNIMPLEMENTED => text(out, b"unimplemented"),
-        statement::EXPORT => text(out, b"an export"),
-        statement::LOCAL => text(out, b"a local"),
-        statement::LOCAL_ASSIGNMENT => text(out, b"a local assignment"),
-        statement::BUILD => text(out, b"a build"),
-        statement::COPY => text(out, b"a copy"),
-        statement::STORE => text(out, b"a store"),
-        statement::CALL => text(out, b"a call"),
-        statement::BRANCH => text(out, b"a branch"),
-        statement::COND_BRANCH => text(out, b"a conditional branch"),
-        _ => text(out, b"a label"),
+// A section has no more macros.
+const MACROS: usize = 128;
+
+#[derive(Clone, Copy)]
+enum Kind {
+    Unimplemented,
+    Export,
+    Local,
+    LocalAssignment,
+    Build,
+    Copy,
+    Store,
+    Call,
+    Branch,
+    CondBranch,
+    Label,
+}
+
+impl From<u64> for Kind {
+    fn from(code: u64) -> Kind {
+        match code {
+            statement::UNIMPLEMENTED => Kind::Unimplemented,
+            statement::EXPORT => Kind::Export,
+            statement::LOCAL => Kind::Local,
+            statement::LOCAL_ASSIGNMENT => Kind::LocalAssignment,
+            statement::BUILD => Kind::Build,
+            statement::COPY => Kind::Copy,
+            statement::STORE => Kind::Store,
+            statement::CALL => Kind::Call,
+            statement::BRANCH => Kind::Branch,
+            statement::COND_BRANCH => Kind::CondBranch,
+            _ => Kind::Label,
+        }
     }
 }
 
-// Where statement n of those that begin at a place stands.
-fn place(stream: &[u8], at: usize, count: u64) -> usize {
-    let c = Cursor { at, bad: 0, val: 0 };
-    file_syntax::statements::body(stream, access::u16_at(stream, header::NAMES), count, c).at
-}
-
-// The kind of statement n of those that begin at a place.
-fn kind_at<W: Write>(out: &mut W, stream: &[u8], at: usize, count: u64) -> io::Result<()> {
-    kind(out, access::byte(stream, place(stream, at, count), 0))
-}
-
-// The ordinals count from first.
-fn since(ordinal: u64, first: u64) -> u64 {
-    if ordinal < first {
-        return 0;
+impl fmt::Display for Kind {
+    fn fmt<W: fmt::Write>(&self, f: &mut fmt::Formatter<W>) -> fmt::Result {
+        f.write_str(match self {
+            Kind::Unimplemented => "unimplemented",
+            Kind::Export => "an export",
+            Kind::Local => "a local",
+            Kind::LocalAssignment => "a local assignment",
+            Kind::Build => "a build",
+            Kind::Copy => "a copy",
+            Kind::Store => "a store",
+            Kind::Call => "a call",
+            Kind::Branch => "a branch",
+            Kind::CondBranch => "a conditional branch",
+            Kind::Label => "a label",
+        })
     }
-    ordinal - first
+}
+
+// Where the statements among which one stands begin, their first ordinal, and the macro whose body they are.
+#[derive(Clone, Copy)]
+struct Body<'a> {
+    at: usize,
+    first: u64,
+    of_macro: Option<Name<'a>>,
+}
+
+#[derive(Clone, Copy)]
+pub(crate) struct Statement<'a> {
+    ordinal: u64,
+    kind: Kind,
+    of_macro: Option<Name<'a>>,
+}
+
+// Where the statement stands that so many of those from a place on come before.
+fn after(stream: &[u8], at: usize, count: u64) -> usize {
+    let cursor = Cursor { at, bad: 0, val: 0 };
+    file_syntax::statements::body(stream, access::u16_at(stream, header::NAMES), count, cursor).at
+}
+
+// The number that stands in the table at a place.
+fn entry(section: Section<'_>, place: usize) -> u16 {
+    let table = section.table;
+    access::get_u16(table, place)
 }
 
 // The last macro whose body begins at the ordinal or before.
-fn macro_of(stream: &[u8], table: &[u16; table::LENGTH], ordinal: u64) -> usize {
-    let n = access::u16_at(stream, header::MACROS) as usize;
-    let mut last: usize = 0;
-    for i in 0..n {
-        last = later(table, i, ordinal, last);
+fn macro_of(section: Section<'_>, ordinal: u64) -> usize {
+    let table = section.table;
+    let ordinals = &table[table::MACRO_ORDINALS..table::LISTS];
+    let count = access::u16_at(section.stream, header::MACROS) as usize;
+    ordinals[..count.min(ordinals.len())]
+        .iter()
+        .rposition(|first| u64::from(*first) <= ordinal)
+        .unwrap_or(0)
+}
+
+// The body of a macro, whose parameter count stands behind its name.
+fn macro_body<'a>(section: Section<'a>, index: usize) -> Body<'a> {
+    let stream = section.stream;
+    let index = index % MACROS;
+    let at = usize::from(entry(section, table::MACROS + index));
+    let parameters = access::byte(stream, at, 0) as usize;
+    let name = section.name(access::u16_at(stream, at.saturating_sub(2)));
+    Body {
+        at: at + 3 + 2 * parameters,
+        first: u64::from(entry(section, table::MACRO_ORDINALS + index)),
+        of_macro: Some(Name(name)),
     }
-    last
 }
 
-fn later(table: &[u16; table::LENGTH], index: usize, ordinal: u64, last: usize) -> usize {
-    if access::get(table, table::MACRO_ORDINALS + index % 128) as u64 <= ordinal {
-        return index;
-    }
-    last
-}
-
-// Where the statements of a macro begin, whose parameter count stands at a place.
-fn body_at(stream: &[u8], at: u16) -> usize {
-    at as usize + 3 + 2 * access::byte(stream, at as usize, 0) as usize
-}
-
-// The name that stands at a place.
-fn macro_name<W: Write>(
-    out: &mut W,
-    stream: &[u8],
-    table: &[u16; table::LENGTH],
-    at: usize,
-) -> io::Result<()> {
-    name(
-        out,
-        listing_names::names::name(stream, table, access::u16_at(stream, at)),
-    )
-}
-
-fn in_macro<W: Write>(
-    out: &mut W,
-    stream: &[u8],
-    table: &[u16; table::LENGTH],
-    ordinal: u64,
-) -> io::Result<()> {
-    let i = macro_of(stream, table, ordinal) % 128;
-    let first = access::get(table, table::MACRO_ORDINALS + i) as u64;
-    let at = access::get(table, table::MACROS + i);
-    kind_at(out, stream, body_at(stream, at), since(ordinal, first))?;
-    text(out, b" in macro ")?;
-    if 2 <= at {
-        macro_name(out, stream, table, at as usize - 2)?;
-    }
-    Ok(())
-}
-
-fn described<W: Write>(
-    out: &mut W,
-    stream: &[u8],
-    table: &[u16; table::LENGTH],
-    ordinal: u64,
-) -> io::Result<()> {
-    let first = access::get(table, table::FIRST_ORDINAL) as u64;
+fn body_of<'a>(section: Section<'a>, ordinal: u64) -> Body<'a> {
+    let first = u64::from(entry(section, table::FIRST_ORDINAL));
     if ordinal < first {
-        return in_macro(out, stream, table, ordinal);
+        return macro_body(section, macro_of(section, ordinal));
     }
-    let at = access::get(table, table::STATEMENTS) as usize;
-    kind_at(out, stream, at, since(ordinal, first))
+    Body {
+        at: usize::from(entry(section, table::STATEMENTS)),
+        first,
+        of_macro: None,
+    }
 }
 
-pub(crate) fn statement<W: Write>(
-    out: &mut W,
-    s: &[u8],
-    t: &[u16; table::LENGTH],
-    ordinal: u64,
-) -> io::Result<()> {
-    text(out, b"at statement ")?;
-    number(out, ordinal)?;
-    text(out, b", ")?;
-    described(out, s, t, ordinal)?;
-    text(out, b"\n")
+impl<'a> Statement<'a> {
+    pub(crate) fn new(section: Section<'a>, ordinal: u64) -> Statement<'a> {
+        let body = body_of(section, ordinal);
+        let at = after(section.stream, body.at, ordinal.saturating_sub(body.first));
+        Statement {
+            ordinal,
+            kind: Kind::from(access::byte(section.stream, at, 0)),
+            of_macro: body.of_macro,
+        }
+    }
+}
+
+impl fmt::Display for Statement<'_> {
+    fn fmt<W: fmt::Write>(&self, f: &mut fmt::Formatter<W>) -> fmt::Result {
+        let Statement {
+            ordinal,
+            kind,
+            of_macro,
+        } = *self;
+        write!(f, "at statement {ordinal}, {kind}")?;
+        match of_macro {
+            Some(name) => write!(f, " in macro {name}"),
+            None => Ok(()),
+        }
+    }
 }

@@ -1,137 +1,93 @@
--- What the words and the names stand on.
+-- What the words stand on.
 use Prim.Native.Nat.{ℕ, zero, suc, ◌+◌, ◌-◌, ◌≤◌, ◌<◌}
-use mathlib.Core.Path.{◌≡◌, refl, sym, ◌∙◌, ap}
+use mathlib.Core.Path.{◌≡◌, refl, sym, ◌∙◌, ap, subst}
 use mathlib.Core.Bool.{Bool, true, false}
 use mathlib.Core.List.{List, [], ◌∷◌}
-use native.Mathlib.Numerals.{add-one}
+use mathlib.Core.Logic.{◌⊎◌, inl, inr}
 use native.Mathlib.Omega.{arith}
 use lib.Dec.{eqb}
-use lib.ListN.{length, get_or, take, drop, set, length-drop, length-set, drop_of_length-le}
-use lib.Seq.{drop-cons, drop-drop, drop-set-lt, take-nil, take_all, take-length, take-suc, take-suc-set}
-use borrow.Author.Tests.{eq-eqb, ne_eqb}
-use Rattle.prelude.specs.Base.{when◌then◌else◌}
-use Rattle.listing_names.specs.Words.{first, rest, word, widest, left_after}
+use lib.ListN.{length, get_or, take, drop, length-drop}
+use lib.Seq.{drop-cons, take_all}
+use denote.Ref.{Bor}
+use Rattle.std.specs.Prelude.{Option, None, Some, MatchOption}
+use Rattle.std.specs.Iterator.{AlwaysYields, Yields, SkipsThenYields}
+use Rattle.std.specs.Option.{unwrap_or}
+use Rattle.std.proofs.lemmas.Iterator.{YieldsList}
+use Rattle.std.proofs.lemmas.List.{get_or_past}
+use Rattle.std.specs.List.{slice_split, onto_first}
+use Rattle.std.proofs.lemmas.List.Splits.{length-slice_split}
+use Rattle.listing_names.specs.Words.{first, rest, word}
 
 word_nil : (n : ℕ) → word n [] ≡ []
 unfolding word first rest
 word_nil zero = refl
 word_nil (suc n) = word_nil n
 
-less_one : (l : ℕ) → suc l - 1 ≡ l
-less_one l = omega arith
+first_onto : (x : ℕ) (parts : List (List ℕ)) → 0 < length parts → get_or (onto_first x parts) 0 [] ≡ x ∷ get_or parts 0 []
+first_onto x [] h = absurd (omega arith)
+first_onto x (part ∷ parts) h = refl
 
-word_cons : (x : ℕ) (xs : List ℕ) (left : ℕ) → (left ≡ 0 → ⊥) → word (left_after x left) xs ≡ word left (x ∷ xs)
-unfolding word rest left_after
-word_cons x xs zero h = absurd (h refl)
-word_cons x xs (suc l) h = go (eqb x 32) refl
+later_onto : (x : ℕ) (parts : List (List ℕ)) (n : ℕ) → 0 < length parts → get_or (onto_first x parts) (suc n) [] ≡ get_or parts (suc n) []
+later_onto x [] n h = absurd (omega arith)
+later_onto x (part ∷ parts) n h = refl
+
+-- word n is part n of what is cut at each space
+pub word_part : (xs : List ℕ) (n : ℕ) → word n xs ≡ get_or (slice_split (λ b. eqb b 32) xs) n []
+unfolding word first rest
+word_part [] zero = refl
+word_part [] (suc n) = word_nil n
+word_part (x ∷ xs) n = at (eqb x 32) refl n (λ k. word_part xs k)
   where
-    go : (b : Bool) → eqb x 32 ≡ b → word (when eqb x 32 then suc l - 1 else suc l) xs ≡ word l (when eqb x 32 then xs else rest xs)
-    go true e =  rw (e, less_one l)
-    go false e = unfold word in rw e
+    some : 0 < length (slice_split (λ b. eqb b 32) xs)
+    some = let e = length-slice_split (λ b. eqb b 32) xs in omega arith
 
--- one turn of `begin`, and its two ends
-module _ (xs w : List ℕ) (at left : ℕ) where
-  pub begin_more : at < length xs → (left ≡ 0 → ⊥) → word left (drop at xs) ≡ w → word (left_after (get_or xs at 0) left) (drop (at + 1) xs) ≡ w
-  begin_more h k e = rw (add-one at, word_cons (get_or xs at 0) (drop (suc at) xs) left k, ← drop-cons xs at 0 h) e
+    at : (b : Bool) → eqb x 32 ≡ b → (n : ℕ) → ((k : ℕ) → word k xs ≡ get_or (slice_split (λ b. eqb b 32) xs) k []) → word n (x ∷ xs) ≡ get_or (slice_split (λ b. eqb b 32) (x ∷ xs)) n []
+    at true e zero h = rw e
+    at true e (suc n) h = rw e (h n)
+    at false e zero h = rw (e, first_onto x (slice_split (λ b. eqb b 32) xs) some) (ap (λ w. x ∷ w) (h zero))
+    at false e (suc n) h = rw (e, later_onto x (slice_split (λ b. eqb b 32) xs) n some) (h (suc n))
 
-  pub begin_here : left ≡ 0 → word left (drop at xs) ≡ w → first (drop at xs) ≡ w
-  unfolding word
-  begin_here h e = rw h at e
+-- what `nth` gives where the iterator yields a list
+module _ {S A B : Type 0} (steps : S → Option A → S → Type 0) (v : A → B) (d : B) where
+  nth_of : (ys : List B) (s t u : S) (n : ℕ) (xs : List A) (o : Option A) → AlwaysYields steps v s ys → Yields steps s xs t → steps t o u → MatchOption o (length xs ≤ n) (λ _. length xs ≡ n) → MatchOption o (length ys ≤ n) (λ x. v x ≡ get_or ys n d)
+  nth_of [] s t u n [] None e y p l = l
+  nth_of [] s t u n [] (Some x) e y p l = absurd (e x u (subst (λ k. steps k (Some x) u) (sym y) p))
+  nth_of [] s t u n (x ∷ xs) o e y p l = absurd (e x y.0 y.1)
+  nth_of (z ∷ ys) s t u n [] None e y p l = absurd (e.0 u (subst (λ k. steps k None u) (sym y) p))
+  nth_of (z ∷ ys) s t u n [] (Some x) e y p l = subst (λ k. v x ≡ get_or (z ∷ ys) k d) l (e.1 x u (subst (λ k. steps k (Some x) u) (sym y) p)).0
+  nth_of (z ∷ ys) s t u zero (x ∷ xs) None e y p l = absurd (omega arith)
+  nth_of (z ∷ ys) s t u zero (x ∷ xs) (Some w) e y p l = absurd (omega arith)
+  nth_of (z ∷ ys) s t u (suc n) (x ∷ xs) None e y p l = let h = nth_of ys y.0 t u n xs None (e.1 x y.0 y.1).1 y.2 p (omega arith) in omega arith
+  nth_of (z ∷ ys) s t u (suc n) (x ∷ xs) (Some w) e y p l = nth_of ys y.0 t u n xs (Some w) (e.1 x y.0 y.1).1 y.2 p (omega arith)
 
-  pub begin_past : length xs ≤ at → word left (drop at xs) ≡ w → first (drop at xs) ≡ w
-  unfolding first
-  begin_past h e = rw (drop_of_length-le xs h) (rw (drop_of_length-le xs h, word_nil left) at e)
+  pub from_nth : (ys : List B) (s u : S) (n : ℕ) (o : Option A) (e : A) → YieldsList steps v s ys → SkipsThenYields steps s n o u → v e ≡ d → v (unwrap_or o e) ≡ get_or ys n d
+  from_nth ys s u n o e l r q = ends o (nth_of ys s r.1.0 u n r.0 o l.runs r.1.1 r.1.2 r.2)
+    where
+      ends : (o : Option A) → MatchOption o (length ys ≤ n) (λ x. v x ≡ get_or ys n d) → v (unwrap_or o e) ≡ get_or ys n d
+      ends None h = q ∙ sym (get_or_past ys n d h)
+      ends (Some x) h = h
 
-first_other : (x : ℕ) (xs : List ℕ) → (x ≡ 32 → ⊥) → length (first (x ∷ xs)) ≡ suc (length (first xs))
-unfolding first
-first_other x xs h = rw (ne_eqb x 32 h)
+-- what `spelled` finds where the length byte n stands ahead of the bytes more
+module _ (s more : List ℕ) (at n : ℕ) where
+  behind : at ≤ length s → take (length s - at) (drop at s) ≡ n ∷ more → (get_or s at 0 ≡ n) × (drop (suc at) s ≡ more)
+  behind h e =
+      let l : length (drop at s) ≡ length s - at = length-drop at s in
+      let w : drop at s ≡ n ∷ more = sym (take_all (length s - at) (drop at s) (omega arith)) ∙ e in
+      let k : length (drop at s) ≡ suc (length more) = ap length w in
+      let q : get_or s at 0 ∷ drop (suc at) s ≡ n ∷ more = sym (drop-cons s at 0 (omega arith)) ∙ w in
+      (ap (λ xs. get_or xs zero 0) q, ap (λ xs. drop (suc zero) xs) q)
 
-first_space : (x : ℕ) (xs : List ℕ) → x ≡ 32 → length (first (x ∷ xs)) ≡ 0
-unfolding first
-first_space x xs h = rw (eq-eqb x 32 h)
+  pub spelled_part : (r d : Bor (List ℕ)) (o : Option (Bor (List ℕ))) → at ≤ length s → take (length s - at) (drop at s) ≡ n ∷ more → d.now ≡ more → r ≡ unwrap_or o d → MatchOption o (length more ≤ n) (λ x. x.now ≡ take n more) → r.now ≡ take (get_or s at 0) (drop (suc at) s)
+  spelled_part r d o h e m q k =
+      let p = behind h e in
+      rw (p.0, p.1) (ap (λ r. r.now) q ∙ ends o k)
+    where
+      ends : (o : Option (Bor (List ℕ))) → MatchOption o (length more ≤ n) (λ x. x.now ≡ take n more) → (unwrap_or o d).now ≡ take n more
+      ends None k = m ∙ sym (take_all n more k)
+      ends (Some x) k = k
 
--- one turn of `end`, and its two ends
-module _ (xs : List ℕ) (i e : ℕ) where
-  pub end_more : i < length xs → (get_or xs i 0 ≡ 32 → ⊥) → i + length (first (drop i xs)) ≡ e → (i + 1) + length (first (drop (i + 1) xs)) ≡ e
-  end_more h k q =
-      let n = first_other (get_or xs i 0) (drop (suc i) xs) k in
-      let d : length (first (drop i xs)) ≡ suc (length (first (drop (suc i) xs))) = rw (drop-cons xs i 0 h) n in
-      rw (add-one i) (omega arith)
-
-  pub end_here : i < length xs → get_or xs i 0 ≡ 32 → i + length (first (drop i xs)) ≡ e → i ≡ e
-  end_here h k q =
-      let n = first_space (get_or xs i 0) (drop (suc i) xs) k in
-      let d : length (first (drop i xs)) ≡ 0 = rw (drop-cons xs i 0 h) n in
-      omega arith
-
-  pub end_past : length xs ≤ i → i + length (first (drop i xs)) ≡ e → i ≡ e
-  end_past h q = let d : length (first (drop i xs)) ≡ 0 = rw (drop_of_length-le xs h) (unfold first in refl) in omega arith
-
-take_first : (xs : List ℕ) → take (length (first xs)) xs ≡ first xs
-unfolding first
-take_first [] = refl
-take_first (x ∷ xs) = go (eqb x 32) refl (take_first xs)
-  where
-    go : (b : Bool) → eqb x 32 ≡ b → take (length (first xs)) xs ≡ first xs → take (length (when eqb x 32 then [] else (x ∷ first xs))) (x ∷ xs) ≡ (when eqb x 32 then [] else (x ∷ first xs))
-    go true e h =  rw e
-    go false e h =  rw (e, h)
-
-pub word_law : (xs : List ℕ) (n from to : ℕ) → first (drop from xs) ≡ word n xs → to ≡ from + length (first (drop from xs)) → take (to - from) (drop from xs) ≡ word n xs
-word_law xs n from to e q =
-    let d : to - from ≡ length (first (drop from xs)) = omega arith in
-    rw (d, take_first (drop from xs)) e
-
-first_wide : (xs : List ℕ) → length (first xs) ≤ widest xs
-unfolding widest
-first_wide [] = unfold first in omega arith
-first_wide (x ∷ xs) = omega arith
-
-rest_wide : (xs : List ℕ) → widest (rest xs) ≤ widest xs
-unfolding rest
-rest_wide [] = omega arith
-rest_wide (x ∷ xs) = go (eqb x 32) refl (rest_wide xs)
-  where
-    go : (b : Bool) → eqb x 32 ≡ b → widest (rest xs) ≤ widest xs → widest (when eqb x 32 then xs else rest xs) ≤ widest (x ∷ xs)
-    go true e h = unfold widest in rw e (omega arith)
-    go false e h =  rw e (let k : widest xs ≤ widest (x ∷ xs) = unfold widest in omega arith in omega arith)
-
-word_wide : (n : ℕ) (xs : List ℕ) → length (word n xs) ≤ widest xs
-unfolding word
-word_wide zero xs = first_wide xs
-word_wide (suc n) xs = let h = word_wide n (rest xs) in let k = rest_wide xs in omega arith
-
--- the three ways out of `spelled`
-module _ (s : List ℕ) (at n : ℕ) (e : n ≡ get_or s at 0) where
-  pub none_spelled : length s ≤ at → ◌≡◌ {A = List ℕ} [] (take (get_or s at 0) (drop (suc at) s))
-  none_spelled h = let k : length s ≤ suc at = omega arith in rw (drop_of_length-le s k, take-nil (get_or s at 0))
-
-  pub cut_spelled : at < length s → length s - (at + 1) < n → take (length s - (at + 1)) (drop (at + 1) s) ≡ take (get_or s at 0) (drop (suc at) s)
-  cut_spelled h k =
-      let l : length (drop (suc at) s) ≡ length s - suc at = length-drop (suc at) s in
-      rw (add-one at, take_all (length s - suc at) (drop (suc at) s) (omega arith), ← e, take_all n (drop (suc at) s) (omega arith))
-
-  pub whole_spelled : take (at + 1 + n - (at + 1)) (drop (at + 1) s) ≡ take (get_or s at 0) (drop (suc at) s)
-  whole_spelled = let k : at + 1 + n - (at + 1) ≡ n = omega arith in rw (k, e, add-one at)
-
--- what `put` has written after i turns
-abbrev pub Put : List ℕ → List ℕ → List ℕ → ℕ → Type 0
-Put text out out₀ i = (length out ≡ length out₀) × (take i out ≡ take i text) × (drop i out ≡ drop i out₀)
-
--- one turn of `put`, and its end
-module _ (text out out₀ : List ℕ) (i : ℕ) where
-  pub put_more : i < length text → i < length out → Put text out out₀ i → Put text (set out i (get_or text i 0)) out₀ (i + 1)
-  put_more h k (l, e, d) = (
-    rw (length-set out i (get_or text i 0)) l,
-    rw (add-one i, take-suc-set out i (get_or text i 0) k, take-suc text i 0 h, e),
-    drop-set-lt (i + 1) out i (get_or text i 0) (omega arith) ∙ sym (drop-drop 1 i out) ∙ ap (λ (xs : List ℕ). drop 1 xs) d ∙ drop-drop 1 i out₀,
-  )
-
-  pub put-done : i ≡ length text → length text ≤ length out → Put text out out₀ i
-      → (length text ≤ length out) × (take (length text) out ≡ text) × (drop (length text) out ≡ drop (length text) out₀)
-  put-done n k (l, e, d) =
-      let w : take (length text) out ≡ text = (rw n at e) ∙ take-length text in
-      (k, w, rw n at d)
-
--- a word of some that are 15 wide at most
-pub word_fits : (n : ℕ) (xs : List ℕ) (room : ℕ) → widest xs ≡ 15 → 32 ≤ room → length (word n xs) ≤ room
-word_fits n xs room w h = let k = word_wide n xs in omega arith
+-- what `get` finds of the first m bytes, with n for m
+pub cut_or_whole : (more : List ℕ) (m n : ℕ) (o : Option (Bor (List ℕ))) → m ≡ n → MatchOption o ((m < 0) ⊎ (length more < m)) (λ x. (0 ≤ m) × (m ≤ length more) × (x.now ≡ take (m - 0) more) × (length x.now + 0 ≡ m)) → MatchOption o (length more ≤ n) (λ x. x.now ≡ take n more)
+cut_or_whole more m n None e (inl h) = absurd (omega arith)
+cut_or_whole more m n None e (inr h) = omega arith
+cut_or_whole more m n (Some x) e k = let z : m - 0 ≡ n = omega arith in subst (λ j. x.now ≡ take j more) z k.2

@@ -1,6 +1,5 @@
 -- The text that an operation's number has is the name of the operation.
 use mathlib.Core.Path.{◌≡◌, refl}
-use Rattle.prelude.specs.Base.{when◌then◌else◌}
 use Rattle.definition.specs.Operations.{Operation, operation_number}
 use Rattle.definition.specs.Spellings.{bytes_of}
 use Rattle.definition.proofs.EveryOperation.{alike}

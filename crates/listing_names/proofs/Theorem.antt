@@ -9,7 +9,7 @@ use Rattle.access.specs.Le.{le16}
 use Rattle.definition.specs.Ast.{Register, Field, Subtable, Section}
 use Rattle.list_values.specs.Sizes.{entry}
 use Rattle.file_refinement.specs.Holds.{Holds, Listed, register_at, name_only, field_at, subtable_at}
-use Rattle.listing_names.specs.Names.{name_of, name_in, register_name, user_op_name, field_name, subtable_name}
+use Rattle.listing_names.specs.Names.{name_of, register_name, user_op_name, field_name, subtable_name}
 
 below : {A : Type 0} (xs : List A) (i : ℕ) (x : A) → get_elem? xs i ≡ some x → i < length xs
 below [] i x e = let z : ◌≡◌ {A = ℕ} 0 1 = cc in absurd (omega arith)
@@ -26,11 +26,10 @@ listed_name s t k wide f own xs l named i x e =
 
 module _ (s t : List ℕ) (sec : Section) (h : Holds s t sec) (i : ℕ) where
   pub name_is : i < length sec.names → get_elem? sec.names i ≡ some (name_of s t i)
-  unfolding name_of
   name_is k = h.spelling i k
 
   pub register_name_lem : (x : Register) → get_elem? sec.registers i ≡ some x → register_name s t i ≡ name_of s t x.name
-  unfolding register_name name_in entry
+  unfolding entry
   register_name_lem x e =
       let n = listed_name s t 1 2 (register_at s) (λ r. r.name) sec.registers h.registers (λ n q. unfold register_at in refl) i x e in
       let k = below sec.registers i x e in
@@ -40,7 +39,7 @@ module _ (s t : List ℕ) (sec : Section) (h : Holds s t sec) (i : ℕ) where
       rw (n, w)
 
   pub user-op_name : (x : ℕ) → get_elem? sec.user_ops i ≡ some x → user_op_name s t i ≡ name_of s t x
-  unfolding user_op_name name_in entry
+  unfolding entry
   user-op_name x e =
       let n = listed_name s t 4 0 name_only (λ r. r) sec.user_ops h.user_ops (λ n q. unfold name_only in refl) i x e in
       let k = below sec.user_ops i x e in
@@ -50,7 +49,7 @@ module _ (s t : List ℕ) (sec : Section) (h : Holds s t sec) (i : ℕ) where
       rw (n, w)
 
   pub field_name_lem : (x : Field) → get_elem? sec.fields i ≡ some x → field_name s t i ≡ name_of s t x.name
-  unfolding field_name name_in entry
+  unfolding entry
   field_name_lem x e =
       let n = listed_name s t 7 2 (field_at s) (λ r. r.name) sec.fields h.fields (λ n q. unfold field_at in refl) i x e in
       let k = below sec.fields i x e in
@@ -60,7 +59,7 @@ module _ (s t : List ℕ) (sec : Section) (h : Holds s t sec) (i : ℕ) where
       rw (n, w)
 
   pub subtable_name_lem : (x : Subtable) → get_elem? sec.subtables i ≡ some x → subtable_name s t i ≡ name_of s t x.name
-  unfolding subtable_name name_in entry
+  unfolding entry
   subtable_name_lem x e =
       let n = listed_name s t 8 2 (subtable_at s) (λ r. r.name) sec.subtables h.subtables (λ n q. unfold subtable_at in refl) i x e in
       let k = below sec.subtables i x e in

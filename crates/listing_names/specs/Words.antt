@@ -1,5 +1,5 @@
 -- Words with a space between them.
-use Rattle.std.specs.Prelude.{ℕ, zero, suc, ◌-◌, max, List, [], ◌∷◌, length, eqb}
+use Rattle.std.specs.Prelude.{ℕ, zero, suc, List, [], ◌∷◌, eqb}
 use Rattle.prelude.specs.Base.{when◌then◌else◌}
 
 -- the bytes ahead of the first space
@@ -16,12 +16,3 @@ rest (x ∷ xs) = when eqb x 32 then xs else rest xs
 unfoldable pub word : ℕ → List ℕ → List ℕ
 word zero xs = first xs
 word (suc n) xs = word n (rest xs)
-
--- no word is longer
-unfoldable pub widest : List ℕ → ℕ
-widest [] = 0
-widest (x ∷ xs) = max (length (first (x ∷ xs))) (widest xs)
-
--- how many words are still to be passed after a byte
-unfoldable pub left_after : ℕ → ℕ → ℕ
-left_after x left = when eqb x 32 then left - 1 else left

@@ -1,16 +1,9 @@
-use Rattle.listing_names.proofs.Laws.{none_spelled, cut_spelled, whole_spelled}
-use native.Mathlib.Omega.{arith}
-use native.Mathlib.Nat.{add-zero}
+use mathlib.Core.Path.{◌∙◌, refl, sym}
+use Rattle.listing_names.proofs.Laws.{spelled_part, cut_or_whole}
 use Rattle.listing_names.proofs.names.spelled.Goals as goal
-
-pub returns-then-stream-at : goal.returns-then-stream-at
-returns-then-stream-at c =
-    none_spelled c.args.stream.now c.args.at c.byte-n.result (rw add-zero at c.byte-n.ensures.0) (omega arith)
-
-pub returns-then-stream-from : goal.returns-then-stream-from
-returns-then-stream-from c =
-    cut_spelled c.args.stream.now c.args.at c.byte-n.result (rw add-zero at c.byte-n.ensures.0) (omega arith) c.if-stream-from.true
 
 pub returns : goal.returns
 returns c =
-    whole_spelled c.args.stream.now c.args.at c.byte-n.result (rw add-zero at c.byte-n.ensures.0)
+    let rest = c.in-Some.ensures.lookup.0 in
+    let cut = cut_or_whole _ _ _ c.get-2.result c.from.ensures c.get-2.ensures.lookup.0 in
+    spelled_part c.args.stream.now _ c.args.at _ _ _ c.get-2.result rest.0 (sym rest.2 ∙ c.in-Some-split_first.ensures.cases.0) refl c.unwrap_or.ensures cut
