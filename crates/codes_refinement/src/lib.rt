@@ -9,8 +9,10 @@ ghost use Rattle.definition.specs.Value.{kind_number};
 ghost use Rattle.definition.specs.ActionList.{action_kind_number, export_kind_number};
 ghost use Rattle.codes_refinement.specs.Lists.{refusals, value_kinds, action_kinds, export_kinds};
 
-use codes::{action_kind, export_kind, operation, refusal, value_kind};
+use codes::refusal::Refusal;
+use codes::{action_kind, export_kind, operation, value_kind};
 
+#[tactic(auto, unfolding(definition::proofs::Openers::operations_opens))]
 fn operations() -> [u64; 61]
     ensures { result ≡ map operation_number operations }
 {
@@ -79,49 +81,51 @@ fn operations() -> [u64; 61]
     ]
 }
 
+#[tactic(auto, unfolding(definition::specs::Refusals::refusal_number, crate::specs::Lists::refusals))]
 fn refusals() -> [u64; 36]
     ensures { result ≡ map refusal_number refusals }
 {
     [
-        refusal::BAD_LENGTH,
-        refusal::BLOCK_CHECK,
-        refusal::MALFORMED,
-        refusal::OUTSIDE_LIMIT,
-        refusal::NAMES_NOTHING,
-        refusal::SPELLED_TWICE,
-        refusal::TOO_MANY_STATEMENTS,
-        refusal::MACRO_TOO_DEEP,
-        refusal::LIST_FULL,
-        refusal::TOO_MANY_TEMPORARIES,
-        refusal::TOO_MANY_LABELS,
-        refusal::AFTER_EXPORT,
-        refusal::REDECLARED,
-        refusal::UNDEFINED,
-        refusal::WRONG_KIND,
-        refusal::ABSENT_TABLE,
-        refusal::DELAY_SLOT_ARGUMENT,
-        refusal::MACRO_ARGUMENTS,
-        refusal::LABEL_TWICE,
-        refusal::STORE_TO_NO_ADDRESS,
-        refusal::JUMP_TO_NON_LOCAL,
-        refusal::ADDRESS_OF_NON_LOCAL,
-        refusal::ADDRESS_OF_OFFSET,
-        refusal::CONSTANT_POOL,
-        refusal::ARGUMENT_COUNT,
-        refusal::MACRO_IN_EXPRESSION,
-        refusal::SUBPIECE_ARGUMENT,
-        refusal::SLICE_PAST_END,
-        refusal::NOT_ASSIGNABLE,
-        refusal::CONST_SPACE,
-        refusal::NO_DEFAULT_SPACE,
-        refusal::OTHER_SPACE,
-        refusal::SHIFT_TOO_FAR,
-        refusal::OFFSET_TOO_FAR,
-        refusal::SUBPIECE_SIZE,
-        refusal::ERRORS_RECORDED,
+        Refusal::BadLength as u64,
+        Refusal::BlockCheck as u64,
+        Refusal::Malformed as u64,
+        Refusal::OutsideLimit as u64,
+        Refusal::NamesNothing as u64,
+        Refusal::SpelledTwice as u64,
+        Refusal::TooManyStatements as u64,
+        Refusal::MacroTooDeep as u64,
+        Refusal::ListFull as u64,
+        Refusal::TooManyTemporaries as u64,
+        Refusal::TooManyLabels as u64,
+        Refusal::AfterExport as u64,
+        Refusal::Redeclared as u64,
+        Refusal::Undefined as u64,
+        Refusal::WrongKind as u64,
+        Refusal::AbsentTable as u64,
+        Refusal::DelaySlotArgument as u64,
+        Refusal::MacroArguments as u64,
+        Refusal::LabelTwice as u64,
+        Refusal::StoreToNoAddress as u64,
+        Refusal::JumpToNonLocal as u64,
+        Refusal::AddressOfNonLocal as u64,
+        Refusal::AddressOfOffset as u64,
+        Refusal::ConstantPool as u64,
+        Refusal::ArgumentCount as u64,
+        Refusal::MacroInExpression as u64,
+        Refusal::SubpieceArgument as u64,
+        Refusal::SlicePastEnd as u64,
+        Refusal::NotAssignable as u64,
+        Refusal::ConstSpace as u64,
+        Refusal::NoDefaultSpace as u64,
+        Refusal::OtherSpace as u64,
+        Refusal::ShiftTooFar as u64,
+        Refusal::OffsetTooFar as u64,
+        Refusal::SubpieceSize as u64,
+        Refusal::ErrorsRecorded as u64,
     ]
 }
 
+#[tactic(auto, unfolding(definition::specs::Value::kind_number, crate::specs::Lists::value_kinds))]
 fn value_kinds() -> [u64; 8]
     ensures { result ≡ map kind_number value_kinds }
 {
@@ -137,6 +141,7 @@ fn value_kinds() -> [u64; 8]
     ]
 }
 
+#[tactic(auto, unfolding(definition::specs::ActionList::action_kind_number, crate::specs::Lists::action_kinds))]
 fn action_kinds() -> [u64; 6]
     ensures { result ≡ map action_kind_number action_kinds }
 {
@@ -150,6 +155,7 @@ fn action_kinds() -> [u64; 6]
     ]
 }
 
+#[tactic(auto, unfolding(definition::specs::ActionList::export_kind_number, crate::specs::Lists::export_kinds))]
 fn export_kinds() -> [u64; 3]
     ensures { result ≡ map export_kind_number export_kinds }
 {

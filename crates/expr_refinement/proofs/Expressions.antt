@@ -29,7 +29,7 @@ use Rattle.definition.proofs.Openers.{base_opens}
 use Rattle.list_values.specs.declared.value.Value.{Value as WordValue}
 use Rattle.list_pushes.specs.declared.push.State.{State as WordState}
 use Rattle.list_pushes.specs.declared.push.Env.{Env as WordEnv}
-use Rattle.list_pushes.specs.declared.push.Read.{Read as WordRead}
+use Rattle.list_pushes.specs.Outcomes.{Read as WordRead}
 use Rattle.list_values.specs.Values.{absent}
 use Rattle.list_pushes.specs.Pushes.{ReadOut, read}
 use Rattle.file_syntax.specs.Cursors.{Cursor}

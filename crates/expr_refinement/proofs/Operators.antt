@@ -8,7 +8,7 @@ use native.Mathlib.Omega.{arith}
 use lib.ListN.{length, get_elem?}
 use lib.Dec.{eqb, ltb}
 use borrow.Author.Tests.{not-true, eqb-true}
-use Rattle.prelude.specs.Base.{is_some, all, same_numbers, when◌then◌else◌}
+use Rattle.prelude.specs.Base.{is_some, all, same_numbers}
 use Rattle.definition.specs.Operations.{Operation, operation_number, is_op}
 use Rattle.definition.specs.Value.{Value}
 use Rattle.definition.specs.Ast.{PcodeOp}

@@ -26,7 +26,7 @@ use Rattle.definition_guarantee.proofs.Tests.{some_same}
 use Rattle.definition_guarantee.proofs.Globals.{place-below, FoundPlaced, found_placed}
 use Rattle.list_refinement.specs.Encoding.{Sound, Each}
 use Rattle.expr_scope.specs.declared.scope.ExprValue.{ExprValue as WordExpr}
-use Rattle.expr_scope.specs.declared.scope.Meaning.{Meaning as WordMeaning}
+use Rattle.expr_scope.specs.Outcomes.{Meaning as WordMeaning}
 use Rattle.expr_terms.specs.Answers.{resolved}
 use Rattle.expr_resolver.specs.Expressions.{means_at}
 use Rattle.expr_scope.specs.Slots.{of_slot, slot_at, param_place}

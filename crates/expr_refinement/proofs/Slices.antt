@@ -7,7 +7,7 @@ use mathlib.Core.Option.{Option, none, some}
 use native.Mathlib.Omega.{arith}
 use lib.Dec.{leb, ltb}
 use borrow.Author.Tests.{ltb-true, ltb-false, leb-true, leb-false, le-leb, lt-leb, lt-ltb, le-ltb, ne_eqb}
-use Rattle.prelude.specs.Base.{or_else, is_some, when◌then◌else◌}
+use Rattle.prelude.specs.Base.{or_else, is_some}
 use Rattle.definition.specs.Refusals.{refusal_number, slice_past_end, shift_too_far}
 use Rattle.definition.specs.Value.{Value}
 use Rattle.definition.specs.Walk.{ExprValue, State, Env, Outcome, done}

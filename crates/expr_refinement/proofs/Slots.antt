@@ -14,7 +14,6 @@ use Rattle.definition.proofs.EveryOperation.{alike}
 use Rattle.definition.specs.Value.{Value}
 use Rattle.definition.specs.Ast.{Section}
 use Rattle.definition.specs.Walk.{ExprValue}
-use Rattle.prelude.specs.Base.{when◌then◌else◌}
 use Rattle.definition.proofs.Openers.{operations_opens}
 use Rattle.list_values.specs.Values.{absent, word, value_of, value_at, put_value}
 use Rattle.list_refinement.specs.Encoding.{enc_v, Sound, Each, first_of, second_of}

@@ -17,7 +17,8 @@ use Rattle.definition.specs.ActionList.{or_none}
 use Rattle.definition.proofs.Openers.{base_opens}
 use Rattle.file_refinement.specs.Holds.{Holds, local_word}
 use Rattle.expr_scope.specs.Smalls.{unit, small_of, small}
-use Rattle.expr_scope.specs.Scopes.{Found, own_of, own_local, tmp_of, tmp_local, or_tmp, lookup_local}
+use Rattle.expr_scope.specs.Outcomes.{Found}
+use Rattle.expr_scope.specs.Scopes.{own_of, own_local, tmp_of, tmp_local, or_tmp, lookup_local}
 use Rattle.expr_refinement.specs.Encoding.{enc_f}
 
 -- in the words of a scope that begins, every small number is 0

@@ -15,10 +15,10 @@ use Rattle.list_refinement.specs.RuleKinds.{kind_of, Operands}
 use Rattle.definition.specs.Refusals.{refusal_number}
 use Rattle.definition.specs.Scope.{find, Symbol, Meaning, means, wrong}
 use Rattle.list_pushes.specs.declared.push.Env.{Env as WordEnv}
-use Rattle.expr_scope.specs.declared.scope.Meaning.{Meaning as WordMeaning}
+use Rattle.expr_scope.specs.Outcomes.{Found, Meaning as WordMeaning}
 use Rattle.expr_scope.specs.declared.symbols.Symbol.{Symbol as WordSymbol}
 use Rattle.expr_scope.specs.Slots.{of_slot, slot_at, param_place}
-use Rattle.expr_scope.specs.Scopes.{Found, lookup_local}
+use Rattle.expr_scope.specs.Scopes.{lookup_local}
 
 -- what an expression means; Apply has its inputs, none, one or two, with absent ones behind them
 unfoldable pub enc_x : ExprValue → WordExpr

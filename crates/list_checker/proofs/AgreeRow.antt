@@ -6,7 +6,7 @@ use mathlib.Core.Bool.{Bool, true, false, ◌&&◌, ◌||◌, not}
 use mathlib.Core.List.{List, ◌∷◌, ◌++◌}
 use mathlib.Core.Option.{Option, none, some}
 use native.Mathlib.Omega.{arith}
-use lib.ListN.{length}
+use lib.ListN.{length, get_or}
 use lib.Dec.{eqb, leb, ltb}
 use borrow.Author.Tests.{eq-eqb, ne_eqb, leb-true, leb-false, eqb-true, eqb-false}
 use Rattle.prelude.specs.Base.{when◌then◌else◌, or_else, and_then, is_some, all, same_numbers}
@@ -17,10 +17,15 @@ use Rattle.definition.specs.ActionList.{value_words, input_words, action_kind_nu
 use Rattle.definition.specs.Checker as d
 use Rattle.definition.specs.Checker.{size_from, value_from, inputs_from, some_value, output_from, action_kind_numbered, action_from, same_count, counts_fit, shape_fits, plain_base, base_fits, option_fits, shape_of, value_fits, layout_fits, sizes_hold}
 use Rattle.list_checker.specs.Action.{value_fit, values_fit, inputs_fit, has_output, row_of, row_fit, operation_fit, kind_fit, head_fit, output_there, action_fit}
-use Rattle.list_checker.proofs.FitLaws.{head_none}
 use Rattle.list_checker.proofs.AgreeValue.{value_of, known, value_from_lem, value_fit_lem, value_sized, value_back, inputs_of, inputs_known, inputs_from_lem, inputs_length, inputs_fit_lem, and_true}
 use Rattle.list_checker.proofs.AgreeKind.{operation_right, kind_is, NoKind, no_operation, no_kind, kind_none, shape_of_row, tabled, shaped, one-count}
 use Rattle.list_checker.proofs.AgreeSizes.{inputs_sized, output_sized, output_of, if_and, below_one, inputs-sized, output-sized, values_sized, row_fit_lem}
+
+-- no action has a kind from 6 on
+head_none : (s p : ℕ) (b : Bool) (w : List ℕ) → 6 ≤ get_or w 0 0 → false ≡ head_fit s p b w
+unfolding head_fit kind_fit
+head_none s p b w h =
+    rw (ne_eqb (get_or w 0 0) 0 (λ z. omega arith), ne_eqb (get_or w 0 0) 1 (λ z. omega arith), ne_eqb (get_or w 0 0) 2 (λ z. omega arith), ne_eqb (get_or w 0 0) 3 (λ z. omega arith), ne_eqb (get_or w 0 0) 4 (λ z. omega arith), ne_eqb (get_or w 0 0) 5 (λ z. omega arith))
 
 -- The output: whether it is read, and whether its words fit, as the definition has it.
 

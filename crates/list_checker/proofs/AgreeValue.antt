@@ -150,7 +150,7 @@ inputs_length zero r = refl
 inputs_length (suc n) r = ap suc (inputs_length n (drop 2 r))
 
 pub same-zeros : (r : List ℕ) → same_numbers r (filled (length r) []) ≡ zeros r
-unfolding same_numbers filled zeros
+unfolding same_numbers filled
 same-zeros [] = refl
 same-zeros (x ∷ r) = rw (same-zeros r) (go (eqb x 0))
   where

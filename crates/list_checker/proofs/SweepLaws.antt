@@ -5,20 +5,23 @@ use mathlib.Core.Bool.{Bool, true, false, ◌&&◌, ◌||◌, not}
 use mathlib.Core.List.{List, [], ◌∷◌}
 use native.Mathlib.Omega.{arith}
 use native.Mathlib.Nat.{add-zero}
-use lib.ListN.{length, get_or, take, drop, set, replicate, length-set, length-drop, length-replicate}
-use lib.Seq.{get_or-set_same, get_or-set_other, drop-drop, take_all}
+use native.Mathlib.Numerals.{add-one}
+use lib.ListN.{length, get_or, take, drop, set, replicate, length-set, length-drop, length-replicate, drop_of_length-le}
+use lib.Seq.{drop-cons, get_or-set_same, get_or-set_other, drop-drop, take_all}
 use lib.Dec.{eqb, leb, ltb}
 use borrow.Author.Tests.{leb-true, leb-false, ltb-true, ltb-false, eqb-true, eqb-false, not-true, not-false}
+use Rattle.std.specs.Simd.{first_chunks}
 use Rattle.prelude.specs.Base.{when◌then◌else◌}
 use Rattle.definition.specs.Checker.{check}
 use Rattle.list_checker.specs.Action.{zeros, action_fit}
 use Rattle.list_checker.specs.Sweep.{Noted, noted, note_label, note_build, all_marked, when_new, sweep, rows_fit, labels_new, built_after, builds_it, any_builds, all_built_by, list_fit}
 use Rattle.list_checker.proofs.AgreeValue.{and_true}
 use Rattle.list_checker.proofs.AgreeSizes.{and_right, assoc}
+use Rattle.list_checker.proofs.FitLaws.{first_few}
 use Rattle.list_checker.proofs.AgreeList.{zeros_at, check_agrees, check-short}
 
 -- a sweep's parts
-sweep_parts : (t s p base n : ℕ) (ws seen built : List ℕ) → sweep t s p base n ws seen built ≡ (rows_fit t s p n ws && (labels_new n ws seen && all_marked (s - base) (built_after base n ws built)))
+sweep_parts : (t s p base n : ℕ) (ws seen built : List ℕ) → sweep t s p base (first_chunks 24 n ws) seen built ≡ (rows_fit t s p n ws && (labels_new n ws seen && all_marked (s - base) (built_after base n ws built)))
 unfolding sweep rows_fit labels_new built_after when_new
 sweep_parts t s p base zero ws seen built = refl
 sweep_parts t s p base (suc n) ws seen built =
@@ -29,8 +32,8 @@ sweep_parts t s p base (suc n) ws seen built =
     stop true false m = refl
     stop false r m = refl
 
-    go : ((next : List ℕ) → sweep t s p base n (drop 24 ws) next (note_build base (take 24 ws) built) ≡ (rows_fit t s p n (drop 24 ws) && (labels_new n (drop 24 ws) next && all_marked (s - base) (built_after base n (drop 24 ws) (note_build base (take 24 ws) built))))) →
-        (x : Noted) → (action_fit t s p (take 24 ws) && when_new x (λ next. sweep t s p base n (drop 24 ws) next (note_build base (take 24 ws) built)))
+    go : ((next : List ℕ) → sweep t s p base (first_chunks 24 n (drop 24 ws)) next (note_build base (take 24 ws) built) ≡ (rows_fit t s p n (drop 24 ws) && (labels_new n (drop 24 ws) next && all_marked (s - base) (built_after base n (drop 24 ws) (note_build base (take 24 ws) built))))) →
+        (x : Noted) → (action_fit t s p (take 24 ws) && when_new x (λ next. sweep t s p base (first_chunks 24 n (drop 24 ws)) next (note_build base (take 24 ws) built)))
         ≡ (action_fit t s p (take 24 ws) && rows_fit t s p n (drop 24 ws) && (when_new x (λ next. labels_new n (drop 24 ws) next) && all_marked (s - base) (built_after base n (drop 24 ws) (note_build base (take 24 ws) built))))
     go ih (noted true next) = rw (ih next) (sym (assoc (action_fit t s p (take 24 ws)) (rows_fit t s p n (drop 24 ws)) _))
     go ih (noted false next) = stop (action_fit t s p (take 24 ws)) (rows_fit t s p n (drop 24 ws)) (all_marked (s - base) (built_after base n (drop 24 ws) (note_build base (take 24 ws) built)))
@@ -90,7 +93,6 @@ marks_at base (suc n) ws built j h =
 
 -- one entry more is marked, and no more are than the table has
 marked_last : (c : ℕ) (built : List ℕ) → c < length built → all_marked (suc c) built ≡ (not (eqb (get_or built c 0) 0) && all_marked c built)
-unfolding all_marked
 marked_last c [] h = absurd (omega arith)
 marked_last zero (b ∷ built) h = refl
 marked_last (suc c) (b ∷ built) h = rw (marked_last c built (omega arith)) (go (not (eqb b 0)) (not (eqb (get_or built c 0) 0)) (all_marked c built))
@@ -101,7 +103,6 @@ marked_last (suc c) (b ∷ built) h = rw (marked_last c built (omega arith)) (go
     go false false z = refl
 
 marked_full : (c : ℕ) (built : List ℕ) → length built ≤ c → all_marked c built ≡ all_marked (length built) built
-unfolding all_marked
 marked_full zero [] h = refl
 marked_full (suc c) [] h = refl
 marked_full zero (b ∷ built) h = absurd (omega arith)
@@ -109,7 +110,7 @@ marked_full (suc c) (b ∷ built) h = ap (λ x. not (eqb b 0) && x) (marked_full
 
 -- the marks of a sweep: so many more are built
 marks_more : (base n c : ℕ) (ws : List ℕ) → c ≤ 256 → (all_marked c (built_after base n ws (replicate 256 0)) && all_built_by n ws base) ≡ all_built_by n ws (base + c)
-unfolding all_marked all_built_by
+unfolding all_built_by
 marks_more base n zero ws h = rw add-zero
 marks_more base n (suc c) ws h =
     let l : length (replicate {A = ℕ} 256 0) ≡ 256 = length-replicate {A = ℕ} 256 0 in
@@ -133,7 +134,11 @@ built_below n m (suc c) ws h = let z : suc c + m ≡ suc (c + m) = omega arith i
 
 -- a sweep that is true with more than 256 subtables left, one that is false, and one that is true with no more
 
-module _ (t s p base n : ℕ) (ws : List ℕ) (r : Bool) (known : all_built_by n ws base ≡ true) (e : r ≡ sweep t s p base n ws (replicate 256 0) (replicate 256 0)) where
+module _ (t s p base n : ℕ) (ws : List ℕ) (rows : List (List ℕ)) (r : Bool) (known : all_built_by n ws base ≡ true)
+    (read : rows ≡ first_chunks 24 (length ws / 24) ws) (room : n ≤ length ws / 24) (swept : r ≡ sweep t s p base (take n rows) (replicate 256 0) (replicate 256 0)) where
+  e : r ≡ sweep t s p base (first_chunks 24 n ws) (replicate 256 0) (replicate 256 0)
+  e = rw (read, first_few 24 (length ws / 24) n ws room) at swept
+
   marks : (c : ℕ) → c ≤ 256 → all_marked c (built_after base n ws (replicate 256 0)) ≡ all_built_by n ws (base + c)
   marks c h = sym (and_true _) ∙ rw known at (marks_more base n c ws h)
 
@@ -170,45 +175,31 @@ module _ (t s p base n : ℕ) (ws : List ℕ) (r : Bool) (known : all_built_by n
       go true f = fails (rows_fit t s p n ws) (labels_new n ws (replicate 256 0)) (all_built_by n ws s) refl (ltb-true _ _ f) (sym (many (ltb-true _ _ f)) ∙ h)
       go false f = let d : base + (s - base) ≡ s = omega arith in sym h ∙ few (ltb-false _ _ f) ∙ rw d
 
--- the sweep itself
+-- a turn of the loop over the actions, and its end
 
-both_kept : (a b : Bool) → (not a || not b) ≡ false → (a ≡ true) × (b ≡ true)
-both_kept true true e = (refl, refl)
-both_kept true false e = absurd (let z : ◌≡◌ {A = ℕ} 0 1 = cc in omega arith)
-both_kept false b e = absurd (let z : ◌≡◌ {A = ℕ} 0 1 = cc in omega arith)
+module _ (t s p base i : ℕ) (rows : List (List ℕ)) (seen built : List ℕ) (whole : Bool) (inv : sweep t s p base (drop i rows) seen built ≡ whole) where
+  module _ (a b : Bool) (next : List ℕ) (h : i < length rows) (ea : a ≡ action_fit t s p (get_or rows i [])) where
+    turn : (a && when_new (note_label (get_or rows i []) seen) λ later. sweep t s p base (drop (i + 1) rows) later (note_build base (get_or rows i []) built)) ≡ whole
+    unfolding sweep
+    turn = rw (ea, add-one) (rw (drop-cons rows i [] h) at inv)
 
-module _ (t s p base n i : ℕ) (ws seen built next : List ℕ) (whole a b : Bool) (h : i < n) (inv : sweep t s p base (n - i) (drop (24 * i) ws) seen built ≡ whole)
-    (ea : a ≡ action_fit t s p (take (24 * i + 24 - 24 * i) (drop (24 * i) ws))) (eb : noted b next ≡ note_label (take (24 * i + 24 - 24 * i) (drop (24 * i) ws)) seen) where
-  pub sweep_more : (marked : List ℕ) → (not a || not b) ≡ false → marked ≡ note_build base (take (24 * i + 24 - 24 * i) (drop (24 * i) ws)) built →
-      sweep t s p base (n - (i + 1)) (drop (24 * (i + 1)) ws) next marked ≡ whole
-  unfolding sweep when_new
-  sweep_more marked g em =
-      let z : n - i ≡ suc (n - (i + 1)) = omega arith in
-      let y : 24 * i + 24 - 24 * i ≡ 24 = omega arith in
-      let d : 24 * i + 24 ≡ 24 * (i + 1) = omega arith in
-      let fa : action_fit t s p (take 24 (drop (24 * i) ws)) ≡ true = rw y at (sym ea) ∙ (both_kept a b g).0 in
-      let fb : note_label (take 24 (drop (24 * i) ws)) seen ≡ noted true next = rw (y, (both_kept a b g).1) at (sym eb) in
-      rw (rw y at em) (rw (z, fa, fb, drop-drop 24 (24 * i) ws, d) at inv)
+    pub sweep_unfit : a ≡ false → false ≡ whole
+    sweep_unfit fa = rw fa at turn
 
-  pub sweep_unfit : (not a || not b) ≡ true → false ≡ whole
-  unfolding sweep when_new
-  sweep_unfit g =
-      let z : n - i ≡ suc (n - (i + 1)) = omega arith in
-      let y : 24 * i + 24 - 24 * i ≡ 24 = omega arith in
-      go a b g (rw y at ea) (rw y at eb) (rw z at inv)
-    where
-      go : (a b : Bool) → (not a || not b) ≡ true → a ≡ action_fit t s p (take 24 (drop (24 * i) ws)) → noted b next ≡ note_label (take 24 (drop (24 * i) ws)) seen →
-          sweep t s p base (suc (n - (i + 1))) (drop (24 * i) ws) seen built ≡ whole → false ≡ whole
-      go false b g f k inv = rw (← f) at inv
-      go true false g f k inv = rw (← f, ← k) at inv
-      go true true g f k inv = absurd (let z : ◌≡◌ {A = ℕ} 0 1 = cc in omega arith)
+    pub sweep_again : a ≡ true → noted b next ≡ note_label (get_or rows i []) seen → b ≡ false → false ≡ whole
+    unfolding when_new
+    sweep_again fa eb fb = rw (fa, ← eb, fb) at turn
 
-pub sweep_start : (t s p base n : ℕ) (ws seen built : List ℕ) → sweep t s p base (n - 0) (drop (24 * 0) ws) seen built ≡ sweep t s p base n ws seen built
-sweep_start t s p base n ws seen built = let z : n - 0 ≡ n = omega arith in rw z
+    pub sweep_more : a ≡ true → noted b next ≡ note_label (get_or rows i []) seen → b ≡ true → (marked : List ℕ) → marked ≡ note_build base (get_or rows i []) built →
+        sweep t s p base (drop (i + 1) rows) next marked ≡ whole
+    unfolding when_new
+    sweep_more fa eb fb marked em = rw em (rw (fa, ← eb, fb) at turn)
 
-pub sweep-end : (t s p base n i : ℕ) (ws seen built : List ℕ) (whole r : Bool) → n ≤ i → sweep t s p base (n - i) (drop (24 * i) ws) seen built ≡ whole → r ≡ all_marked (s - base) built → r ≡ whole
-unfolding sweep
-sweep-end t s p base n i ws seen built whole r h inv e = let z : n - i ≡ 0 = omega arith in e ∙ rw z at inv
+  pub sweep-end : (r : Bool) → length rows ≤ i → r ≡ all_marked (s - base) built → r ≡ whole
+  unfolding sweep
+  sweep-end r h e = e ∙ rw (drop_of_length-le rows h) at inv
+
+pub ruleset sweep_laws = (sweep_unfit, sweep_again, sweep_more, sweep-end)
 
 -- the checker
 
@@ -225,8 +216,4 @@ module _ (ws : List ℕ) (n t s p : ℕ) (z : Bool) (h : n ≤ length ws / 24) (
   pub check-list : (r : Bool) → not z ≡ false → r ≡ list_fit t s p n ws → r ≡ check ws n t s p
   check-list r g f = rw (check_agrees ws n t s p (omega arith), ← tail_zero, not-false z g) f
 
-pub ruleset check_laws = (check_room, check-tail, check-list)
-
-pub ruleset sweep_laws = (sweep_start, sweep_unfit, sweep_more, sweep-end)
-
-pub ruleset list_laws = (built_none, sweep_goes, sweep_stops, sweep-last)
+pub ruleset check_laws = (check_room, check-tail, check-list, built_none, sweep_goes, sweep_stops, sweep-last)

@@ -1,10 +1,10 @@
 -- One action, asked of its words.
-use Rattle.std.specs.Prelude.{ℕ, zero, suc, ◌/◌, ◌%◌, Bool, true, false, ◌&&◌, ◌||◌, not, List, [], ◌∷◌, get_or, drop, eqb, leb, ltb}
+use Rattle.std.specs.Prelude.{ℕ, zero, suc, ◌/◌, ◌%◌, Bool, true, false, ◌&&◌, ◌||◌, not, List, get_or, drop, eqb, leb, ltb}
+use Rattle.std.specs.List.{list_all}
 use Rattle.prelude.specs.Base.{when◌then◌else◌}
 
-unfoldable pub zeros : List ℕ → Bool
-zeros [] = true
-zeros (w ∷ words) = eqb w 0 && zeros words
+abbrev pub zeros : List ℕ → Bool
+zeros words = list_all (λ w. eqb w 0) words
 
 -- Values.
 
@@ -21,6 +21,10 @@ module _ (temporaries subtables : ℕ) where
   unfoldable pub value_fit : Bool → ℕ → ℕ → Bool
   value_fit sized number word =
       ltb word 1099511627776 && (not sized || not (eqb (word / 16777216) 65535)) && number_fit (word % 256) number
+
+  -- the same of a list of them
+  abbrev pub fits : Bool → List ℕ → Bool
+  fits sized value = value_fit sized (get_or value 0 0) (get_or value 1 0)
 
   -- n inputs, and zeros behind them
   unfoldable pub values_fit : Bool → ℕ → List ℕ → Bool

@@ -1,5 +1,6 @@
 -- The sweeps over a list of actions, with labels placed and subtables built marked in tables.
 use Rattle.std.specs.Prelude.{ℕ, zero, suc, ◌-◌, Bool, true, false, ◌&&◌, not, List, [], ◌∷◌, get_or, set, take, drop, replicate, eqb, leb}
+use Rattle.std.specs.List.{list_all}
 use Rattle.prelude.specs.Base.{when◌then◌else◌}
 use Rattle.list_checker.specs.Action.{action_fit}
 
@@ -17,10 +18,8 @@ unfoldable pub note_build : ℕ → List ℕ → List ℕ → List ℕ
 note_build base w built = when eqb (get_or w 0 0) 5 && leb base (get_or w 2 0) then set built (get_or w 2 0 - base) 1 else built
 
 -- the first entries of a table, as many as are asked for or there are
-unfoldable pub all_marked : ℕ → List ℕ → Bool
-all_marked zero built = true
-all_marked (suc count) [] = true
-all_marked (suc count) (b ∷ built) = not (eqb b 0) && all_marked count built
+abbrev pub all_marked : ℕ → List ℕ → Bool
+all_marked count built = list_all (λ b. not (eqb b 0)) (take count built)
 
 -- a new label lets the sweep go on
 unfoldable pub when_new : Noted → (List ℕ → Bool) → Bool
@@ -28,12 +27,12 @@ when_new (noted true seen) f = f seen
 when_new (noted false seen) f = false
 
 module _ (temporaries subtables pointer base : ℕ) where
-  -- n actions, the labels seen and the subtables built before
-  unfoldable pub sweep : ℕ → List ℕ → List ℕ → List ℕ → Bool
-  sweep zero ws seen built = all_marked (subtables - base) built
-  sweep (suc n) ws seen built =
-      action_fit temporaries subtables pointer (take 24 ws)
-      && when_new (note_label (take 24 ws) seen) λ next. sweep n (drop 24 ws) next (note_build base (take 24 ws) built)
+  -- the actions, the labels seen and the subtables built before
+  unfoldable pub sweep : List (List ℕ) → List ℕ → List ℕ → Bool
+  sweep [] seen built = all_marked (subtables - base) built
+  sweep (w ∷ rows) seen built =
+      action_fit temporaries subtables pointer w
+      && when_new (note_label w seen) λ next. sweep rows next (note_build base w built)
 
 -- The parts of a sweep.
 

@@ -40,8 +40,8 @@ unfolding mark_build
 mark_length k n b = go (eqb k 5)
   where
     go : (c : Bool) → length (when c then set b n 1 else b) ≡ length b
-    go true =  length-set b n 1
-    go false =  refl
+    go true = length-set b n 1
+    go false = refl
 
 set_get : (b : List ℕ) (n i : ℕ) → i < length b → get_or (set b n 1) i 0 ≡ (when eqb i n then 1 else get_or b i 0)
 set_get b n i h = go (eqb i n) refl
@@ -68,7 +68,7 @@ same_if false b = refl
 all_get : (xs : List SemanticAction) (b : List ℕ) (i : ℕ) → i < length b → get_or (mark_all xs b) i 0
     ≡ (when any (builds i) xs then 1 else get_or b i 0)
 unfolding mark_all any
-all_get [] b i h =  refl
+all_get [] b i h = refl
 all_get (x ∷ xs) b i h =
     all_get xs (mark_build (action_kind_number x.kind) x.number b) i (rw (mark_length (action_kind_number x.kind) x.number b) h)
     ∙ rw (kind_get x.kind x.number b i h) (unfold builds in rw (← same_if (is_build x.kind) (eqb i x.number))

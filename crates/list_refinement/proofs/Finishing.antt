@@ -153,7 +153,7 @@ module _ (pre post : List ℕ) (at0 : ℕ) (begins : length pre ≡ at0) where
     unfolding words.slice_bytes or_none or_else expect on sliced_inputs sliced
     copied_is none h = unfold seen_end then_l ending refusal_number in refl
     copied_is (some n) h = rw (ne_eqb n 65535 (λ q. omega arith))
-        ( sliced_is n h (leb (v.offset + number) 65535) refl)
+        (sliced_is n h (leb (v.offset + number) 65535) refl)
 
     piece_is : ends (subpiece_copy (words_of pre post piece) at0) ≡ ending (words_of pre post) (d.subpiece_copy piece e u)
     unfolding subpiece_copy d.subpiece_copy and_then

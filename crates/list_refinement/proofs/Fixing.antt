@@ -279,12 +279,12 @@ module _ (s t : List ℕ) (sec : Section) (holds : SizesHold s t sec) (rest : Li
       output-fixed x op none z k same f r =
           let e : get_or (words_of pre post (with_output none x)) (place + 5) 0 ≡ 255 = word_at (with_output none x) 5 (omega arith)
           ∙ rw (words_of_lem (with_output none x)) (rw k (unfold operation_of out_word in refl)) in
-          rw e ( refl)
+          rw e (refl)
       output-fixed x op (some v) z k same f r =
           let e : get_or (words_of pre post (with_output (some v) x)) (place + 5) 0 ≡ packed v = word_at (with_output (some v) x) 5 (omega arith)
           ∙ rw (words_of_lem (with_output (some v) x)) (unfold out_word in refl) in
           rw (e, not_absent v)
-          ( rw (output_focus x v, output_focus x (d.fix_size sec v z).0)
+          (rw (output_focus x v, output_focus x (d.fix_size sec v z).0)
           (operand-fixed (action_kind_number x.kind ∷ operation_word (operation_of x.kind) ∷ x.number ∷ length x.inputs ∷ [])
           (filled 18 (input_words x.inputs)) 4 v z refl same f r))
 

@@ -1,7 +1,7 @@
 -- The size rule of each operation: the code's number of it, the definition's steps, and the operands that they need.
 use Rattle.std.specs.Prelude.{ℕ, ◌≡◌, Bool, true, false, List, [], ◌∷◌, get_or}
 use Rattle.definition.specs.Sizes as d
-use Rattle.prelude.specs.Base.{is_some, when◌then◌else◌}
+use Rattle.prelude.specs.Base.{is_some}
 use Rattle.definition.specs.Value.{SemanticAction}
 use Rattle.definition.specs.Sizes.{Operand, in0, in1, out, at, one, pointer, Step, equal, exactly, by_default}
 use Rattle.definition.specs.Operations.{Operation, operation_number}
