@@ -18,7 +18,7 @@ use Rattle.list_values.specs.Base.{then_l}
 use Rattle.list_values.specs.Values.{word}
 use Rattle.stmt_walk.specs.Outcomes.{Walk}
 use Rattle.stmt_walk.specs.Outcomes.{Export as WordExport}
-use Rattle.resolve_answer.specs.declared.answer.Words.{Words}
+use Rattle.resolve_answer.specs.Answers.{Words}
 use Rattle.resolve_answer.specs.Answers.{points_of, words, export_words, accepted}
 use Rattle.list_refinement.specs.Encoding.{enc_v, packed, actions_in, temporaries_in, EachOption}
 use Rattle.list_refinement.proofs.Operands.{word_is}

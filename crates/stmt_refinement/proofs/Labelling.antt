@@ -19,7 +19,7 @@ use Rattle.list_pushes.specs.declared.push.Env.{Env as WordEnv}
 use Rattle.list_values.specs.Base.{Listed, listed}
 use Rattle.expr_scope.specs.Smalls.{put_small}
 use Rattle.expr_scope.proofs.SmallLaws.{small_other, small_slots, small_length}
-use Rattle.stmt_branches.specs.declared.labels.Label.{Label as WordLabel}
+use Rattle.stmt_branches.specs.Outcomes.{Label as WordLabel}
 use Rattle.stmt_branches.specs.Labels.{label_place, get_or_insert_label, on_label, place_label, resolve_label, labels_after}
 use Rattle.stmt_refinement.proofs.Labels.{label_found, labels_full, label_new, label_once, label_twice_lem, label-put}
 use Rattle.stmt_refinement.proofs.Naming.{lookup_as}

@@ -18,7 +18,7 @@ use Rattle.definition_guarantee.proofs.Entries.{find-put}
 use Rattle.list_values.specs.Base.{listed}
 use Rattle.expr_scope.specs.Smalls.{small, put_small}
 use Rattle.expr_scope.proofs.SmallLaws.{small_same, small_other}
-use Rattle.stmt_branches.specs.declared.labels.Label.{Label as WordLabel}
+use Rattle.stmt_branches.specs.Outcomes.{Label as WordLabel}
 use Rattle.stmt_branches.specs.Labels.{label_place, label_or, get_or_insert_label, place_label}
 use Rattle.expr_refinement.proofs.Scopes.{eqb_swap}
 use Rattle.stmt_refinement.specs.Standing.{label_number, LabelsIn}

@@ -31,7 +31,7 @@ use Rattle.file_refinement.specs.Holds.{Holds}
 use Rattle.file_refinement.proofs.Inversion.{CallStatementAt, call-statement_at}
 use Rattle.list_refinement.specs.Encoding.{Each}
 use Rattle.list_refinement.proofs.Seen.{outcome}
-use Rattle.expr_scope.specs.declared.args.Args.{Args as WordArgs}
+use Rattle.expr_scope.specs.Outcomes.{Args as WordArgs}
 use Rattle.expr_terms.specs.Answers.{ArgsOut, passed, on_args, after}
 use Rattle.expr_resolver.specs.Expressions.{resolve_args, resolve_expr}
 use Rattle.stmt_walk.specs.Outcomes.{Walk}

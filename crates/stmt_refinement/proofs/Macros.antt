@@ -19,7 +19,8 @@ use Rattle.access.specs.Loops.{run}
 use Rattle.list_values.specs.Values.{value_at}
 use Rattle.list_refinement.specs.Encoding.{Each}
 use Rattle.expr_scope.specs.Smalls.{small}
-use Rattle.expr_scope.specs.Scopes.{Found, tmp_of, tmp_local, lookup_local}
+use Rattle.expr_scope.specs.Outcomes.{Found}
+use Rattle.expr_scope.specs.Scopes.{tmp_of, tmp_local, lookup_local}
 use Rattle.expr_scope.specs.Slots.{of_slot, slot_at, param_place, arg_at}
 use Rattle.stmt_simple.specs.Calls.{bind_name, bind_names}
 use Rattle.stmt_branches.specs.Labels.{label_place}

@@ -32,7 +32,8 @@ use Rattle.list_refinement.proofs.Seen.{seen_tmp, outcome}
 use Rattle.list_refinement.proofs.Pushes.{Stands, Made, add_done, named_is, each_snoc}
 use Rattle.expr_scope.specs.Smalls.{small, put_small}
 use Rattle.expr_scope.proofs.SmallLaws.{small_same, small_other, small_slots, small_length}
-use Rattle.expr_scope.specs.Scopes.{Found, own_local, tmp_of, tmp_local, or_tmp, lookup_local, undeclared, named_tmp}
+use Rattle.expr_scope.specs.Outcomes.{Found}
+use Rattle.expr_scope.specs.Scopes.{own_local, tmp_of, tmp_local, or_tmp, lookup_local, undeclared, named_tmp}
 use Rattle.stmt_branches.specs.Labels.{label_place}
 use Rattle.stmt_walk.specs.Outcomes.{Step}
 use Rattle.stmt_walk.specs.Walks.{Walked, walked, step_read, read_then}
