@@ -194,6 +194,7 @@ pub fn slot_at(params: &[u64], at: usize) -> Slot
 }
 
 // Where the slot of parameter i stands: eight words each.
+#[tactic(auto, unfolding(crate::specs::Slots::param_place))]
 pub fn param_place(index: usize) -> usize
     ensures { result ≡ param_place index }
 {

@@ -12,6 +12,7 @@ pub const LABELS: usize = 1024;
 // The words of a scope: 8 slots of 8, and 342 of small numbers.
 pub const SCOPE_WORDS: usize = 406;
 
+#[tactic(auto, unfolding(crate::specs::Smalls::small, crate::specs::Smalls::small_of, crate::specs::Smalls::unit))]
 pub fn small(scope: &[u64], index: usize) -> u64
     ensures { (result ≡ small scope.now index) × (result < 1024) }
 {

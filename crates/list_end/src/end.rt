@@ -23,6 +23,7 @@ pub struct Fixed {
 }
 
 // The known size, else the fallback, else an error.
+#[tactic(auto, unfolding(crate::specs::End::fix_size, list_values::specs::Sizes::error))]
 pub fn fix_size(
     section: Section<'_>,
     temporaries: &[u64],
@@ -152,6 +153,7 @@ fn fix_operands(
 }
 
 // The Copy of a part of a value.
+#[tactic(auto, unfolding(crate::specs::End::write_copy))]
 fn write_copy(actions: &mut [u64], at: usize, part: Value)
     ensures { actions.new ≡ write_copy actions.old at part }
 {
@@ -239,6 +241,7 @@ fn mark_built(actions: &[u64], base: usize, count: usize, built: &mut [u64])
     }
 }
 
+#[tactic(auto, unfolding(crate::specs::End::mark_build))]
 fn mark_build(kind: u64, number: u64, built: &mut [u64])
     ensures { built.new ≡ mark_build kind number built.old }
 {
@@ -256,6 +259,7 @@ fn zero_action(actions: &mut [u64], at: usize)
     }
 }
 
+#[tactic(auto, unfolding(crate::specs::End::write_build))]
 fn write_build(actions: &mut [u64], at: usize, number: u64)
     ensures { actions.new ≡ write_build actions.old at number }
 {
@@ -275,6 +279,7 @@ fn implicit_builds(actions: &mut [u64], built: &[u64], count: usize) -> usize
     k
 }
 
+#[tactic(auto, unfolding(crate::specs::End::implicit_build, list_values::specs::Base::then_l))]
 fn implicit_build(actions: &mut [u64], built: &[u64], index: usize, placed: usize) -> usize
     ensures { listed result actions.new ≡ implicit_build built.now index (listed placed actions.old) }
 {
@@ -309,6 +314,7 @@ fn move_down(actions: &mut [u64], base: usize, builds: usize, count: usize)
 
 // The list in its final order: the implicit Builds, the n actions that stand behind room for all subtables, zeros.
 // How many actions it has.
+#[tactic(auto, unfolding(crate::specs::End::assemble, list_values::specs::Base::then_l, crate::specs::End::zero_from))]
 pub fn assemble(actions: &mut [u64], subtables: usize, pushed: usize) -> usize
     ensures { listed result actions.new ≡ assemble actions.old subtables pushed }
 {

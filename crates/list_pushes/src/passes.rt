@@ -10,6 +10,7 @@ use list_values::sizes::sum_of_errors;
 use list_values::value::place;
 
 // Where action i stands of those from a position on; the first may stand anywhere.
+#[tactic(auto, unfolding(crate::specs::Passes::action_place))]
 fn action_place(base: usize, index: usize) -> usize
     ensures { result ≡ action_place base index }
 {
@@ -17,6 +18,7 @@ fn action_place(base: usize, index: usize) -> usize
 }
 
 // Which of n actions is next after i of them, forward or backward.
+#[tactic(auto, unfolding(crate::specs::Passes::turn))]
 fn turn(forward: bool, count: usize, index: usize) -> usize
     requires { index < count }
     ensures { result ≡ turn forward count index }

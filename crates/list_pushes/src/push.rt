@@ -109,6 +109,7 @@ pub fn output_or(
     }
 }
 
+#[tactic(auto, unfolding(crate::specs::Pushes::write_operands))]
 fn write_operands(actions: &mut [u64], at: usize, out: Value, first: Value, second: Value)
     ensures { actions.new ≡ write_operands actions.old at out first second }
 {
@@ -125,6 +126,7 @@ fn write_zeros(actions: &mut [u64], at: usize)
     }
 }
 
+#[tactic(auto, unfolding(crate::specs::Pushes::write_head))]
 fn write_head(actions: &mut [u64], at: usize, kind: u64, operation: Operation)
     ensures { actions.new ≡ write_head actions.old at kind operation.code operation.number operation.count }
 {
@@ -135,6 +137,7 @@ fn write_head(actions: &mut [u64], at: usize, kind: u64, operation: Operation)
 }
 
 // All 24 words of an action with at most two inputs.
+#[tactic(auto, unfolding(crate::specs::Pushes::write))]
 fn write(actions: &mut [u64], at: usize, kind: u64, operation: Operation, out: Value)
     ensures { actions.new ≡ write actions.old at kind operation.code operation.number operation.count out operation.first operation.second }
 {

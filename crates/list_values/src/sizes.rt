@@ -19,6 +19,7 @@ pub struct Sizing {
 }
 
 // A position so many bytes into list k.
+#[tactic(auto, unfolding(crate::specs::Sizes::entry))]
 pub fn entry(table: &[u16; table::LENGTH], list: usize, bytes: u64) -> usize
     ensures { result ≡ entry table.now list bytes }
 {
@@ -26,6 +27,7 @@ pub fn entry(table: &[u16; table::LENGTH], list: usize, bytes: u64) -> usize
 }
 
 // The size of entry i of list k, whose entries are a name and a size.
+#[tactic(auto, unfolding(crate::specs::Sizes::list_size))]
 fn list_size(section: Section<'_>, list: usize, index: u64) -> u64
     ensures { result ≡ list_size section.entry.stream.now section.entry.table.now list index }
 {
@@ -36,6 +38,7 @@ fn list_size(section: Section<'_>, list: usize, index: u64) -> u64
 }
 
 // The size of a subtable's table export.
+#[tactic(auto, unfolding(crate::specs::Sizes::export_size_of))]
 fn export_size(section: Section<'_>, index: u64) -> u64
     ensures { result ≡ export_size_of section.entry.stream.now section.entry.table.now index }
 {
@@ -46,6 +49,7 @@ fn export_size(section: Section<'_>, index: u64) -> u64
     )
 }
 
+#[tactic(auto, unfolding(crate::specs::Sizes::tmp_size))]
 fn tmp_size(temporaries: &[u64], index: u64) -> u64
     ensures { result ≡ tmp_size temporaries.now index }
 {
@@ -54,6 +58,7 @@ fn tmp_size(temporaries: &[u64], index: u64) -> u64
 
 // The size of a register, table export or field. It is called from two places below, so that what is tested before it stays
 // small enough to be compiled into every place that asks for a size.
+#[tactic(auto, unfolding(crate::specs::Sizes::listed_size))]
 fn listed_size(section: Section<'_>, kind: u64, number: u64) -> u64
     ensures { result ≡ listed_size section.entry.stream.now section.entry.table.now kind number }
 {
@@ -67,6 +72,7 @@ fn listed_size(section: Section<'_>, kind: u64, number: u64) -> u64
 }
 
 // The known size, 65,535 for none.
+#[tactic(auto, unfolding(crate::specs::Sizes::size_of, crate::specs::Sizes::size_of_local))]
 pub fn size_of(section: Section<'_>, temporaries: &[u64], value: Value) -> u64
     ensures { result ≡ size_of section.entry.stream.now section.entry.table.now temporaries.now value }
 {
@@ -102,6 +108,7 @@ fn size_at(
 }
 
 // The sum, up to the greatest number of a word.
+#[tactic(auto, unfolding(crate::specs::Sizes::sum_of_errors))]
 pub fn sum_of_errors(errors: u64, more: u64) -> u64
     ensures { result ≡ sum_of_errors errors more }
 {
@@ -112,6 +119,7 @@ pub fn sum_of_errors(errors: u64, more: u64) -> u64
 }
 
 // So many errors more.
+#[tactic(auto, unfolding(crate::specs::Sizes::recorded))]
 pub fn record_errors(sizing: Sizing, count: u64) -> Sizing
     ensures { result ≡ recorded count sizing }
 {
@@ -133,6 +141,7 @@ pub fn record_errors(sizing: Sizing, count: u64) -> Sizing
     }
 }
 
+#[tactic(auto, unfolding(crate::specs::Sizes::size_temporary))]
 fn size_temporary(temporaries: &mut [u64], value: Value, size: u64)
     ensures { temporaries.new ≡ size_temporary temporaries.old value size }
 {
@@ -223,6 +232,7 @@ pub fn set_three(
 }
 
 // Whether a value falls back to pointer size: InstStart, InstNext, a field or a constant.
+#[tactic(auto, unfolding(crate::specs::Sizes::falls_back))]
 pub fn falls_back(value: Value) -> bool
     ensures { result ≡ falls_back value }
 {
@@ -297,6 +307,7 @@ pub fn set_size_of_pair(
     set_operand(section, actions, temporaries, at, other, x)
 }
 
+#[tactic(auto, unfolding(crate::specs::Sizes::triple_falls_back))]
 fn triple_falls_back(actions: &[u64], at: usize) -> bool
     ensures { result ≡ triple_falls_back actions.now at }
 {
@@ -372,6 +383,7 @@ fn share_size(
     )
 }
 
+#[tactic(auto, unfolding(crate::specs::Sizes::all_equal))]
 fn all_equal(first: u64, second: u64, third: u64) -> bool
     ensures { result ≡ all_equal first second third }
 {

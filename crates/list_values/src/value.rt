@@ -68,6 +68,7 @@ pub fn no_output() -> Value
 }
 
 // So many bytes of a value, from a byte on, unless their offset passes 65,535.
+#[tactic(auto, unfolding(crate::specs::Values::slice_bytes))]
 pub fn slice_bytes(value: Value, more: u64, size: u64) -> Result<Value, Refusal>
     ensures { to_slice result ≡ slice_bytes value more size }
 {
@@ -85,6 +86,7 @@ pub fn slice_bytes(value: Value, more: u64, size: u64) -> Result<Value, Refusal>
 }
 
 // The second word.
+#[tactic(auto, unfolding(crate::specs::Values::word))]
 pub fn word(value: Value) -> u64
     ensures { result ≡ word value }
 {
@@ -114,6 +116,7 @@ pub fn put(list: &mut [u64], at: usize, index: usize, word: u64)
 }
 
 // The value whose first word is i after a position.
+#[tactic(auto, unfolding(crate::specs::Values::value_at, crate::specs::Values::value_of))]
 pub fn value_at(list: &[u64], at: usize, index: usize) -> Value
     requires { index < 32 }
     ensures { result ≡ value_at list.now at index }
@@ -127,6 +130,7 @@ pub fn value_at(list: &[u64], at: usize, index: usize) -> Value
     }
 }
 
+#[tactic(auto, unfolding(crate::specs::Values::put_value))]
 pub fn put_value(list: &mut [u64], at: usize, index: usize, value: Value)
     requires { index < 32 }
     ensures { list.new ≡ put_value list.old at index value }
@@ -135,6 +139,7 @@ pub fn put_value(list: &mut [u64], at: usize, index: usize, value: Value)
     put(list, at, index + 1, word(value));
 }
 
+#[tactic(auto, unfolding(crate::specs::Values::put_size))]
 pub fn put_size(list: &mut [u64], at: usize, index: usize, size: u64)
     requires { index < 32 }
     ensures { list.new ≡ put_size list.old at index size }
@@ -149,6 +154,7 @@ pub fn put_size(list: &mut [u64], at: usize, index: usize, size: u64)
 }
 
 // Where action i stands in a list whose first is at a position.
+#[tactic(auto, unfolding(crate::specs::Values::place))]
 pub fn place(base: usize, index: usize) -> usize
     ensures { result ≡ place base index }
 {
