@@ -6,8 +6,9 @@ use mathlib.Core.Bool.{Bool, true, false, ◌&&◌}
 use mathlib.Core.List.{List, [], ◌∷◌, ◌++◌, map}
 use mathlib.Core.Option.{Option, none, some}
 use native.Mathlib.Omega.{arith}
+use Rattle.std.proofs.lemmas.Grind.{common_steps}
 use lib.Dec.{eqb, leb, ltb}
-use borrow.Author.Tests.{lt-leb, le-ltb, eq-eqb, ne_eqb, ltb-true, ltb-false, eqb-true, eqb-false}
+use borrow.Author.Tests.{lt-leb, eq-eqb, ne_eqb, ltb-true, ltb-false, eqb-true, eqb-false}
 use Rattle.prelude.specs.Base.{when◌then◌else◌, ◌or◌, or_else, and_then, is_some, any, first}
 use Rattle.definition.specs.Operations.{Operation, operation_number}
 use Rattle.definition.specs.Value.{ActionKind, operation_of}
@@ -21,8 +22,7 @@ use Rattle.list_checker.specs.Action.{Row, triple, shift, comparison, boolean, n
 -- no operation has a number from 66 on
 row_above : (op : ℕ) → 66 ≤ op → row_of op ≡ unknown
 unfolding row_of
-row_above op l =
-    rw (le-ltb op 7 (omega arith), le-ltb op 10 (omega arith), le-ltb op 16 (omega arith), le-ltb op 20 (omega arith), le-ltb op 24 (omega arith), le-ltb op 27 (omega arith), le-ltb op 30 (omega arith), le-ltb op 33 (omega arith), le-ltb op 39 (omega arith), ne_eqb op 39 (λ z. omega arith), le-ltb op 42 (omega arith), ne_eqb op 42 (λ z. omega arith), le-ltb op 45 (omega arith), le-ltb op 51 (omega arith), le-ltb op 57 (omega arith), ne_eqb op 57 (λ z. omega arith), ne_eqb op 58 (λ z. omega arith), ne_eqb op 59 (λ z. omega arith), ne_eqb op 60 (λ z. omega arith), ne_eqb op 61 (λ z. omega arith), ne_eqb op 62 (λ z. omega arith), ne_eqb op 63 (λ z. omega arith), ne_eqb op 64 (λ z. omega arith), ne_eqb op 65 (λ z. omega arith))
+row_above op l = grind (arith, common_steps)
 
 abbrev pub pcode_op_pairs : List (ℕ × Bool)
 pcode_op_pairs = map no_output (0 ∷ 1 ∷ 2 ∷ 3 ∷ 4 ∷ 5 ∷ 6 ∷ 7 ∷ 8 ∷ []) ++ map with_output (0 ∷ 1 ∷ 2 ∷ [])
