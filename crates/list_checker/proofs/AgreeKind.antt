@@ -83,7 +83,7 @@ tabled t s o = record {
 
 first_from : {A B : Type 0} (f : A → Option B) (P : B → Type 0) → ((x : A) (b : B) → f x ≡ some b → P b) → (xs : List A) (b : B) → first f xs ≡ some b → P b
 unfolding first ◌or◌
-first_from f P h [] b e = absurd (let z : ◌≡◌ {A = ℕ} 0 1 = cc in omega arith)
+first_from f P h [] b e = cc
 first_from {A} {B} f P h (x ∷ xs) b e = go (λ p. first_from f P h xs b p) (f x) refl e
   where
     go : (first f xs ≡ some b → P b) → (y : Option B) → f x ≡ y → y or first f xs ≡ some b → P b
@@ -97,7 +97,7 @@ operation_number_lem n o e =
   where
     go : (x b : Operation) (t : Bool) → eqb n (operation_number x) ≡ t → (when t then some x else none) ≡ some b → operation_number b ≡ n
     go x b true q p = let z : x ≡ b = cc in rw (← z) (sym (eqb-true _ _ q))
-    go x b false q p = absurd (let z : ◌≡◌ {A = ℕ} 0 1 = cc in omega arith)
+    go x b false q p = cc
 
 unfoldable below : ℕ → List ℕ
 below zero = []
@@ -138,7 +138,7 @@ pub record KindIs (k op : ℕ) (kind : ActionKind) : Type 0 where
 
 op_is : (op : ℕ) (x : Option Operation) → operation_numbered op ≡ x → (kind : ActionKind) → and_then x (λ o. some (ActionKind.Op o)) ≡ some kind → KindIs 0 op kind
 unfolding and_then action_kind_number operation_of operation_word operation_right
-op_is op none p kind e = absurd (let z : ◌≡◌ {A = ℕ} 0 1 = cc in omega arith)
+op_is op none p kind e = cc
 op_is op (some o) p kind e =
     let z : ActionKind.Op o ≡ kind = cc in
     rw (← z) (record { number = refl; right = eq-eqb op (operation_number o) (sym (operation_number_lem op o p)) })
@@ -151,7 +151,7 @@ kind_is (suc (suc zero)) op kind e = let z : ActionKind.LoadRegister ≡ kind = 
 kind_is (suc (suc (suc zero))) op kind e = let z : ActionKind.StoreRegister ≡ kind = cc in rw (← z) (record { number = refl; right = refl })
 kind_is (suc (suc (suc (suc zero)))) op kind e = let z : ActionKind.DelaySlot ≡ kind = cc in rw (← z) (record { number = refl; right = refl })
 kind_is (suc (suc (suc (suc (suc zero))))) op kind e = let z : ActionKind.Build ≡ kind = cc in rw (← z) (record { number = refl; right = refl })
-kind_is (suc (suc (suc (suc (suc (suc k)))))) op kind e = absurd (let z : ◌≡◌ {A = ℕ} 0 1 = cc in omega arith)
+kind_is (suc (suc (suc (suc (suc (suc k)))))) op kind e = cc
 
 -- a number that is no kind's, or 0 with a number that is no operation's
 pub data NoKind : ℕ → ℕ → Type 0 where
@@ -161,16 +161,16 @@ pub data NoKind : ℕ → ℕ → Type 0 where
 op_none : (op : ℕ) (x : Option Operation) → operation_numbered op ≡ x → and_then x (λ o. some (ActionKind.Op o)) ≡ none → row_of op ≡ unknown
 unfolding and_then
 op_none op none p e = operation_none op p
-op_none op (some o) p e = absurd (let z : ◌≡◌ {A = ℕ} 0 1 = cc in omega arith)
+op_none op (some o) p e = cc
 
 pub kind_none : (k op : ℕ) → action_kind_numbered k op ≡ none → NoKind k op
 unfolding action_kind_numbered op_numbered or_else
 kind_none zero op e = no_operation (op_none op (operation_numbered op) refl e)
-kind_none (suc zero) op e = absurd (let z : ◌≡◌ {A = ℕ} 0 1 = cc in omega arith)
-kind_none (suc (suc zero)) op e = absurd (let z : ◌≡◌ {A = ℕ} 0 1 = cc in omega arith)
-kind_none (suc (suc (suc zero))) op e = absurd (let z : ◌≡◌ {A = ℕ} 0 1 = cc in omega arith)
-kind_none (suc (suc (suc (suc zero)))) op e = absurd (let z : ◌≡◌ {A = ℕ} 0 1 = cc in omega arith)
-kind_none (suc (suc (suc (suc (suc zero))))) op e = absurd (let z : ◌≡◌ {A = ℕ} 0 1 = cc in omega arith)
+kind_none (suc zero) op e = cc
+kind_none (suc (suc zero)) op e = cc
+kind_none (suc (suc (suc zero))) op e = cc
+kind_none (suc (suc (suc (suc zero)))) op e = cc
+kind_none (suc (suc (suc (suc (suc zero))))) op e = cc
 kind_none (suc (suc (suc (suc (suc (suc k)))))) op e = no_kind {k = suc (suc (suc (suc (suc (suc k)))))} (omega arith)
 
 -- Counts and shapes.

@@ -61,15 +61,15 @@ marked ws a e = go (action_kind_numbered (get_or ws 0 0) (get_or ws 1 0)) refl e
   where
     inner : (kind : ActionKind) → KindIs (get_or ws 0 0) (get_or ws 1 0) kind → (x : Option (Option Value)) (y : Option (List Value)) →
         and_then {B = SemanticAction} x (λ output. and_then {B = SemanticAction} y (λ inputs. some (record { kind = kind; number = get_or ws 2 0; inputs = inputs; output = output }))) ≡ some a → Marked ws a
-    inner kind q none y e = absurd (let z : ◌≡◌ {A = ℕ} 0 1 = cc in omega arith)
-    inner kind q (some output) none e = absurd (let z : ◌≡◌ {A = ℕ} 0 1 = cc in omega arith)
+    inner kind q none y e = cc
+    inner kind q (some output) none e = cc
     inner kind q (some output) (some inputs) e =
         let z : ◌≡◌ {A = SemanticAction} (record { kind = kind; number = get_or ws 2 0; inputs = inputs; output = output }) a = cc in
         rw (← z) (marked_kind ws kind inputs output q)
 
     go : (x : Option ActionKind) → action_kind_numbered (get_or ws 0 0) (get_or ws 1 0) ≡ x →
         and_then {B = SemanticAction} x (λ kind. and_then {B = SemanticAction} (output_from kind (get_or ws 4 0) (get_or ws 5 0)) (λ output. and_then {B = SemanticAction} (inputs_from (min (get_or ws 3 0) 8) (drop 6 ws)) (λ inputs. some (record { kind = kind; number = get_or ws 2 0; inputs = inputs; output = output })))) ≡ some a → Marked ws a
-    go none q e = absurd (let z : ◌≡◌ {A = ℕ} 0 1 = cc in omega arith)
+    go none q e = cc
     go (some kind) q e = inner kind (kind_is _ _ kind q) (output_from kind (get_or ws 4 0) (get_or ws 5 0)) (inputs_from (min (get_or ws 3 0) 8) (drop 6 ws)) e
 
 -- Rows read one after another.
@@ -85,8 +85,8 @@ reads (suc n) ws found e = go (λ rest q. reads n (drop 24 ws) rest q) (action_f
   where
     go : ((rest : List SemanticAction) → actions_from n (drop 24 ws) ≡ some rest → Reads n (drop 24 ws) rest) → (x : Option SemanticAction) → action_from (take 24 ws) ≡ x → (y : Option (List SemanticAction)) → actions_from n (drop 24 ws) ≡ y →
         and_then {B = List SemanticAction} x (λ a. and_then {B = List SemanticAction} y (λ rest. some (a ∷ rest))) ≡ some found → Reads (suc n) ws found
-    go ih none p y q e = absurd (let z : ◌≡◌ {A = ℕ} 0 1 = cc in omega arith)
-    go ih (some a) p none q e = absurd (let z : ◌≡◌ {A = ℕ} 0 1 = cc in omega arith)
+    go ih none p y q e = cc
+    go ih (some a) p none q e = cc
     go ih (some a) p (some rest) q e = let z : (a ∷ rest) ≡ found = cc in rw (← z) (more p (ih rest q))
 
 and_false : (b : Bool) → (b && false) ≡ false
@@ -95,7 +95,7 @@ and_false false = refl
 
 unread : (t s p n : ℕ) (ws : List ℕ) → 24 * n ≤ length ws → actions_from n ws ≡ none → rows_fit t s p n ws ≡ false
 unfolding actions_from and_then rows_fit or_else
-unread t s p zero ws h e = absurd (let z : ◌≡◌ {A = ℕ} 0 1 = cc in omega arith)
+unread t s p zero ws h e = cc
 unread t s p (suc n) ws h e =
     go (λ q. let l : length (drop 24 ws) ≡ length ws - 24 = length-drop 24 ws in unread t s p n (drop 24 ws) (omega arith) q)
     (row_right t s p (take 24 ws) (length-take-le 24 ws (omega arith))) (action_from (take 24 ws)) refl (actions_from n (drop 24 ws)) refl e
@@ -105,7 +105,7 @@ unread t s p (suc n) ws h e =
         and_then {B = List SemanticAction} x (λ a. and_then {B = List SemanticAction} y (λ rest. some (a ∷ rest))) ≡ none → (action_fit t s p (take 24 ws) && rows_fit t s p n (drop 24 ws)) ≡ false
     go ih f none q y r e = rw (← f, q)
     go ih f (some a) q none r e = rw (ih r) (and_false (action_fit t s p (take 24 ws)))
-    go ih f (some a) q (some rest) r e = absurd (let z : ◌≡◌ {A = ℕ} 0 1 = cc in omega arith)
+    go ih f (some a) q (some rest) r e = cc
 
 -- The same words.
 
