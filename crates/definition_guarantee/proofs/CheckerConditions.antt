@@ -7,7 +7,7 @@ use mathlib.Core.Option.{Option, none, some}
 use native.Mathlib.Omega.{arith}
 use lib.Dec.{eqb, leb}
 use lib.ListN.{length, get_elem?, replicate, take, drop}
-use Rattle.prelude.specs.Base.{when◌then◌else◌, or_else, and_then, is_some, any, all, first}
+use Rattle.prelude.specs.Base.{or_else, and_then, is_some, any, all, first}
 use Rattle.definition.specs.Operations.{Operation, operation_number}
 use Rattle.definition.specs.Value.{Kind, Value, ActionKind, SemanticAction, operation_of}
 use Rattle.definition.specs.Sizes.{Operand, equal, exactly, rule_of, steps_of, at, fixed_size}

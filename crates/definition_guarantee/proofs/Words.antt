@@ -254,6 +254,13 @@ module _ (t sub : ℕ) where
     all_inputs : min (length inputs) 8 ≡ length inputs
     all_inputs = omega arith
 
+    inputs_there : inputs_from (length inputs) (filled 18 (input_words inputs)) ≡ some inputs
+    inputs_there = inputs_back t sub inputs 18 (omega arith) fit
+
+    shape_counts : (b : Bool) {known shape : Shape} → some known ≡ some shape → any (same_count (length inputs, b)) shape.counts ≡ true
+        → any (same_count (length inputs, b)) known.counts ≡ true
+    shape_counts b e h = subst (λ (x : Shape). any (same_count (length inputs, b)) x.counts ≡ true) (sym (some_same e)) h
+
     back : (kind : ActionKind) (output : Option Value) → option_fits (value_fits t sub) output ≡ true → Shaped (made kind output)
         → action_from (action_words (made kind output)) ≡ some (made kind output)
     unfolding option_fits action_from action_words filled action_kind_number operation_word operation_of output_words value_words
@@ -264,28 +271,23 @@ module _ (t sub : ℕ) where
           op_numbered_lem op (not_subpiece op s),
           output_back v f.offset f.size op,
           all_inputs,
-          inputs_back t sub inputs 18 (omega arith) fit,
+          inputs_there,
         )
-    back (ActionKind.Op op) none o s = rw (op_numbered_lem op (not_subpiece op s), all_inputs, inputs_back t sub inputs 18 (omega arith) fit)
+    back (ActionKind.Op op) none o s = rw (op_numbered_lem op (not_subpiece op s), all_inputs, inputs_there)
     back ActionKind.AddressOf (some v) o s =
         let f = fits_parts {t = t} {sub = sub} {v = v} o in
-        rw (value_there v f.offset f.size, all_inputs, inputs_back t sub inputs 18 (omega arith) fit)
-    back ActionKind.AddressOf none o s = wrong-output (length inputs) 1 false true refl
-        (subst (λ (x : Shape). any (same_count (length inputs, false)) x.counts ≡ true) (sym (some_same s.is)) s.counts)
+        rw (value_there v f.offset f.size, all_inputs, inputs_there)
+    back ActionKind.AddressOf none o s = wrong-output (length inputs) 1 false true refl (shape_counts false s.is s.counts)
     back ActionKind.LoadRegister (some v) o s =
         let f = fits_parts {t = t} {sub = sub} {v = v} o in
-        rw (value_there v f.offset f.size, all_inputs, inputs_back t sub inputs 18 (omega arith) fit)
-    back ActionKind.LoadRegister none o s = wrong-output (length inputs) 1 false true refl
-        (subst (λ (x : Shape). any (same_count (length inputs, false)) x.counts ≡ true) (sym (some_same s.is)) s.counts)
-    back ActionKind.StoreRegister (some v) o s = wrong-output (length inputs) 2 true false refl
-        (subst (λ (x : Shape). any (same_count (length inputs, true)) x.counts ≡ true) (sym (some_same s.is)) s.counts)
-    back ActionKind.StoreRegister none o s = rw (all_inputs, inputs_back t sub inputs 18 (omega arith) fit)
-    back ActionKind.DelaySlot (some v) o s = wrong-output (length inputs) 0 true false refl
-        (subst (λ (x : Shape). any (same_count (length inputs, true)) x.counts ≡ true) (sym (some_same s.is)) s.counts)
-    back ActionKind.DelaySlot none o s = rw (all_inputs, inputs_back t sub inputs 18 (omega arith) fit)
-    back ActionKind.Build (some v) o s = wrong-output (length inputs) 0 true false refl
-        (subst (λ (x : Shape). any (same_count (length inputs, true)) x.counts ≡ true) (sym (some_same s.is)) s.counts)
-    back ActionKind.Build none o s = rw (all_inputs, inputs_back t sub inputs 18 (omega arith) fit)
+        rw (value_there v f.offset f.size, all_inputs, inputs_there)
+    back ActionKind.LoadRegister none o s = wrong-output (length inputs) 1 false true refl (shape_counts false s.is s.counts)
+    back ActionKind.StoreRegister (some v) o s = wrong-output (length inputs) 2 true false refl (shape_counts true s.is s.counts)
+    back ActionKind.StoreRegister none o s = rw (all_inputs, inputs_there)
+    back ActionKind.DelaySlot (some v) o s = wrong-output (length inputs) 0 true false refl (shape_counts true s.is s.counts)
+    back ActionKind.DelaySlot none o s = rw (all_inputs, inputs_there)
+    back ActionKind.Build (some v) o s = wrong-output (length inputs) 0 true false refl (shape_counts true s.is s.counts)
+    back ActionKind.Build none o s = rw (all_inputs, inputs_there)
 
   pub action_back : (a : SemanticAction) → layout_fits t sub a ≡ true → action_from (action_words a) ≡ some a
   action_back a h =

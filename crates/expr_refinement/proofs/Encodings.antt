@@ -2,34 +2,22 @@
 use Prim.Native.Nat.{ℕ, ◌+◌, ◌≤◌}
 use mathlib.Core.Path.{◌≡◌, refl, ◌∙◌}
 use mathlib.Core.List.{List, [], ◌∷◌, ◌++◌}
-use mathlib.Core.Option.{Option, none, some}
 use native.Mathlib.Omega.{arith}
 use Rattle.prelude.specs.Base.{when◌then◌else◌, sum}
-use Rattle.definition.specs.Value.{Kind, Value, SemanticAction}
+use Rattle.definition.specs.Value.{Value, SemanticAction}
 use Rattle.definition.specs.Ast.{Section}
 use Rattle.definition.specs.Walk.{ExprValue, State}
 use Rattle.definition.specs.ActionList.{places_label, labels_placed}
-use Rattle.list_refinement.specs.Encoding.{Within, Sound, Each, EachOption, SoundAction}
+pub use Rattle.definition_guarantee.proofs.Tests.{each_more}
+use Rattle.list_refinement.specs.Encoding.{Sound, Each, SoundAction}
+pub use Rattle.list_refinement.proofs.Pushes.{each_snoc as each_last}
+use Rattle.list_refinement.proofs.Pushes as more
 use Rattle.expr_refinement.specs.Encoding.{SoundX, Stood, Later}
 
 -- more temporaries
 
-pub each_more : {A : Type 0} (P Q : A → Type 0) → ((a : A) → P a → Q a) → (xs : List A) → Each P xs → Each Q xs
-each_more P Q f [] h = tt
-each_more P Q f (x ∷ xs) h = (f x h.0, each_more P Q f xs h.1)
-
-within_more : (sec : Section) (n k : ℕ) → n ≤ k → (kind : Kind) (i : ℕ) → Within sec n kind i → Within sec k kind i
-within_more sec n k l Kind.InstStart i h = h
-within_more sec n k l Kind.InstNext i h = h
-within_more sec n k l Kind.Register i h = h
-within_more sec n k l Kind.Field i h = h
-within_more sec n k l Kind.Subtable i h = h
-within_more sec n k l Kind.SubtableRef i h = h
-within_more sec n k l Kind.PcodeTmp i h = omega arith
-within_more sec n k l Kind.Constant i h = h
-
 pub sound_more : (sec : Section) (n k : ℕ) → n ≤ k → (v : Value) → Sound sec n v → Sound sec k v
-sound_more sec n k l v h = record { number = within_more sec n k l v.kind v.number h.number; offset = h.offset; size = h.size }
+sound_more sec n k l v h = more.sound_more k l h
 
 pub x_more : (sec : Section) (n k : ℕ) → n ≤ k → (x : ExprValue) → SoundX sec n x → SoundX sec k x
 x_more sec n k l (ExprValue.Local v) h = sound_more sec n k l v h
@@ -68,15 +56,7 @@ mapping_more sec n k l ps h = each_more _ _ (λ (p : ℕ × Value) f. sound_more
 -- more actions
 
 pub actions_more : (sec : Section) (n k : ℕ) → n ≤ k → (xs : List SemanticAction) → Each (SoundAction sec n) xs → Each (SoundAction sec k) xs
-actions_more sec n k l xs h = each_more _ _ (λ (x : SemanticAction) f. record { inputs = each_more (Sound sec n) (Sound sec k) (sound_more sec n k l) x.inputs f.inputs; output = option_more x.output f.output }) xs h
-  where
-    option_more : (y : Option Value) → EachOption (Sound sec n) y → EachOption (Sound sec k) y
-    option_more none f = tt
-    option_more (some v) f = sound_more sec n k l v f
-
-pub each_last : {A : Type 0} (P : A → Type 0) (xs : List A) (x : A) → Each P xs → P x → Each P (xs ++ (x ∷ []))
-each_last P [] x h g = (g, tt)
-each_last P (y ∷ xs) x h g = (h.0, each_last P xs x h.1 g)
+actions_more sec n k l xs h = each_more _ _ (λ (x : SemanticAction) f. more.action_more k l f) xs h
 
 pub placed-last : (xs : List SemanticAction) (x : SemanticAction) → labels_placed (xs ++ (x ∷ [])) ≡ labels_placed xs + (when places_label x then 1 else 0)
 unfolding labels_placed sum

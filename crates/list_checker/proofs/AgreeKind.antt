@@ -6,8 +6,9 @@ use mathlib.Core.Bool.{Bool, true, false, ◌&&◌}
 use mathlib.Core.List.{List, [], ◌∷◌, ◌++◌, map}
 use mathlib.Core.Option.{Option, none, some}
 use native.Mathlib.Omega.{arith}
+use Rattle.std.proofs.lemmas.Grind.{common_steps}
 use lib.Dec.{eqb, leb, ltb}
-use borrow.Author.Tests.{lt-leb, le-ltb, eq-eqb, ne_eqb, ltb-true, ltb-false, eqb-true, eqb-false}
+use borrow.Author.Tests.{lt-leb, eq-eqb, ne_eqb, ltb-true, ltb-false, eqb-true, eqb-false}
 use Rattle.prelude.specs.Base.{when◌then◌else◌, ◌or◌, or_else, and_then, is_some, any, first}
 use Rattle.definition.specs.Operations.{Operation, operation_number}
 use Rattle.definition.specs.Value.{ActionKind, operation_of}
@@ -21,8 +22,7 @@ use Rattle.list_checker.specs.Action.{Row, triple, shift, comparison, boolean, n
 -- no operation has a number from 66 on
 row_above : (op : ℕ) → 66 ≤ op → row_of op ≡ unknown
 unfolding row_of
-row_above op l =
-    rw (le-ltb op 7 (omega arith), le-ltb op 10 (omega arith), le-ltb op 16 (omega arith), le-ltb op 20 (omega arith), le-ltb op 24 (omega arith), le-ltb op 27 (omega arith), le-ltb op 30 (omega arith), le-ltb op 33 (omega arith), le-ltb op 39 (omega arith), ne_eqb op 39 (λ z. omega arith), le-ltb op 42 (omega arith), ne_eqb op 42 (λ z. omega arith), le-ltb op 45 (omega arith), le-ltb op 51 (omega arith), le-ltb op 57 (omega arith), ne_eqb op 57 (λ z. omega arith), ne_eqb op 58 (λ z. omega arith), ne_eqb op 59 (λ z. omega arith), ne_eqb op 60 (λ z. omega arith), ne_eqb op 61 (λ z. omega arith), ne_eqb op 62 (λ z. omega arith), ne_eqb op 63 (λ z. omega arith), ne_eqb op 64 (λ z. omega arith), ne_eqb op 65 (λ z. omega arith))
+row_above op l = grind (arith, common_steps)
 
 abbrev pub pcode_op_pairs : List (ℕ × Bool)
 pcode_op_pairs = map no_output (0 ∷ 1 ∷ 2 ∷ 3 ∷ 4 ∷ 5 ∷ 6 ∷ 7 ∷ 8 ∷ []) ++ map with_output (0 ∷ 1 ∷ 2 ∷ [])
@@ -83,7 +83,7 @@ tabled t s o = record {
 
 first_from : {A B : Type 0} (f : A → Option B) (P : B → Type 0) → ((x : A) (b : B) → f x ≡ some b → P b) → (xs : List A) (b : B) → first f xs ≡ some b → P b
 unfolding first ◌or◌
-first_from f P h [] b e = absurd (let z : ◌≡◌ {A = ℕ} 0 1 = cc in omega arith)
+first_from f P h [] b e = cc
 first_from {A} {B} f P h (x ∷ xs) b e = go (λ p. first_from f P h xs b p) (f x) refl e
   where
     go : (first f xs ≡ some b → P b) → (y : Option B) → f x ≡ y → y or first f xs ≡ some b → P b
@@ -97,7 +97,7 @@ operation_number_lem n o e =
   where
     go : (x b : Operation) (t : Bool) → eqb n (operation_number x) ≡ t → (when t then some x else none) ≡ some b → operation_number b ≡ n
     go x b true q p = let z : x ≡ b = cc in rw (← z) (sym (eqb-true _ _ q))
-    go x b false q p = absurd (let z : ◌≡◌ {A = ℕ} 0 1 = cc in omega arith)
+    go x b false q p = cc
 
 unfoldable below : ℕ → List ℕ
 below zero = []
@@ -138,7 +138,7 @@ pub record KindIs (k op : ℕ) (kind : ActionKind) : Type 0 where
 
 op_is : (op : ℕ) (x : Option Operation) → operation_numbered op ≡ x → (kind : ActionKind) → and_then x (λ o. some (ActionKind.Op o)) ≡ some kind → KindIs 0 op kind
 unfolding and_then action_kind_number operation_of operation_word operation_right
-op_is op none p kind e = absurd (let z : ◌≡◌ {A = ℕ} 0 1 = cc in omega arith)
+op_is op none p kind e = cc
 op_is op (some o) p kind e =
     let z : ActionKind.Op o ≡ kind = cc in
     rw (← z) (record { number = refl; right = eq-eqb op (operation_number o) (sym (operation_number_lem op o p)) })
@@ -151,7 +151,7 @@ kind_is (suc (suc zero)) op kind e = let z : ActionKind.LoadRegister ≡ kind = 
 kind_is (suc (suc (suc zero))) op kind e = let z : ActionKind.StoreRegister ≡ kind = cc in rw (← z) (record { number = refl; right = refl })
 kind_is (suc (suc (suc (suc zero)))) op kind e = let z : ActionKind.DelaySlot ≡ kind = cc in rw (← z) (record { number = refl; right = refl })
 kind_is (suc (suc (suc (suc (suc zero))))) op kind e = let z : ActionKind.Build ≡ kind = cc in rw (← z) (record { number = refl; right = refl })
-kind_is (suc (suc (suc (suc (suc (suc k)))))) op kind e = absurd (let z : ◌≡◌ {A = ℕ} 0 1 = cc in omega arith)
+kind_is (suc (suc (suc (suc (suc (suc k)))))) op kind e = cc
 
 -- a number that is no kind's, or 0 with a number that is no operation's
 pub data NoKind : ℕ → ℕ → Type 0 where
@@ -161,16 +161,16 @@ pub data NoKind : ℕ → ℕ → Type 0 where
 op_none : (op : ℕ) (x : Option Operation) → operation_numbered op ≡ x → and_then x (λ o. some (ActionKind.Op o)) ≡ none → row_of op ≡ unknown
 unfolding and_then
 op_none op none p e = operation_none op p
-op_none op (some o) p e = absurd (let z : ◌≡◌ {A = ℕ} 0 1 = cc in omega arith)
+op_none op (some o) p e = cc
 
 pub kind_none : (k op : ℕ) → action_kind_numbered k op ≡ none → NoKind k op
 unfolding action_kind_numbered op_numbered or_else
 kind_none zero op e = no_operation (op_none op (operation_numbered op) refl e)
-kind_none (suc zero) op e = absurd (let z : ◌≡◌ {A = ℕ} 0 1 = cc in omega arith)
-kind_none (suc (suc zero)) op e = absurd (let z : ◌≡◌ {A = ℕ} 0 1 = cc in omega arith)
-kind_none (suc (suc (suc zero))) op e = absurd (let z : ◌≡◌ {A = ℕ} 0 1 = cc in omega arith)
-kind_none (suc (suc (suc (suc zero)))) op e = absurd (let z : ◌≡◌ {A = ℕ} 0 1 = cc in omega arith)
-kind_none (suc (suc (suc (suc (suc zero))))) op e = absurd (let z : ◌≡◌ {A = ℕ} 0 1 = cc in omega arith)
+kind_none (suc zero) op e = cc
+kind_none (suc (suc zero)) op e = cc
+kind_none (suc (suc (suc zero))) op e = cc
+kind_none (suc (suc (suc (suc zero)))) op e = cc
+kind_none (suc (suc (suc (suc (suc zero))))) op e = cc
 kind_none (suc (suc (suc (suc (suc (suc k)))))) op e = no_kind {k = suc (suc (suc (suc (suc (suc k)))))} (omega arith)
 
 -- Counts and shapes.

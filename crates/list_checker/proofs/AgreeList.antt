@@ -61,15 +61,15 @@ marked ws a e = go (action_kind_numbered (get_or ws 0 0) (get_or ws 1 0)) refl e
   where
     inner : (kind : ActionKind) → KindIs (get_or ws 0 0) (get_or ws 1 0) kind → (x : Option (Option Value)) (y : Option (List Value)) →
         and_then {B = SemanticAction} x (λ output. and_then {B = SemanticAction} y (λ inputs. some (record { kind = kind; number = get_or ws 2 0; inputs = inputs; output = output }))) ≡ some a → Marked ws a
-    inner kind q none y e = absurd (let z : ◌≡◌ {A = ℕ} 0 1 = cc in omega arith)
-    inner kind q (some output) none e = absurd (let z : ◌≡◌ {A = ℕ} 0 1 = cc in omega arith)
+    inner kind q none y e = cc
+    inner kind q (some output) none e = cc
     inner kind q (some output) (some inputs) e =
         let z : ◌≡◌ {A = SemanticAction} (record { kind = kind; number = get_or ws 2 0; inputs = inputs; output = output }) a = cc in
         rw (← z) (marked_kind ws kind inputs output q)
 
     go : (x : Option ActionKind) → action_kind_numbered (get_or ws 0 0) (get_or ws 1 0) ≡ x →
         and_then {B = SemanticAction} x (λ kind. and_then {B = SemanticAction} (output_from kind (get_or ws 4 0) (get_or ws 5 0)) (λ output. and_then {B = SemanticAction} (inputs_from (min (get_or ws 3 0) 8) (drop 6 ws)) (λ inputs. some (record { kind = kind; number = get_or ws 2 0; inputs = inputs; output = output })))) ≡ some a → Marked ws a
-    go none q e = absurd (let z : ◌≡◌ {A = ℕ} 0 1 = cc in omega arith)
+    go none q e = cc
     go (some kind) q e = inner kind (kind_is _ _ kind q) (output_from kind (get_or ws 4 0) (get_or ws 5 0)) (inputs_from (min (get_or ws 3 0) 8) (drop 6 ws)) e
 
 -- Rows read one after another.
@@ -85,8 +85,8 @@ reads (suc n) ws found e = go (λ rest q. reads n (drop 24 ws) rest q) (action_f
   where
     go : ((rest : List SemanticAction) → actions_from n (drop 24 ws) ≡ some rest → Reads n (drop 24 ws) rest) → (x : Option SemanticAction) → action_from (take 24 ws) ≡ x → (y : Option (List SemanticAction)) → actions_from n (drop 24 ws) ≡ y →
         and_then {B = List SemanticAction} x (λ a. and_then {B = List SemanticAction} y (λ rest. some (a ∷ rest))) ≡ some found → Reads (suc n) ws found
-    go ih none p y q e = absurd (let z : ◌≡◌ {A = ℕ} 0 1 = cc in omega arith)
-    go ih (some a) p none q e = absurd (let z : ◌≡◌ {A = ℕ} 0 1 = cc in omega arith)
+    go ih none p y q e = cc
+    go ih (some a) p none q e = cc
     go ih (some a) p (some rest) q e = let z : (a ∷ rest) ≡ found = cc in rw (← z) (more p (ih rest q))
 
 and_false : (b : Bool) → (b && false) ≡ false
@@ -95,7 +95,7 @@ and_false false = refl
 
 unread : (t s p n : ℕ) (ws : List ℕ) → 24 * n ≤ length ws → actions_from n ws ≡ none → rows_fit t s p n ws ≡ false
 unfolding actions_from and_then rows_fit or_else
-unread t s p zero ws h e = absurd (let z : ◌≡◌ {A = ℕ} 0 1 = cc in omega arith)
+unread t s p zero ws h e = cc
 unread t s p (suc n) ws h e =
     go (λ q. let l : length (drop 24 ws) ≡ length ws - 24 = length-drop 24 ws in unread t s p n (drop 24 ws) (omega arith) q)
     (row_right t s p (take 24 ws) (length-take-le 24 ws (omega arith))) (action_from (take 24 ws)) refl (actions_from n (drop 24 ws)) refl e
@@ -105,7 +105,7 @@ unread t s p (suc n) ws h e =
         and_then {B = List SemanticAction} x (λ a. and_then {B = List SemanticAction} y (λ rest. some (a ∷ rest))) ≡ none → (action_fit t s p (take 24 ws) && rows_fit t s p n (drop 24 ws)) ≡ false
     go ih f none q y r e = rw (← f, q)
     go ih f (some a) q none r e = rw (ih r) (and_false (action_fit t s p (take 24 ws)))
-    go ih f (some a) q (some rest) r e = absurd (let z : ◌≡◌ {A = ℕ} 0 1 = cc in omega arith)
+    go ih f (some a) q (some rest) r e = cc
 
 -- The same words.
 
@@ -174,9 +174,9 @@ rows_agree t s p (suc n) ws (a ∷ rest) (more e r) h =
 
 -- Labels.
 
-unfoldable fresh : List SemanticAction → List ℕ → Bool
+unfoldable fresh : List SemanticAction → List Bool → Bool
 fresh [] seen = true
-fresh (a ∷ rest) seen = (when places_label a then eqb (get_or seen a.number 0) 0 else true) && fresh rest seen
+fresh (a ∷ rest) seen = (when places_label a then not (get_or seen a.number false) else true) && fresh rest seen
 
 unfoldable small : List SemanticAction → Bool
 small [] = true
@@ -187,36 +187,36 @@ swap true b c = refl
 swap false true c = refl
 swap false false c = refl
 
-fresh_set : (rest : List SemanticAction) (seen : List ℕ) (m : ℕ) → m < length seen → fresh rest (set seen m 1) ≡ (not (any (places m) rest) && fresh rest seen)
+fresh_set : (rest : List SemanticAction) (seen : List Bool) (m : ℕ) → m < length seen → fresh rest (set seen m true) ≡ (not (any (places m) rest) && fresh rest seen)
 unfolding fresh any places
 fresh_set [] seen m h = refl
 fresh_set (a ∷ rest) seen m h = rw (fresh_set rest seen m h) (go (places_label a) (eqb m a.number) refl)
   where
     go : (l b : Bool) → eqb m a.number ≡ b →
-        ((when l then eqb (get_or (set seen m 1) a.number 0) 0 else true) && (not (any (places m) rest) && fresh rest seen))
-        ≡ (not (when l && b then true else any (places m) rest) && ((when l then eqb (get_or seen a.number 0) 0 else true) && fresh rest seen))
+        ((when l then not (get_or (set seen m true) a.number false) else true) && (not (any (places m) rest) && fresh rest seen))
+        ≡ (not (when l && b then true else any (places m) rest) && ((when l then not (get_or seen a.number false) else true) && fresh rest seen))
     go false b e = refl
-    go true true e = rw (← eqb-true m a.number e, get_or-set_same seen m 1 0 h)
+    go true true e = rw (← eqb-true m a.number e, get_or-set_same seen m true false h)
     go true false e =
         let d : m ≡ a.number → ⊥ = eqb-false m a.number e in
-        rw (get_or-set_other seen m a.number 1 0 (λ z. d (sym z))) (swap (eqb (get_or seen a.number 0) 0) (not (any (places m) rest)) (fresh rest seen))
+        rw (get_or-set_other seen m a.number true false (λ z. d (sym z))) (swap (not (get_or seen a.number false)) (not (any (places m) rest)) (fresh rest seen))
 
-pub zeros_at : (n m : ℕ) → ◌≡◌ {A = ℕ} (get_or (replicate n 0) m 0) 0
-zeros_at zero zero = refl
-zeros_at zero (suc m) = refl
-zeros_at (suc n) zero = refl
-zeros_at (suc n) (suc m) = zeros_at n m
+pub unmarked_at : (n m : ℕ) → ◌≡◌ {A = Bool} (get_or (replicate n false) m false) false
+unmarked_at zero zero = refl
+unmarked_at zero (suc m) = refl
+unmarked_at (suc n) zero = refl
+unmarked_at (suc n) (suc m) = unmarked_at n m
 
-fresh_zeros : (n : ℕ) (found : List SemanticAction) → fresh found (replicate n 0) ≡ true
+fresh_unmarked : (n : ℕ) (found : List SemanticAction) → fresh found (replicate n false) ≡ true
 unfolding fresh
-fresh_zeros n [] = refl
-fresh_zeros n (a ∷ rest) = rw (zeros_at n a.number, fresh_zeros n rest) (go (places_label a))
+fresh_unmarked n [] = refl
+fresh_unmarked n (a ∷ rest) = rw (unmarked_at n a.number, fresh_unmarked n rest) (go (places_label a))
   where
     go : (b : Bool) → ((when b then true else true) && true) ≡ true
     go true = refl
     go false = refl
 
-labels-agree : (n : ℕ) (ws : List ℕ) (found : List SemanticAction) → Reads n ws found → small found ≡ true → (seen : List ℕ) → length seen ≡ 256 → labels_new n ws seen ≡ (labels_once found && fresh found seen)
+labels-agree : (n : ℕ) (ws : List ℕ) (found : List SemanticAction) → Reads n ws found → small found ≡ true → (seen : List Bool) → length seen ≡ 256 → labels_new n ws seen ≡ (labels_once found && fresh found seen)
 unfolding labels_new labels_once fresh small note_label when_new
 labels-agree zero ws (a ∷ rest) x6 q seen h = elim x6 [ ]
 labels-agree (suc n) ws [] x5 q seen h = elim x5 [ ]
@@ -224,7 +224,7 @@ labels-agree zero ws [] end q seen h = refl
 labels-agree (suc n) ws (a ∷ rest) (more e r) q seen h =
     let m = marked (take 24 ws) a e in
     rw (← m.number, ← m.label)
-    (go (λ s i. labels-agree n (drop 24 ws) rest r (and_right (when places_label a then ltb a.number 256 else true) (small rest) q) s i) (places_label a) (eqb (get_or seen a.number 0) 0) (and_left (when places_label a then ltb a.number 256 else true) (small rest) q))
+    (go (λ s i. labels-agree n (drop 24 ws) rest r (and_right (when places_label a then ltb a.number 256 else true) (small rest) q) s i) (places_label a) (not (get_or seen a.number false)) (and_left (when places_label a then ltb a.number 256 else true) (small rest) q))
   where
     turn : (l n f : Bool) → (l && (n && f)) ≡ (n && l && f)
     turn true true f = refl
@@ -232,14 +232,14 @@ labels-agree (suc n) ws (a ∷ rest) (more e r) q seen h =
     turn false true f = refl
     turn false false f = refl
 
-    go : ((s : List ℕ) → length s ≡ 256 → labels_new n (drop 24 ws) s ≡ (labels_once rest && fresh rest s)) → (l b : Bool) → (when l then ltb a.number 256 else true) ≡ true →
-        when_new (when l then noted b (set seen a.number 1) else noted true seen) (λ next. labels_new n (drop 24 ws) next)
+    go : ((s : List Bool) → length s ≡ 256 → labels_new n (drop 24 ws) s ≡ (labels_once rest && fresh rest s)) → (l b : Bool) → (when l then ltb a.number 256 else true) ≡ true →
+        when_new (when l then noted b (set seen a.number true) else noted true seen) (λ next. labels_new n (drop 24 ws) next)
         ≡ (not (l && any (places a.number) rest) && labels_once rest && ((when l then b else true) && fresh rest seen))
     go ih false b k = ih seen h
     go ih true false k = sym (and_false (not (any (places a.number) rest) && labels_once rest))
     go ih true true k =
         let i : a.number < length seen = omega (arith, ltb-true a.number 256 k) in
-        ih (set seen a.number 1) (length-set seen a.number 1 ∙ h)
+        ih (set seen a.number true) (length-set seen a.number true ∙ h)
         ∙ rw (fresh_set rest seen a.number i) (turn (labels_once rest) (not (any (places a.number) rest)) (fresh rest seen))
 
 -- a label that fits is below 256
@@ -300,9 +300,9 @@ listed : (t s p n : ℕ) (ws : List ℕ) (found : List SemanticAction) → Reads
 unfolding list_holds list_fit
 listed t s p n ws found r h =
     arrange (same_numbers ws (filled (length ws) (list_words found))) (all (layout_fits t s) found) (all (sizes_hold p) found) (labels_once found) (all_built found s)
-    (rows_fit t s p n ws) (zeros (drop (24 * n) ws)) (labels_new n ws (replicate 256 0)) (all_built_by n ws s)
+    (rows_fit t s p n ws) (zeros (drop (24 * n) ws)) (labels_new n ws (replicate 256 false)) (all_built_by n ws s)
     (rows_agree t s p n ws found r h)
-    (λ e. sym (labels-agree n ws found r (labels-small t s p n ws found r e) (replicate 256 0) (length-replicate {A = ℕ} 256 0) ∙ rw (fresh_zeros 256 found) (and_true (labels_once found))))
+    (λ e. sym (labels-agree n ws found r (labels-small t s p n ws found r e) (replicate 256 false) (length-replicate {A = Bool} 256 false) ∙ rw (fresh_unmarked 256 found) (and_true (labels_once found))))
     (all_built_lem s n ws found r)
 
 -- THE THEOREM: where the actions fit into the list, the definition's checker is the checker of the words.

@@ -6,6 +6,7 @@ use mathlib.Core.Bool.{Bool, true, false, ◌&&◌, ◌||◌, not}
 use mathlib.Core.List.{List, ◌∷◌, ◌++◌}
 use mathlib.Core.Option.{Option, none, some}
 use native.Mathlib.Omega.{arith}
+use Rattle.std.proofs.lemmas.Grind.{common_steps}
 use lib.ListN.{length, get_or}
 use lib.Dec.{eqb, leb, ltb}
 use borrow.Author.Tests.{eq-eqb, ne_eqb, leb-true, leb-false, eqb-true, eqb-false}
@@ -24,8 +25,7 @@ use Rattle.list_checker.proofs.AgreeSizes.{inputs_sized, output_sized, output_of
 -- no action has a kind from 6 on
 head_none : (s p : ℕ) (b : Bool) (w : List ℕ) → 6 ≤ get_or w 0 0 → false ≡ head_fit s p b w
 unfolding head_fit kind_fit
-head_none s p b w h =
-    rw (ne_eqb (get_or w 0 0) 0 (λ z. omega arith), ne_eqb (get_or w 0 0) 1 (λ z. omega arith), ne_eqb (get_or w 0 0) 2 (λ z. omega arith), ne_eqb (get_or w 0 0) 3 (λ z. omega arith), ne_eqb (get_or w 0 0) 4 (λ z. omega arith), ne_eqb (get_or w 0 0) 5 (λ z. omega arith))
+head_none s p b w h = grind (arith, common_steps)
 
 -- The output: whether it is read, and whether its words fit, as the definition has it.
 
@@ -215,8 +215,8 @@ chain : (a b c d x : Bool) → a ≡ true → c ≡ true → (when a then (when 
 chain true true true true x e f = refl
 chain true true true false x e f = refl
 chain true false c d x e f = refl
-chain true true false d x e f = absurd (let z : ◌≡◌ {A = ℕ} 0 1 = cc in omega arith)
-chain false b c d x e f = absurd (let z : ◌≡◌ {A = ℕ} 0 1 = cc in omega arith)
+chain true true false d x e f = cc
+chain false b c d x e f = cc
 
 -- The action that a row is read as, of a kind that its first two words say.
 

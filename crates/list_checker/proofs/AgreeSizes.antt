@@ -46,7 +46,7 @@ and_left false b e = e
 
 pub and_right : (a b : Bool) → (a && b) ≡ true → b ≡ true
 and_right true b e = e
-and_right false b e = absurd (let z : ◌≡◌ {A = ℕ} 0 1 = cc in omega arith)
+and_right false b e = cc
 
 pub assoc : (a b c : Bool) → (a && b && c) ≡ (a && (b && c))
 assoc true b c = refl

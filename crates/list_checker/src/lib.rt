@@ -1,9 +1,11 @@
 // The checker of an action list, whoever made it: each action by itself, and of the whole list that each label is placed at
 // most once and that every subtable is built. An action is 24 words: its kind, operation, number and input count, the output
 // and the inputs of two words each, and zeros. A value's words are its number, and its kind, offset and size in one.
+// Kinds and operations stay numbers here: a list may hold any, and a rule holds for runs of them, which an enum would have to
+// list one by one, twice.
 #![tactic(auto)]
 
-ghost use Rattle.std.specs.Prelude.{◌≡◌, ◌≤◌, replicate};
+ghost use Rattle.std.specs.Prelude.{◌≡◌, ◌≤◌, false, replicate};
 ghost use Rattle.std.specs.List.{list_all};
 ghost use Rattle.definition.specs.Checker.{check};
 ghost use Rattle.list_checker.specs.Action.{zeros, fits, inputs_fit, has_output, operation_fit, head_fit, action_fit};
@@ -126,24 +128,20 @@ impl Counts {
         let out = action[OUTPUT_WORD] / SIZE_PLACE;
         let unary = (n == 1) & output & (number == 0);
         let binary = (n == 2) & output & (number == 0);
+        let alike = binary & (in0 == in1);
         let pair = (n == 2) & !output;
         match action[action::OPERATION] {
             // Arithmetic and bits.
             operation::INT_MUL..=operation::INT_SUB
             | operation::FLOAT_DIV..=operation::FLOAT_SUB
-            | operation::INT_AND..=operation::INT_OR => binary & (in0 == in1) & (in0 == out),
+            | operation::INT_AND..=operation::INT_OR => alike & (in0 == out),
             // Shifts: a count has any size.
             operation::INT_LEFT..=operation::INT_SIGNED_RIGHT => binary & (in0 == out),
             // Comparisons and carries.
             operation::INT_SIGNED_LESS..=operation::INT_NOT_EQUAL
             | operation::FLOAT_LESS..=operation::FLOAT_NOT_EQUAL
-            | operation::INT_CARRY..=operation::INT_SIGNED_BORROW => binary
-                & (in0 == in1)
-                & (out == 1),
-            operation::BOOL_XOR..=operation::BOOL_OR => binary
-                & (in0 == 1)
-                & (in1 == 1)
-                & (out == 1),
+            | operation::INT_CARRY..=operation::INT_SIGNED_BORROW => alike & (out == 1),
+            operation::BOOL_XOR..=operation::BOOL_OR => alike & (in0 == 1) & (out == 1),
             operation::BOOL_NOT => unary & (in0 == 1) & (out == 1),
             operation::INT_NOT..=operation::INT_NEGATE
             | operation::FLOAT_NEGATE..=operation::FLOAT_ROUND
@@ -202,10 +200,10 @@ impl Counts {
     #[tactic(auto, using(crate::proofs::SweepLaws::sweep_laws))]
     fn sweep(&self, actions: &[Action], base: u64) -> bool
         requires { base ≤ self.now.subtables }
-        ensures { result ≡ sweep self.now.temporaries self.now.subtables self.now.pointer base actions.now (replicate 256 0) (replicate 256 0) }
+        ensures { result ≡ sweep self.now.temporaries self.now.subtables self.now.pointer base actions.now (replicate 256 false) (replicate 256 false) }
     {
-        let mut seen = [0u64; 256];
-        let mut built = [0u64; 256];
+        let mut seen = [false; 256];
+        let mut built = [false; 256];
         for action in actions {
             if !self.action_fits(action) {
                 return false;
@@ -221,7 +219,7 @@ impl Counts {
 
 // Marks the label that a PcodeLabel places; false if it was marked before.
 #[tactic(auto, unfolding(crate::specs::Sweep::note_label, crate::specs::Sweep::places_label))]
-fn note_label(action: &Action, seen: &mut [u64]) -> bool
+fn note_label(action: &Action, seen: &mut [bool]) -> bool
     ensures { noted result seen.new ≡ note_label action.now seen.old }
 {
     if (action[action::KIND] != action_kind::OP)
@@ -229,26 +227,33 @@ fn note_label(action: &Action, seen: &mut [u64]) -> bool
     {
         return true;
     }
-    let new = access::get(seen, action[action::NUMBER] as usize) == 0;
-    access::put(seen, action[action::NUMBER] as usize, 1);
+    let label = action[action::NUMBER] as usize;
+    if seen.len() <= label {
+        return true;
+    }
+    let new = !seen[label];
+    seen[label] = true;
     new
 }
 
 // Marks the subtable that a Build builds, counted from a number on.
 #[tactic(auto, unfolding(crate::specs::Sweep::note_build))]
-fn note_build(action: &Action, base: u64, built: &mut [u64])
+fn note_build(action: &Action, base: u64, built: &mut [bool])
     ensures { built.new ≡ note_build base action.now built.old }
 {
     let number = action[action::NUMBER];
     if (action[action::KIND] == action_kind::BUILD) & (base <= number) {
-        access::put(built, (number - base) as usize, 1);
+        let place = (number - base) as usize;
+        if place < built.len() {
+            built[place] = true;
+        }
     }
 }
 
-fn all_marked(built: &[u64], count: u64) -> bool
+fn all_marked(built: &[bool], count: u64) -> bool
     ensures { result ≡ all_marked count built.now }
 {
-    built.iter().take(count as usize).all(|mark| *mark != 0)
+    built.iter().take(count as usize).all(|mark| *mark)
 }
 
 // The actions fit into the list, with zeros behind them. A sweep for every 256 subtables, one at least.

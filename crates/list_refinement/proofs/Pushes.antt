@@ -19,6 +19,7 @@ use Rattle.definition.specs.Sizes.{out, at, Sizing, with_temporaries, pointer_si
 use Rattle.definition.specs.Walk as d
 use Rattle.definition.specs.Walk.{State, Env, Outcome, done, stopped, on, require, with_sizing, with_action}
 use Rattle.definition.specs.ActionList.{or_none, list_words, temporary_word, action_kind_number, operation_word}
+use Rattle.definition_guarantee.proofs.Tests.{each_more}
 use Rattle.list_values.specs.declared.value.Value.{Value as WordValue}
 use Rattle.list_pushes.specs.declared.push.Env.{Env as WordEnv}
 use Rattle.list_pushes.specs.Outcomes.{Read}
@@ -401,10 +402,6 @@ sound_more {sec} {n} m {v} h f = record {
   size =
       f.size;
 }
-
-pub each_more : {A : Type 0} (P Q : A → Type 0) → ((x : A) → P x → Q x) → (xs : List A) → Each P xs → Each Q xs
-each_more P Q f [] h = tt
-each_more P Q f (x ∷ xs) h = (f x h.0, each_more P Q f xs h.1)
 
 pub action_more : {sec : Section} {n : ℕ} (m : ℕ) {x : SemanticAction} → n ≤ m → SoundAction sec n x → SoundAction sec m x
 action_more {sec} {n} m {x} h f = record {

@@ -108,6 +108,10 @@ module _ (s t : List ℕ) (sec : Section) (holds : SizesHold s t sec) (tail : Li
         go v e = rw (e, value_of s t sec holds tail pre post place begins p x z (suc (suc (suc room))) r v e) (falls_is sec v)
 
     module _ (p q : Operand) (h : has p x ≡ true) (j : has q x ≡ true) where
+      -- the size that both get where neither has one
+      abbrev fallback : Bool → Option ℕ
+      fallback late = definition.when◌then◌else◌ late (first (λ y. and_then (at y x) (fallback_size sec)) (p ∷ q ∷ [])) none
+
       set_both : ℕ → Sized
       set_both n = set_two s t (words_of pre post x) (temporaries_of tail z) place (operand_at p) (operand_at q) n (enc_z z)
 
@@ -126,7 +130,7 @@ module _ (s t : List ℕ) (sec : Section) (holds : SizesHold s t sec) (tail : Li
       pair_none : (late : Bool) → pair_fallback s t late (words_of pre post x) (temporaries_of tail z) place (operand_at p) (operand_at q)
           (pointer_size sec) (enc_z z)
           ≡ held pre post tail (d.share_size sec none
-          (definition.when◌then◌else◌ late (first (λ y. and_then (at y x) (fallback_size sec)) (p ∷ q ∷ [])) none) (p ∷ q ∷ []) x z)
+          (fallback late) (p ∷ q ∷ []) x z)
       unfolding pair_fallback first set_both
       pair_none late = rw (falls_at p h, falls_at q j) (neither_is late (falls_back (value_at (words_of pre post x) place (operand_at p)))
           (falls_back (value_at (words_of pre post x) place (operand_at q))))
@@ -135,7 +139,7 @@ module _ (s t : List ℕ) (sec : Section) (holds : SizesHold s t sec) (tail : Li
           → share_pair s t late (words_of pre post x) (temporaries_of tail z) place (operand_at p) (operand_at q) (or_none a) (or_none b)
           (pointer_size sec) (enc_z z)
           ≡ held pre post tail (d.share_size sec (a or (b or none))
-          (definition.when◌then◌else◌ late (first (λ y. and_then (at y x) (fallback_size sec)) (p ∷ q ∷ [])) none) (p ∷ q ∷ []) x z)
+          (fallback late) (p ∷ q ∷ []) x z)
       unfolding share_pair or_none or_else ◌or◌
       pair_shares late none none e f k l = pair_none late
       pair_shares late none (some n) e f k l = rw (small_test n l) (part e f)
@@ -143,21 +147,21 @@ module _ (s t : List ℕ) (sec : Section) (holds : SizesHold s t sec) (tail : Li
           part : known_at sec x z p ≡ none → known_at sec x z q ≡ some n
               → set_operand s t (words_of pre post x) (temporaries_of tail z) place (operand_at p) n (enc_z z)
               ≡ held pre post tail (d.share_size sec (some n)
-              (definition.when◌then◌else◌ late (first (λ y. and_then (at y x) (fallback_size sec)) (p ∷ q ∷ [])) none) (p ∷ q ∷ []) x z)
+              (fallback late) (p ∷ q ∷ []) x z)
           part e f = unfold base_opens d.share_size contains but_first in rw (e, f) (one_is n l p q x z (suc (suc room)) r h)
       pair_shares late (some m) none e f k l = rw (small_test m k) (part e f)
         where
           part : known_at sec x z p ≡ some m → known_at sec x z q ≡ none
               → set_operand s t (words_of pre post x) (temporaries_of tail z) place (operand_at q) m (enc_z z)
               ≡ held pre post tail (d.share_size sec (some m)
-              (definition.when◌then◌else◌ late (first (λ y. and_then (at y x) (fallback_size sec)) (p ∷ q ∷ [])) none) (p ∷ q ∷ []) x z)
+              (fallback late) (p ∷ q ∷ []) x z)
           part e f = unfold base_opens d.share_size contains but_first in rw (e, f, same_test m) (one_is m k q p x z (suc (suc room)) r j)
       pair_shares late (some m) (some n) e f k l = rw (small_test m k) (part (eqb m n) refl)
         where
           part : (c : Bool) → eqb m n ≡ c → (when c then held pre post tail (x, z) else set_operand s t (words_of pre post x)
               (temporaries_of tail z) place (operand_at q) m (enc_z z))
               ≡ held pre post tail (d.share_size sec (some m)
-              (definition.when◌then◌else◌ late (first (λ y. and_then (at y x) (fallback_size sec)) (p ∷ q ∷ [])) none) (p ∷ q ∷ []) x z)
+              (fallback late) (p ∷ q ∷ []) x z)
           part true g = unfold base_opens d.share_size contains but_first in rw (e, f, same_test m, g)
           part false g = unfold base_opens d.share_size contains but_first in rw (e, f, same_test m, g)
               (one_is m k q p x z (suc (suc room)) r j)

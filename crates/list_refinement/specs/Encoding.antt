@@ -1,5 +1,6 @@
 -- How the code's lists, values and states hold the definition's: each is a function of what it holds. And what has to be
 -- true of values, actions and temporaries for that: numbers within their lists, offsets and sizes within their words.
+pub use Rattle.definition_guarantee.specs.Tests.{Each}
 use Rattle.std.specs.Prelude.{ℕ, ◌+◌, ◌*◌, ◌^◌, ◌≤◌, ◌<◌, ◌/◌, min, ◌≡◌, List, [], ◌∷◌, ◌++◌, map, length, drop}
 use Rattle.std.proofs.Math.Option.{Option, none, some}
 use Rattle.std.proofs.Math.ListN.{get_elem?}
@@ -64,10 +65,6 @@ pub record Sound (sec : Section) (temporaries : ℕ) (v : Value) : Type 0 where
 pub record SoundTmp (t : Temporary) : Type 0 where
   pub name : or_none t.name ≤ 65535
   pub size : or_else 0 t.size < 65535
-
-abbrev pub Each : {A : Type 0} → (A → Type 0) → List A → Type 0
-Each P [] = Unit {0}
-Each P (x ∷ xs) = P x × Each P xs
 
 abbrev pub EachOption : {A : Type 0} → (A → Type 0) → Option A → Type 0
 EachOption P none = Unit {0}
