@@ -1,4 +1,3 @@
-pub mod SlotLaws
 pub mod ScopeLaws
 pub mod SymbolLaws
 pub mod SmallLaws

@@ -15,24 +15,6 @@ use Rattle.access.proofs.LoopLaws.{run_again, run_end, down_again, down_end}
 use Rattle.list_pushes.specs.Rules.{update_operand_sizes}
 use Rattle.list_pushes.specs.Passes.{action_place, update_action, turn, turns, pass}
 
-pub place_first : (base i : ℕ) → i ≡ 0 → base ≡ action_place base i
-unfolding action_place
-place_first base i h = rw (eq-eqb i 0 h)
-
-pub place-later : (base i r : ℕ) → (i ≡ 0 → ⊥) → r ≡ place base i → r ≡ action_place base i
-unfolding action_place
-place-later base i r h e = rw (ne_eqb i 0 h) e
-
-pub turn-forward : (b : Bool) (n i : ℕ) → b ≡ true → i ≡ turn b n i
-unfolding turn
-turn-forward b n i h = rw h
-
-pub turn_backward : (b : Bool) (n i : ℕ) → b ≡ false → n - 1 - i ≡ turn b n i
-unfolding turn
-turn_backward b n i h = rw h
-
-pub ruleset place_laws = (place_first, place-later, turn-forward, turn_backward)
-
 pub update_action_law : (s t a m a1 m1 : List ℕ) (fallback : Bool) (base ptr i p k x y : ℕ) (z : Sizing) → p ≡ action_place base i → Counted x a1 m1 (update_operand_sizes s t fallback a m p ptr) → y ≡ sum_of_errors k x → sized (recorded y z) a1 m1 ≡ update_action s t fallback base ptr i (sized (recorded k z) a m)
 unfolding update_action then_s
 update_action_law s t a m a1 m1 fallback base ptr i p k x y z h e g = rw (g, record_sum z k x, ← h) (e.counted (recorded k z))

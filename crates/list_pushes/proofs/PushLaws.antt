@@ -70,9 +70,6 @@ room_for len end h = room_cases len end (leb 24 (len - end)) refl h
 pub room_not : (len end : ℕ) → len < end → false ≡ leb (end + 24) len
 room_not len end h = sym (lt-leb (end + 24) len (omega arith))
 
-pub room_true : (len end : ℕ) (b : Bool) → b ≡ leb (end + 24) len → b ≡ true → end + 24 ≤ len
-room_true len end b p h = leb-true (end + 24) len (sym p ∙ h)
-
 module _ (a : List ℕ) (kind op number count : ℕ) (out x y : Value) (st : State) (b : Bool) (p : b ≡ leb (st.end + 24) (length a)) where
   pub push-done : (a1 : List ℕ) → b ≡ true → a1 ≡ write a st.end kind op number count out x y → listed (Pushed.Done (with_end (st.end + 24) st)) a1 ≡ push a kind op number count out x y st
   unfolding push
