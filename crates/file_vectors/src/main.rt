@@ -4,6 +4,7 @@
 // stream as a u32, a length byte, and bytes.
 #![tactic(auto)]
 
+use codes::refusal::Refusal;
 use codes::table;
 use std::alloc::{AllocError, Global};
 use std::io::{self, BufWriter, Read, Write};
@@ -86,16 +87,15 @@ fn seal(file: &mut [u8]) {
     }
 }
 
-// The refusal of a file, or 0.
-fn judge(alloc: Global, file: &[u8]) -> Result<u64, AllocError> {
-    let refusal = file_blocks::blocks::check_blocks(file);
-    if refusal != 0 {
-        return Ok(refusal);
+// Why a file is refused, if it is.
+fn refusal_of(alloc: Global, file: &[u8]) -> Result<Option<Refusal>, AllocError> {
+    if let Err(refusal) = file_blocks::blocks::check_blocks(file) {
+        return Ok(Some(refusal));
     }
     let mut stream = vec![in alloc; 0u8; file.len() / 512 * 510]?;
     file_blocks::blocks::join(file, &mut stream);
     let mut table = [0u16; table::LENGTH];
-    Ok(file_section::read_stream(&stream, &mut table))
+    Ok(file_section::read_stream(&stream, &mut table).err())
 }
 
 fn describe<W: Write>(out: &mut W, alloc: Global, input: &[u8]) -> io::Result<()> {
@@ -103,7 +103,8 @@ fn describe<W: Write>(out: &mut W, alloc: Global, input: &[u8]) -> io::Result<()
     for _ in 0..input.u16() {
         out.write_all(input.name())?;
         let file = input.file(alloc)?;
-        writeln!(out, " {}", judge(alloc, &file)?)?;
+        let refusal = refusal_of(alloc, &file)?;
+        writeln!(out, " {}", refusal.map_or(0, u64::from))?;
     }
     Ok(())
 }

@@ -1,28 +1,22 @@
 -- One law for each way out of the functions.
-use Prim.Native.Nat.{ℕ, ◌*◌, ◌/◌, ◌≤◌, ◌<◌}
+use Prim.Native.Nat.{ℕ, ◌*◌, ◌/◌, ◌≤◌}
 use mathlib.Core.Path.{◌≡◌, sym, ◌∙◌}
 use mathlib.Core.List.{List, ◌++◌}
 use lib.ListN.{length, take}
-use mathlib.Core.Bool.{Bool, true, false}
+use mathlib.Core.Bool.{false}
 use lib.Dec.{eqb}
 use borrow.Author.Tests.{ne_eqb}
-use Rattle.access.specs.Le.{le16}
 use Rattle.codes.specs.declared.refusal.Refusal.{Refusal}
 use Rattle.codes.specs.Refusals.{number, number_or_zero}
-use Rattle.std.specs.Prelude.{Result, Ok, Err, is_err}
+use Rattle.std.specs.Prelude.{Result, Err}
 use Rattle.codes.proofs.Numbers.{number-nonzero}
 use Rattle.definition.specs.SectionFile.{stream_of, read}
 use Rattle.definition.specs.Passing.{subtable_count, pointer_size_in}
 use Rattle.file_blocks.specs.Blocks.{refusal_of, joined}
 use Rattle.file_refinement.proofs.FileTheorem.{one_block, checked_room, front, front_room}
-use Rattle.resolve_file.specs.Files.{pointer_size}
 use Rattle.resolve_counts.specs.declared.Counts.{Counts}
-use Rattle.resolve_counts.specs.Counts.{counts, table_counts, stream_counts}
+use Rattle.resolve_counts.specs.Counts.{counts, stream_counts}
 use Rattle.resolve_counts.proofs.Theorem.{file-counts, refused-counts}
-
-pub table_law : (s t : List ℕ) (subtables pointer : ℕ) → (subtables ≡ le16 s 20) × (subtables < 65536) → pointer ≡ pointer_size s t → counts subtables pointer ≡ table_counts s t
-unfolding table_counts
-table_law s t subtables pointer p q = rw (p.0, q)
 
 pub not_zero : (r : Refusal) → eqb (number r) 0 ≡ false
 not_zero r = ne_eqb (number r) 0 (number-nonzero r)
@@ -31,9 +25,8 @@ pub blocks_law : (file rest buf : List ℕ) (r : Counts) → buf ≡ joined (len
 blocks_law file rest buf r e f = rw (e, front file rest) at f
 
 module _ (file : List ℕ) where
-  pub refused_when : {A : Type 0} (r : Result A Refusal) (b : Bool) → number_or_zero r ≡ refusal_of (stream_of file) → b ≡ is_err r → b ≡ true → counts 0 0 ≡ counts (subtable_count (read file)) (pointer_size_in (read file))
-  refused_when (Ok x) b p q h = cc
-  refused_when (Err e) b p q h = refused-counts file (number e) p (number-nonzero e)
+  pub refused : (r : Result (Unit {0}) Refusal) (e : Refusal) → r ≡ Err e → number_or_zero r ≡ refusal_of (stream_of file) → counts 0 0 ≡ counts (subtable_count (read file)) (pointer_size_in (read file))
+  refused r e is p = refused-counts file (number e) (rw is at p) (number-nonzero e)
 
   pub blocks : (r : Counts) → 0 ≡ refusal_of (stream_of file) → r ≡ stream_counts (joined (length file / 512) file) → r ≡ counts (subtable_count (read file)) (pointer_size_in (read file))
   blocks r p e = e ∙ file-counts file (sym p)
@@ -46,4 +39,4 @@ module _ (file : List ℕ) where
 
 pub ruleset section_laws = (blocks, one, room)
 
-pub ruleset laws = (table_law, front_room, blocks_law)
+pub ruleset blocks_laws = (front_room, blocks_law)

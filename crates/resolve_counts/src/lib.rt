@@ -9,6 +9,7 @@ ghost use Rattle.file_blocks.specs.Blocks.{joined};
 ghost use Rattle.resolve_counts.specs.Counts.{counts, table_counts, stream_counts};
 
 use codes::{header, table};
+use list_values::section::Section;
 use resolve_file::pointer_size;
 
 #[derive(Clone, Copy)]
@@ -23,23 +24,28 @@ const NO_COUNTS: Counts = Counts {
     pointer: 0,
 };
 
-fn table_counts(stream: &[u8], table: &[u16; table::LENGTH]) -> Counts
-    ensures { result ≡ table_counts stream.now table.now }
+#[tactic(auto, unfolding(crate::specs::Counts::table_counts))]
+fn table_counts(section: Section<'_>) -> Counts
+    ensures { result ≡ table_counts section.entry.stream.now section.entry.table.now }
 {
-    let subtables = access::u16_at(stream, header::SUBTABLES);
-    let pointer = pointer_size(stream, table);
-    Counts { subtables, pointer }
+    Counts {
+        subtables: access::u16_at(section.stream, header::SUBTABLES),
+        pointer: pointer_size(section),
+    }
 }
 
 #[tactic(auto, using(crate::proofs::Laws::not_zero), unfolding(crate::specs::Counts::stream_counts, crate::specs::Counts::read_counts))]
 fn stream_counts(stream: &[u8]) -> Counts
     ensures { result ≡ stream_counts stream.now }
 {
-    let mut t = [0u16; table::LENGTH];
-    match file_section::read_stream(stream, &mut t) {
-        Ok(()) => table_counts(stream, &t),
-        Err(_) => NO_COUNTS,
-    }
+    let mut table = [0u16; table::LENGTH];
+    let Ok(()) = file_section::read_stream(stream, &mut table) else {
+        return NO_COUNTS;
+    };
+    table_counts(Section {
+        stream,
+        table: &table,
+    })
 }
 
 // The stream is the first n bytes.
@@ -51,6 +57,7 @@ fn front_counts(bytes: &[u8], count: usize) -> Counts
 }
 
 // A file of several blocks, whose payloads are joined.
+#[tactic(auto, using(crate::proofs::Laws::blocks_laws))]
 fn blocks_counts(file: &[u8]) -> Counts
     requires { length file.now / 512 * 510 ≤ 65280 }
     ensures { result ≡ stream_counts (joined (length file.now / 512) file.now) }
@@ -65,11 +72,9 @@ fn blocks_counts(file: &[u8]) -> Counts
 pub fn section_counts(file: &[u8]) -> Counts
     ensures { result ≡ counts (subtable_count (read file.now)) (pointer_size_in (read file.now)) }
 {
-    if file_blocks::blocks::check_blocks(file).is_err() {
-        return NO_COUNTS;
+    match file_blocks::blocks::check_blocks(file) {
+        Ok(()) if file.len() == 512 => front_counts(file, 510),
+        Ok(()) => blocks_counts(file),
+        Err(_) => NO_COUNTS,
     }
-    if file.len() == 512 {
-        return front_counts(file, 510);
-    }
-    blocks_counts(file)
 }
