@@ -1,5 +1,5 @@
--- The search for a parameter, from the last one down.
-use mathlib.Core.Path.{◌≡◌}
+-- The search for a parameter, from the last one down; and what a plain local is.
+use mathlib.Core.Path.{◌≡◌, ap, sym}
 use mathlib.Core.Bool.{true, false}
 use mathlib.Core.List.{List}
 use Prim.Native.Nat.{ℕ, zero, suc, ◌+◌, ◌-◌, ◌≤◌, ◌<◌}
@@ -8,7 +8,12 @@ use lib.ListN.{get_or}
 use lib.Dec.{eqb}
 use borrow.Author.Tests.{eq-eqb, ne_eqb}
 use Rattle.expr_scope.specs.Slots.{param_place}
-use Rattle.expr_scope.specs.Scopes.{find_param}
+use Rattle.prelude.specs.Base.{when◌then◌else◌}
+use Rattle.list_values.specs.declared.value.Value.{Value}
+use Rattle.list_pushes.specs.declared.push.Env.{Env}
+use Rattle.expr_scope.specs.declared.scope.ExprValue.{ExprValue}
+use Rattle.expr_scope.specs.Outcomes.{Meaning, Found}
+use Rattle.expr_scope.specs.Scopes.{find_param, inner_meaning, param_or, resolve_ident, local_of, plain_local}
 
 module _ (p : List ℕ) (name : ℕ) where
   pub param_hit : (i at w r : ℕ) → 0 < i → at ≡ param_place (i - 1) → w ≡ get_or p (at + 0) 0 → w ≡ name → find_param i p name ≡ r → suc (i - 1) ≡ r
@@ -31,3 +36,35 @@ module _ (p : List ℕ) (name : ℕ) where
   unfolding find_param
   param_end zero r h e = e
   param_end (suc i) r h e = absurd (omega arith)
+
+value_in : Value → Found → Value
+value_in d (Found.Is v) = v
+value_in d Found.Nothing = d
+
+is_found : Found → ℕ
+is_found (Found.Is v) = 1
+is_found Found.Nothing = 0
+
+nothing_is : (v : Value) → Found.Nothing ≡ Found.Is v → ⊥
+nothing_is v h = let z : ◌≡◌ {A = ℕ} 0 1 = ap is_found h in omega arith
+
+local_means : (x : Meaning) (v : Value) → local_of x ≡ Found.Is v → x ≡ Meaning.Means (ExprValue.Local v)
+unfolding local_of
+local_means (Meaning.Means (ExprValue.Local u)) v h = ap (λ w. Meaning.Means (ExprValue.Local w)) (ap (value_in u) h)
+local_means (Meaning.Means (ExprValue.Unbound u)) v h = absurd (nothing_is v h)
+local_means (Meaning.Means (ExprValue.Const n z)) v h = absurd (nothing_is v h)
+local_means (Meaning.Means (ExprValue.Apply op number count a b)) v h = absurd (nothing_is v h)
+local_means (Meaning.Means (ExprValue.RamRef u z)) v h = absurd (nothing_is v h)
+local_means (Meaning.Means (ExprValue.RegisterRef u z)) v h = absurd (nothing_is v h)
+local_means (Meaning.Means (ExprValue.AddressOf u z)) v h = absurd (nothing_is v h)
+local_means (Meaning.Means (ExprValue.BitRange u from bits)) v h = absurd (nothing_is v h)
+local_means (Meaning.Wrong n) v h = absurd (nothing_is v h)
+
+plain_param : (k : ℕ) (p : List ℕ) (x : Meaning) (v : Value) → (when eqb k 0 then local_of x else Found.Nothing) ≡ Found.Is v → param_or k p x ≡ Meaning.Means (ExprValue.Local v)
+unfolding param_or
+plain_param zero p x v h = local_means x v h
+plain_param (suc k) p x v h = absurd (nothing_is v h)
+
+pub plain_means : (s t p : List ℕ) (e : Env) (name : ℕ) (v : Value) → Found.Is v ≡ plain_local s t p e name → resolve_ident s t p e name ≡ Meaning.Means (ExprValue.Local v)
+unfolding plain_local resolve_ident
+plain_means s t p e name v h = plain_param (find_param e.count p name) p (inner_meaning s t p e name) v (sym h)

@@ -83,6 +83,21 @@ param_or i p other = when ltb 0 i then Meaning.Means (of_slot (slot_at p (param_
 unfoldable pub resolve_ident : List ℕ → List ℕ → List ℕ → Env → ℕ → Meaning
 resolve_ident s t p e name = param_or (find_param e.count p name) p (inner_meaning s t p e name)
 
+unfoldable pub local_of : Meaning → Found
+local_of (Meaning.Means (ExprValue.Local v)) = Found.Is v
+local_of (Meaning.Means (ExprValue.Unbound v)) = Found.Nothing
+local_of (Meaning.Means (ExprValue.Const n z)) = Found.Nothing
+local_of (Meaning.Means (ExprValue.Apply op number count x y)) = Found.Nothing
+local_of (Meaning.Means (ExprValue.RamRef v z)) = Found.Nothing
+local_of (Meaning.Means (ExprValue.RegisterRef v z)) = Found.Nothing
+local_of (Meaning.Means (ExprValue.AddressOf v z)) = Found.Nothing
+local_of (Meaning.Means (ExprValue.BitRange v from bits)) = Found.Nothing
+local_of (Meaning.Wrong n) = Found.Nothing
+
+-- the local that a name means which is no parameter's
+unfoldable pub plain_local : List ℕ → List ℕ → List ℕ → Env → ℕ → Found
+plain_local s t p e name = when eqb (find_param e.count p name) 0 then local_of (inner_meaning s t p e name) else Found.Nothing
+
 -- 21 where there was one of this name, else the scope's words that declare it
 unfoldable pub undeclared : Found → Value → State → List ℕ → List ℕ → List ℕ → ReadOut
 undeclared (Found.Is w) v st p q m = read (Read.No 21) p m

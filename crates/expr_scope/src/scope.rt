@@ -5,7 +5,7 @@ ghost use Rattle.list_pushes.specs.Outcomes.{to_read};
 ghost use Rattle.list_pushes.specs.Pushes.{read};
 ghost use Rattle.expr_scope.specs.Outcomes.{to_meaning, to_found, one_more};
 ghost use Rattle.expr_scope.specs.Slots.{one_value, slot_of, of_slot, put_slot, slot_at, param_place};
-ghost use Rattle.expr_scope.specs.Scopes.{find_param, own_local, tmp_local, lookup_local, bit_range, global_meaning, inner_meaning, resolve_ident, named_tmp};
+ghost use Rattle.expr_scope.specs.Scopes.{find_param, own_local, tmp_local, lookup_local, bit_range, global_meaning, inner_meaning, resolve_ident, plain_local, named_tmp};
 
 use crate::smalls::{put_small, small};
 use crate::symbols::{Symbol, lookup};
@@ -314,6 +314,35 @@ pub fn resolve_ident(
     match find_param(scope, env.count, name) {
         Some(i) => Ok(of_slot(slot_at(scope, param_place(i)))),
         None => inner_meaning(section, scope, env, name),
+    }
+}
+
+// The local that a name means which is no parameter's: the usual case, in which the larger `ExprValue` need not be made.
+#[tactic(auto, unfolding(crate::specs::Scopes::plain_local, crate::specs::Scopes::local_of, crate::specs::Scopes::inner_meaning, crate::specs::Scopes::found_or, crate::specs::Scopes::global_meaning, crate::specs::Scopes::bit_range, crate::specs::Scopes::bits_at))]
+pub fn plain_local(section: Section<'_>, scope: &[u64], env: Env, name: u64) -> Option<Value>
+    ensures { to_found result ≡ plain_local section.entry.stream.now section.entry.table.now scope.now env name }
+{
+    if find_param(scope, env.count, name).is_some() {
+        return None;
+    }
+    if name == access::u16_at(section.stream, header::INST_NEXT) {
+        return Some(local(value_kind::INST_NEXT, 0));
+    }
+    if name == access::u16_at(section.stream, header::INST_START) {
+        return Some(local(value_kind::INST_START, 0));
+    }
+    if let Some(value) = lookup_local(section.table, scope, env.own, name) {
+        return Some(value);
+    }
+    match lookup(section.table, name) {
+        Symbol::Register(i) => Some(local(value_kind::REGISTER, i)),
+        Symbol::Undefined
+        | Symbol::BitRange(_)
+        | Symbol::Space(_)
+        | Symbol::Table(_)
+        | Symbol::UserOp(_)
+        | Symbol::Macro(_)
+        | Symbol::Other(_) => None,
     }
 }
 

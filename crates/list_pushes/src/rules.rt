@@ -87,6 +87,7 @@ fn rule_of(op: u64) -> Rule
     rule_of_other(op)
 }
 
+#[inline(always)]
 #[tactic(auto, using(crate::proofs::RuleLaws::shift_law))]
 fn shift(
     section: Section<'_>,
@@ -112,6 +113,7 @@ fn shift(
     sum_of_errors(x, y)
 }
 
+#[inline(always)]
 #[tactic(auto, using(crate::proofs::RuleLaws::comparison_law))]
 fn comparison(
     section: Section<'_>,
