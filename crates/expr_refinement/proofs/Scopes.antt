@@ -76,7 +76,7 @@ scoped-later t p we from st l h = record {
 
 pub find-each : {A : Type 0} (P : A → Type 0) (n : ℕ) (xs : List (ℕ × A)) (a : A) → Each (λ (x : ℕ × A). P x.1) xs → find n xs ≡ some a → P a
 unfolding find first base_opens
-find-each P n [] a h q = let z : ◌≡◌ {A = ℕ} 0 1 = cc in absurd (omega arith)
+find-each P n [] a h q = cc
 find-each {A} P n (x ∷ xs) a h q = go (eqb n x.0) (find-each P n xs a h.1) q
   where
     go : (b : Bool) → (find n xs ≡ some a → P a) → (definition.when◌then◌else◌ b (some x.1) none) or (find n xs) ≡ some a → P a

@@ -85,7 +85,7 @@ operand_at in1 = 8
 operand_at out = 4
 
 absent_value : {A : Type 0} {v : Value} → none ≡ some v → A
-absent_value e = let z : ◌≡◌ {A = ℕ} 0 1 = cc in absurd (omega arith)
+absent_value e = cc
 
 module _ (v : Value) (h : v.offset ≤ 65535) where
   module _ (j : or_else 0 v.size < 65535) where
