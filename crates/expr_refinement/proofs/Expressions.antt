@@ -25,7 +25,7 @@ use Rattle.definition.specs.Spellings.{Inbuilt, translate_inbuilt_func}
 use Rattle.definition.specs.Scope.{find, Symbol, globals, Meaning, means, wrong, meaning, meant}
 use Rattle.definition.specs.Expressions as d
 use Rattle.definition.specs.ActionList.{or_none}
-use Rattle.definition.proofs.Openers.{base_opens}
+pub use Rattle.list_refinement.proofs.FromSection.{absent-word}
 use Rattle.list_values.specs.declared.value.Value.{Value as WordValue}
 use Rattle.list_pushes.specs.declared.push.State.{State as WordState}
 use Rattle.list_pushes.specs.declared.push.Env.{Env as WordEnv}
@@ -69,13 +69,6 @@ unfolding after
 after_is pos n h k = rw (lt-ltb pos 65536 h, lt-ltb n 65536 k)
 
 -- a u16 that may be absent
-pub absent-word : (s : List ℕ) (q : ℕ) → or_none (absent_at s q) ≡ le16 s q
-absent-word s q = go (eqb (le16 s q) 65535) refl
-  where
-    go : (b : Bool) → eqb (le16 s q) 65535 ≡ b → or_none (definition.when◌then◌else◌ b none (some (le16 s q))) ≡ le16 s q
-    go true h = unfold or_none or_else base_opens in sym (eqb-true (le16 s q) 65535 h)
-    go false h = unfold or_none or_else base_opens in refl
-
 pub small_or : (z : Option ℕ) → ((y : ℕ) → z ≡ some y → y < 1025) → or_else 0 z < 65535
 unfolding or_else
 small_or none h = omega arith

@@ -83,7 +83,7 @@ pub record Piece (number : ℕ) (inputs : List Value) (output : Option Value) : 
   pub an_output : output ≡ some result
   pub small : number < 65536
 
-test_sym : (m n : ℕ) → eqb m n ≡ eqb n m
+pub test_sym : (m n : ℕ) → eqb m n ≡ eqb n m
 test_sym m n = go (eqb m n) refl
   where
     go : (b : Bool) → eqb m n ≡ b → b ≡ eqb n m

@@ -16,6 +16,7 @@ use Rattle.definition.specs.Sizes as d
 use Rattle.definition.specs.Sizes.{Operand, in0, in1, out, at, put, Sizing, set_tmp_size, set_size}
 use Rattle.definition.specs.ActionList.{or_none, temporary_word}
 use Rattle.definition.proofs.Openers.{base_opens}
+pub use Rattle.definition_guarantee.proofs.Tests.{each_at}
 use Rattle.list_values.specs.declared.sizes.Sizing.{Sizing as WordSizing}
 use Rattle.list_values.specs.Base.{Listed, listed}
 use Rattle.list_values.specs.Sizes.{tmp_size, listed_size, size_of_local, size_of, sum_of_errors, recorded, error, size_temporary, settled}
@@ -63,11 +64,6 @@ pub each_set : {A : Type 0} (P : A → Type 0) (xs : List A) (i : ℕ) (x : A) �
 each_set P [] i x f g = tt
 each_set P (y ∷ xs) zero x f g = (g, f.1)
 each_set P (y ∷ xs) (suc i) x f g = (f.0, each_set P xs i x f.1 g)
-
-pub each_at : {A : Type 0} (P : A → Type 0) (xs : List A) (i : ℕ) (x : A) → Each P xs → get_elem? xs i ≡ some x → P x
-each_at P [] i x h e = cc
-each_at P (y ∷ xs) zero x h e = let d : y ≡ x = cc in subst P d h.0
-each_at P (y ∷ xs) (suc i) x h e = each_at P xs i x h.1 e
 
 -- errors
 
