@@ -4,7 +4,6 @@ use mathlib.Core.Path.{◌≡◌, refl, sym, ◌∙◌, ap, subst}
 use mathlib.Core.Bool.{Bool, true, false}
 use mathlib.Core.List.{List, [], ◌∷◌, ◌++◌}
 use mathlib.Core.Option.{Option, none, some}
-use native.Mathlib.Omega.{arith}
 use lib.ListN.{length}
 use Rattle.prelude.specs.Base.{when◌then◌else◌, and_then}
 use Rattle.definition.specs.Refusals.{Refusal, subpiece_size}
@@ -23,7 +22,7 @@ pub on_done : {A B : Type 0} (e : Env) (m : Outcome A) (f : A → Walk B) (b : B
     → (a : A) × (t : State) × (m ≡ done a t) × (f a e t ≡ done b u)
 unfolding on
 on_done e (done a t) f b u h = (a, t, refl, h)
-on_done e (stopped r o n) f b u h = let z : ◌≡◌ {A = ℕ} 0 1 = cc in absurd (omega arith)
+on_done e (stopped r o n) f b u h = cc
 
 pub done_value : {A : Type 0} {a b : A} {s t : State} → done a s ≡ done b t → a ≡ b
 done_value h = cc
@@ -32,11 +31,11 @@ pub done_state : {A : Type 0} {a b : A} {s t : State} → done a s ≡ done b t 
 done_state h = cc
 
 pub never_stopped : {A B : Type 0} {a : A} {s : State} {r : Refusal} {o : Option ℕ} {n : ℕ} → stopped r o n ≡ done a s → B
-never_stopped {A} {B} h = let z : ◌≡◌ {A = ℕ} 0 1 = cc in absurd (omega arith)
+never_stopped {A} {B} h = cc
 
 snoc_empty : {A B : Type 0} (xs : List A) (x : A) → xs ++ (x ∷ []) ≡ [] → B
-snoc_empty [] x e = let z : ◌≡◌ {A = ℕ} 0 1 = cc in absurd (omega arith)
-snoc_empty (y ∷ xs) x e = let z : ◌≡◌ {A = ℕ} 0 1 = cc in absurd (omega arith)
+snoc_empty [] x e = cc
+snoc_empty (y ∷ xs) x e = cc
 
 module _ (sec : Section) where
   -- a value with its final size

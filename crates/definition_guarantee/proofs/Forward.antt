@@ -5,7 +5,6 @@ use mathlib.Core.Logic.{◌⊎◌, inl, inr}
 use mathlib.Core.Bool.{Bool, true, false, ◌&&◌, not}
 use mathlib.Core.List.{List, [], ◌∷◌, ◌++◌}
 use mathlib.Core.Option.{Option, none, some}
-use native.Mathlib.Omega.{arith}
 use lib.Dec.{eqb}
 use lib.ListN.{get_elem?}
 use Rattle.prelude.specs.Base.{when◌then◌else◌, is_some, any, filter}
@@ -26,8 +25,8 @@ union_empty (m ∷ ms) ns e = absurd (go (union ms ns) (any (eqb m) (union ms ns
   where
     go : (rest : List ℕ) (b : Bool) → any (eqb m) rest ≡ b → (when b then rest else m ∷ rest) ≡ [] → ⊥
     go [] true d e = never d
-    go (x ∷ xs) true d e = let z : ◌≡◌ {A = ℕ} 0 1 = cc in omega (arith, z)
-    go rest false d e = let z : ◌≡◌ {A = ℕ} 0 1 = cc in omega (arith, z)
+    go (x ∷ xs) true d e = cc
+    go rest false d e = cc
 
 pub filter_none : (p : ℕ → Bool) (xs : List ℕ) (n : ℕ) → filter p xs ≡ [] → In n xs → p n ≡ false
 unfolding filter
@@ -36,7 +35,7 @@ filter_none p (x ∷ xs) n e i = go (p x) refl i e (filter_none p xs n)
   where
     go : (b : Bool) → p x ≡ b → (n ≡ x) ⊎ In n xs → (when b then x ∷ filter p xs else filter p xs) ≡ []
         → (filter p xs ≡ [] → In n xs → p n ≡ false) → p n ≡ false
-    go true d i e r = let z : ◌≡◌ {A = ℕ} 0 1 = cc in absurd (omega arith)
+    go true d i e r = cc
     go false d (inl k) e r = ap p k ∙ d
     go false d (inr k) e r = r e k
 

@@ -311,7 +311,7 @@ keep_set_size {e} {n} w z v h f = record {
       );
 }
 
-option_small : (z : Option ℕ) → ((n : ℕ) → z ≡ some n → n < 65535) → or_else 0 z < 65535
+pub option_small : (z : Option ℕ) → ((n : ℕ) → z ≡ some n → n < 65535) → or_else 0 z < 65535
 unfolding or_else
 option_small none h = omega arith
 option_small (some m) h = h m refl

@@ -360,7 +360,7 @@ module _ (sec : Section) (limits : SmallSection sec) where
 
       one_input : (n z : ℕ) (v : Value) (vs cs ys : List Value) → z < 65535 → Fits t sub v → vs ≡ v ∷ [] → FixedAll sec w vs cs
           → SlicedInputs sec n z cs ys → (all (value_fits t sub) ys ≡ true) × (length ys ≡ 1)
-      one_input n z v [] cs ys h f e x s = let q : ◌≡◌ {A = ℕ} 0 1 = cc in absurd (omega arith)
+      one_input n z v [] cs ys h f e x s = cc
       one_input n z v (u ∷ vs) [] ys h f e x s = absurd x
       one_input n z v (u ∷ vs) (c ∷ cs) [] h f e x s = absurd s
       one_input n z v (u ∷ vs) (c ∷ cs) (y ∷ ys) h f e x s =

@@ -1,5 +1,5 @@
 -- A list for which the checker's conditions hold is accepted.
-use Prim.Native.Nat.{ℕ, zero, suc, ◌*◌, ◌-◌, ◌≤◌, ◌<◌}
+use Prim.Native.Nat.{ℕ, zero, suc, ◌*◌, ◌-◌, ◌≤◌}
 use mathlib.Core.Path.{◌≡◌, refl, sym, ◌∙◌, ap, subst}
 use mathlib.Core.Bool.{Bool, true, false, ◌&&◌, not}
 use mathlib.Core.List.{List, [], ◌∷◌, ◌++◌}
@@ -12,10 +12,12 @@ use Rattle.definition.specs.Value.{Kind, Value, ActionKind, SemanticAction, oper
 use Rattle.definition.specs.Sizes.{Operand, Step, equal, exactly, by_default, rule_of, steps_of, at, fixed_size}
 use Rattle.definition.specs.End.{is_build, builds}
 use Rattle.definition.specs.ActionList.{filled, action_words, list_words, places_label}
-use Rattle.definition.specs.Checker.{same_count, counts_fit, option_fits, number_fits, value_fits, plain_base, base_fits, layout_fits, is_sized, size_at, has_size, all_have_size, step_holds, operation_holds, sizes_hold, places, labels_once, all_built, operation_numbered, check}
+use Rattle.definition.specs.Checker.{same_count, counts_fit, option_fits, number_fits, value_fits, plain_base, base_fits, layout_fits, is_sized, size_at, has_size, all_have_size, step_holds, operation_holds, sizes_hold, places, labels_once, operation_numbered, check}
 use Rattle.definition_guarantee.proofs.Tests.{never, eq_of, eq_same, same, differ, of_lt, and_true, both, all_from, first_from, then_some, any_from, append_none, none_some, some_same}
 use Rattle.definition_guarantee.proofs.Words.{parts_fit, laid_fits, filled_append, action_length, numbered, words-pass}
 use Rattle.definition.specs.Right.{Among, input, output, NumberWithin, ValueWithin, ActionRight, Right}
+use Rattle.definition_guarantee.proofs.Kept.{option_small}
+use Rattle.definition_guarantee.proofs.WholeList.{built_below}
 
 pub any_at : {A : Type 0} (p : A → Bool) (xs : List A) (i : ℕ) (x : A) → get_elem? xs i ≡ some x → p x ≡ true → any p xs ≡ true
 unfolding any
@@ -38,16 +40,11 @@ within_number t sub Kind.SubtableRef n h = of_lt n sub h
 within_number t sub Kind.PcodeTmp n h = of_lt n t h
 within_number t sub Kind.Constant n h = refl
 
-within_size : (z : Option ℕ) → ((n : ℕ) → z ≡ some n → n < 65535) → or_else 0 z < 65535
-unfolding or_else
-within_size none h = omega arith
-within_size (some m) h = h m refl
-
 within_value : (t sub : ℕ) (v : Value) → ValueWithin t sub v → value_fits t sub v ≡ true
 within_value t sub v f = parts_fit (record {
   number = within_number t sub v.kind v.number f.number;
   offset = f.offset;
-  size = within_size v.size (λ z e. omega (arith, f.size z e));
+  size = option_small v.size (λ z e. omega (arith, f.size z e));
 })
 
 option_from : {A : Type 0} (p : A → Bool) (o : Option A) → ((v : A) → o ≡ some v → p v ≡ true) → option_fits p o ≡ true
@@ -184,17 +181,12 @@ of_builds : (m : ℕ) (a : SemanticAction) → a.kind ≡ ActionKind.Build → a
 unfolding builds is_build
 of_builds m a k n = rw (k, n) (same m)
 
-all_built_lem : (xs : List SemanticAction) (n : ℕ) → ((m : ℕ) → m < n → any (builds m) xs ≡ true) → all_built xs n ≡ true
-unfolding all_built
-all_built_lem xs zero h = refl
-all_built_lem xs (suc n) h = both (h n (omega arith)) (all_built_lem xs n (λ m l. h m (omega arith)))
-
 pub list_length : (xs : List SemanticAction) → length (list_words xs) ≡ 24 * length xs
 unfolding list_words
 list_length [] = refl
 list_length (a ∷ xs) = length-append (action_words a) (list_words xs) ∙ (let h = action_length a in let r = list_length xs in omega arith)
 
-zeros : (n : ℕ) → filled n [] ≡ replicate n 0
+pub zeros : (n : ℕ) → filled n [] ≡ replicate n 0
 unfolding filled
 zeros zero = refl
 zeros (suc n) = ap (λ (l : List ℕ). 0 ∷ l) (zeros n)
@@ -222,7 +214,7 @@ module _ (ws : List ℕ) (n t sub pointer : ℕ) where
       (all_from (layout_fits t sub) xs (λ i a e. action-fits t sub pointer a (r.each i a e)))
       (all_from (sizes_hold pointer) xs (λ i a e. action-sizes t sub pointer a (r.each i a e)))
       (at_once xs (λ i j a b d e u v m. r.labels_once i j a b d e (label-places a u) (label-places b v) m))
-      (all_built_lem xs sub (λ m l. let z = r.all_built m l in
+      (built_below xs sub (λ m l. let z = r.all_built m l in
       any_at (builds m) xs z.1.0 z.0 z.1.1 (of_builds m z.0 z.2 z.3))) in
       subst (λ (m : ℕ). check ws m t sub pointer ≡ true) r.count
       (subst (λ (l : List ℕ). check l (length xs) t sub pointer ≡ true) written passes)

@@ -5,7 +5,6 @@ use mathlib.Core.Logic.{◌≢◌, ◌⊎◌, inl, inr}
 use mathlib.Core.Bool.{Bool, true, false, ◌&&◌}
 use mathlib.Core.List.{List, [], ◌∷◌, ◌++◌}
 use mathlib.Core.Option.{Option, none, some}
-use native.Mathlib.Omega.{arith}
 use lib.Dec.{T, eqb, leb, ltb, eqb→eq, eqb_refl, leb→le, le→leb, ltb→lt, lt→ltb, nltb→le}
 use lib.ListN.{get_elem?, set}
 use Rattle.prelude.specs.Base.{when◌then◌else◌, ◌or◌, or_else, and_then, any, all, first, same_numbers}
@@ -78,7 +77,7 @@ pub some_same : {A : Type 0} {x y : A} → some x ≡ some y → x ≡ y
 some_same e = cc
 
 pub none_some : {A B : Type 0} {a : A} {x : Option A} → x ≡ none → x ≡ some a → B
-none_some {A} {B} {a} {x} p q = let z : ◌≡◌ {A = ℕ} 0 1 = cc in absurd (omega arith)
+none_some {A} {B} {a} {x} p q = cc
 
 pub chosen : {A : Type 0} (b : Bool) (x y : A) → (when b then some x else none) ≡ some y → x ≡ y
 chosen true x y e = some_same e
@@ -92,7 +91,7 @@ or_true none e = never e
 pub then_some : {A B : Type 0} (x : Option A) (f : A → Option B) (b : B) → and_then x f ≡ some b → (a : A) × (x ≡ some a) × (f a ≡ some b)
 unfolding and_then
 then_some (some a) f b e = (a, refl, e)
-then_some none f b e = let z : ◌≡◌ {A = ℕ} 0 1 = cc in absurd (omega arith)
+then_some none f b e = cc
 
 -- lists
 
@@ -123,7 +122,7 @@ module _ {A : Type 0} where
 
   pub all_at : (p : A → Bool) (xs : List A) (i : ℕ) (x : A) → all p xs ≡ true → get_elem? xs i ≡ some x → p x ≡ true
   unfolding all
-  all_at p [] i x h g = let z : ◌≡◌ {A = ℕ} 0 1 = cc in absurd (omega arith)
+  all_at p [] i x h g = cc
   all_at p (y ∷ ys) zero x h g = let k = all_parts p y ys h in let e : y ≡ x = cc in rw (← e) k.0
   all_at p (y ∷ ys) (suc i) x h g = all_at p ys i x (all_parts p y ys h).1 g
 
@@ -136,7 +135,7 @@ module _ {A : Type 0} where
   pub first_from : {B : Type 0} (f : A → Option B) (xs : List A) (b : B) → first f xs ≡ some b
       → (i : ℕ) × (x : A) × (get_elem? xs i ≡ some x) × (f x ≡ some b)
   unfolding first ◌or◌
-  first_from f [] b e = let z : ◌≡◌ {A = ℕ} 0 1 = cc in absurd (omega arith)
+  first_from f [] b e = cc
   first_from {B} f (x ∷ xs) b e = go (f x) refl e (first_from f xs b)
     where
       go : (y : Option B) → f x ≡ y → y or first f xs ≡ some b
@@ -190,7 +189,7 @@ list_same (x ∷ xs) [] h = never h
 list_same (x ∷ xs) (y ∷ ys) h = by_head x y xs ys (eqb x y) refl (list_same xs ys) h
 
 pub each_at : {A : Type 0} (P : A → Type 0) (xs : List A) (i : ℕ) (x : A) → Each P xs → get_elem? xs i ≡ some x → P x
-each_at P [] i x h e = let z : ◌≡◌ {A = ℕ} 0 1 = cc in absurd (omega arith)
+each_at P [] i x h e = cc
 each_at P (y ∷ xs) zero x h e = let d : y ≡ x = cc in subst P d h.0
 each_at P (y ∷ xs) (suc i) x h e = each_at P xs i x h.1 e
 

@@ -202,7 +202,7 @@ built_each xs ys j (suc n) i h p q = go (eqb i j) refl (any (builds j) xs) refl 
     go true c true d r = let k : i ≡ j = eq_of i j c in any_right (builds i) rest ys (h (rw k d))
     go true c false d r = let k : i ≡ j = eq_of i j c in rw k (own_build j (rest ++ ys))
 
-built_below : (actions : List SemanticAction) (n : ℕ) → ((i : ℕ) → i < n → any (builds i) actions ≡ true) → all_built actions n ≡ true
+pub built_below : (actions : List SemanticAction) (n : ℕ) → ((i : ℕ) → i < n → any (builds i) actions ≡ true) → all_built actions n ≡ true
 unfolding all_built
 built_below actions zero h = refl
 built_below actions (suc n) h = both (h n (omega arith)) (built_below actions n (λ i k. h i (omega arith)))

@@ -72,7 +72,7 @@ unfolding size_from or_none or_else
 size_back none h = refl
 size_back (some n) h = rw (differ n 65535 (omega arith))
 
-size_word : (z : Option ℕ) → or_else 0 z < 65535 → or_none z ≤ 65535
+pub size_word : (z : Option ℕ) → or_else 0 z < 65535 → or_none z ≤ 65535
 unfolding or_none or_else
 size_word none h = omega arith
 size_word (some n) h = omega arith

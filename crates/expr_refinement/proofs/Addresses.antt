@@ -173,10 +173,10 @@ module _ (s t : List ℕ) (e : Env) (front tail rest : List ℕ) (we : WordEnv) 
     where
       go : (y : ReadOut) (v : WordValue) (st1 : WordState) (a m : List ℕ) → seen_read y ≡ yes v st1 a m → seen_expr (expr_of y (reference n (or_none size) next)) ≡ seen_expr (resolved (reference_to n (or_none size) next v st1) a m)
       go (read (Read.Value u st2) b w) v st1 a m q = unfold seen_read expr_of reference in (let i : u ≡ v = cc in let j : st2 ≡ st1 = cc in let k : b ≡ a = cc in let l : w ≡ m = cc in rw (i, j, k, l))
-      go (read (Read.No n) b w) v st1 a m q = unfold seen_read in (let z : ◌≡◌ {A = ℕ} 0 1 = cc in absurd (omega arith))
+      go (read (Read.No n) b w) v st1 a m q = unfold seen_read in cc
 
       stop : (y : ReadOut) (j : ℕ) → seen_read y ≡ no j → seen_expr (expr_of y (reference n (or_none size) next)) ≡ no j
-      stop (read (Read.Value u st2) b w) j q = unfold seen_read in (let z : ◌≡◌ {A = ℕ} 0 1 = cc in absurd (omega arith))
+      stop (read (Read.Value u st2) b w) j q = unfold seen_read in cc
       stop (read (Read.No k) b w) j q = unfold seen_read expr_of reference seen_expr in (let i : k ≡ j = cc in rw i)
 
   address_in_lem : (st : State) → Stood e.section tail rest spare st → (space size : Option ℕ) (x : ExprValue) → ((y : ℕ) → space ≡ some y → y < 1024) → Small size → SoundX e.section (count st) x

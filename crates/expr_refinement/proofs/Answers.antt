@@ -5,7 +5,6 @@ use mathlib.Core.Path.{◌≡◌, refl, ◌∙◌}
 use mathlib.Core.Bool.{Bool, true, false}
 use mathlib.Core.List.{List}
 use mathlib.Core.Option.{Option}
-use native.Mathlib.Omega.{arith}
 use lib.ListN.{length}
 use Rattle.definition.specs.Refusals.{Refusal, refusal_number}
 use Rattle.definition.specs.Ast.{Section}
@@ -46,7 +45,7 @@ abbrev pub Halts : {A : Type 0} → State → Outcome A → Type 0
 Halts from o = (r : Refusal) (ordinal : Option ℕ) (errors : ℕ) → o ≡ stopped r ordinal errors → (ordinal ≡ from.sizing.begun) × (errors ≡ 0)
 
 pub halts_done : {A : Type 0} (from : State) (a : A) (st : State) → Halts from (done a st)
-halts_done from a st r ordinal errors q = let z : ◌≡◌ {A = ℕ} 0 1 = cc in absurd (omega arith)
+halts_done from a st r ordinal errors q = cc
 
 pub halts_here : {A : Type 0} (from : State) (r : Refusal) → Halts {A = A} from (stopped r from.sizing.begun 0)
 halts_here from r k ordinal errors q = (cc, cc)
@@ -96,7 +95,7 @@ module _ (sec : Section) (front tail rest : List ℕ) where
   unfolding outcome
   refines_stopped spare st enc P n r h = record {
     same = rw h;
-    goes = λ c u e. let z : ◌≡◌ {A = ℕ} 0 1 = cc in absurd (omega arith);
+    goes = λ c u e. cc;
     stops = halts_here st r;
   }
 
@@ -117,7 +116,7 @@ module _ (sec : Section) (front tail rest : List ℕ) where
         let r = g a st refl in
         let j = (i a st r.0 r.1).goes c u h in
         (record { stood = j.0.stood; later = later_trans r.0.later j.0.later }, j.1)
-    then_goes (stopped r ordinal errors) f g i c u h = let z : ◌≡◌ {A = ℕ} 0 1 = cc in absurd (omega arith)
+    then_goes (stopped r ordinal errors) f g i c u h = cc
 
     -- what an answer does to the rest, whatever its type: where it is seen to go on, the rest goes on
     then_same : (x : Seen D) (o : Outcome A) (y : R) (f : D → WordState → List ℕ → List ℕ → R) → Refines spare from enc P x o → Continues f
@@ -140,10 +139,10 @@ module _ (sec : Section) (front tail rest : List ℕ) where
       where
         go : (x : ReadOut) (d : WordValue) (st : WordState) (a m : List ℕ) → seen_read x ≡ yes d st a m → seen (on_read x f g) ≡ seen (f d st a m)
         go (read (Read.Value v st) a m) d u b w h = unfold seen_read on_read in (let p : v ≡ d = cc in let q : st ≡ u = cc in let r : a ≡ b = cc in let t : m ≡ w = cc in rw (p, q, r, t))
-        go (read (Read.No n) a m) d u b w h = unfold seen_read in (let z : ◌≡◌ {A = ℕ} 0 1 = cc in absurd (omega arith))
+        go (read (Read.No n) a m) d u b w h = unfold seen_read in cc
 
         stop : (x : ReadOut) (n : ℕ) → seen_read x ≡ no n → seen (on_read x f g) ≡ no n
-        stop (read (Read.Value v st) a m) n h = unfold seen_read in (let z : ◌≡◌ {A = ℕ} 0 1 = cc in absurd (omega arith))
+        stop (read (Read.Value v st) a m) n h = unfold seen_read in cc
         stop (read (Read.No k) a m) n h = unfold seen_read on_read in (let p : k ≡ n = cc in j k a m ∙ rw p)
 
     -- where only the temporaries are lent, beside these actions
@@ -155,10 +154,10 @@ module _ (sec : Section) (front tail rest : List ℕ) where
       where
         go : (x : Listed Read) (d : WordValue) (st : WordState) (a m : List ℕ) → seen_tmp actions x ≡ yes d st a m → seen (on_tmp x (λ v st m. f v st actions m) g) ≡ seen (f d st a m)
         go (listed (Read.Value v st) m) d u b w h = unfold seen_tmp on_tmp in (let p : v ≡ d = cc in let q : st ≡ u = cc in let r : actions ≡ b = cc in let t : m ≡ w = cc in rw (p, q, r, t))
-        go (listed (Read.No n) m) d u b w h = unfold seen_tmp in (let z : ◌≡◌ {A = ℕ} 0 1 = cc in absurd (omega arith))
+        go (listed (Read.No n) m) d u b w h = unfold seen_tmp in cc
 
         stop : (x : Listed Read) (n : ℕ) → seen_tmp actions x ≡ no n → seen (on_tmp x (λ v st m. f v st actions m) g) ≡ no n
-        stop (listed (Read.Value v st) m) n h = unfold seen_tmp in (let z : ◌≡◌ {A = ℕ} 0 1 = cc in absurd (omega arith))
+        stop (listed (Read.Value v st) m) n h = unfold seen_tmp in cc
         stop (listed (Read.No k) m) n h = unfold seen_tmp on_tmp in (let p : k ≡ n = cc in j k m ∙ rw p)
 
     pub bind_pushed : (x : PushedOut) (o : Outcome A) (f : WordState → List ℕ → List ℕ → R) (g : ℕ → List ℕ → List ℕ → R) → Refines spare from (λ _. tt {0}) P (seen_pushed x) o → Refuses g
@@ -167,10 +166,10 @@ module _ (sec : Section) (front tail rest : List ℕ) where
       where
         go : (x : PushedOut) {d : Unit {0}} (st : WordState) (a m : List ℕ) → seen_pushed x ≡ yes d st a m → seen (on_pushed x f g) ≡ seen (f st a m)
         go (pushed (Pushed.Done st) a m) {d} u b w h = unfold seen_pushed on_pushed in (let q : st ≡ u = cc in let r : a ≡ b = cc in let t : m ≡ w = cc in rw (q, r, t))
-        go (pushed (Pushed.No n) a m) {d} u b w h = unfold seen_pushed in (let z : ◌≡◌ {A = ℕ} 0 1 = cc in absurd (omega arith))
+        go (pushed (Pushed.No n) a m) {d} u b w h = unfold seen_pushed in cc
 
         stop : (x : PushedOut) (n : ℕ) → seen_pushed x ≡ no n → seen (on_pushed x f g) ≡ no n
-        stop (pushed (Pushed.Done st) a m) n h = unfold seen_pushed in (let z : ◌≡◌ {A = ℕ} 0 1 = cc in absurd (omega arith))
+        stop (pushed (Pushed.Done st) a m) n h = unfold seen_pushed in cc
         stop (pushed (Pushed.No k) a m) n h = unfold seen_pushed on_pushed in (let p : k ≡ n = cc in j k a m ∙ rw p)
 
     pub bind_expr : (enc : A → WordExpr × ℕ) (x : ExprOut) (o : Outcome A) (f : WordExpr → ℕ → WordState → List ℕ → List ℕ → R) (g : ℕ → List ℕ → List ℕ → R) → Refines spare from enc P (seen_expr x) o → Refuses g
@@ -179,10 +178,10 @@ module _ (sec : Section) (front tail rest : List ℕ) where
       where
         go : (x : ExprOut) (d : WordExpr × ℕ) (st : WordState) (a m : List ℕ) → seen_expr x ≡ yes d st a m → seen (on_expr x f g) ≡ seen (f d.0 d.1 st a m)
         go (resolved (Expr.Value next v st) a m) d u b w h = unfold seen_expr on_expr in (let o : (v, next) ≡ d = cc in let q : st ≡ u = cc in let r : a ≡ b = cc in let t : m ≡ w = cc in rw (← o, q, r, t))
-        go (resolved (Expr.No n) a m) d u b w h = unfold seen_expr in (let z : ◌≡◌ {A = ℕ} 0 1 = cc in absurd (omega arith))
+        go (resolved (Expr.No n) a m) d u b w h = unfold seen_expr in cc
 
         stop : (x : ExprOut) (n : ℕ) → seen_expr x ≡ no n → seen (on_expr x f g) ≡ no n
-        stop (resolved (Expr.Value next v st) a m) n h = unfold seen_expr in (let z : ◌≡◌ {A = ℕ} 0 1 = cc in absurd (omega arith))
+        stop (resolved (Expr.Value next v st) a m) n h = unfold seen_expr in cc
         stop (resolved (Expr.No k) a m) n h = unfold seen_expr on_expr in (let p : k ≡ n = cc in j k a m ∙ rw p)
 
     pub bind_operand : (enc : A → WordValue × ℕ) (x : OperandOut) (o : Outcome A) (f : WordValue → ℕ → WordState → List ℕ → List ℕ → R) (g : ℕ → List ℕ → List ℕ → R) → Refines spare from enc P (seen_operand x) o → Refuses g
@@ -191,10 +190,10 @@ module _ (sec : Section) (front tail rest : List ℕ) where
       where
         go : (x : OperandOut) (d : WordValue × ℕ) (st : WordState) (a m : List ℕ) → seen_operand x ≡ yes d st a m → seen (on_operand x f g) ≡ seen (f d.0 d.1 st a m)
         go (operand (Operand.Value v next st) a m) d u b w h = unfold seen_operand on_operand in (let o : (v, next) ≡ d = cc in let q : st ≡ u = cc in let r : a ≡ b = cc in let t : m ≡ w = cc in rw (← o, q, r, t))
-        go (operand (Operand.No n) a m) d u b w h = unfold seen_operand in (let z : ◌≡◌ {A = ℕ} 0 1 = cc in absurd (omega arith))
+        go (operand (Operand.No n) a m) d u b w h = unfold seen_operand in cc
 
         stop : (x : OperandOut) (n : ℕ) → seen_operand x ≡ no n → seen (on_operand x f g) ≡ no n
-        stop (operand (Operand.Value v next st) a m) n h = unfold seen_operand in (let z : ◌≡◌ {A = ℕ} 0 1 = cc in absurd (omega arith))
+        stop (operand (Operand.Value v next st) a m) n h = unfold seen_operand in cc
         stop (operand (Operand.No k) a m) n h = unfold seen_operand on_operand in (let p : k ≡ n = cc in j k a m ∙ rw p)
 
     pub bind_args : (enc : A → List ℕ × ℕ) (x : ArgsOut) (o : Outcome A) (f : ℕ → WordState → List ℕ → List ℕ → List ℕ → R) (g : ℕ → List ℕ → List ℕ → R) → Refines spare from enc P (seen_args x) o → Refuses g
@@ -203,10 +202,10 @@ module _ (sec : Section) (front tail rest : List ℕ) where
       where
         go : (x : ArgsOut) (d : List ℕ × ℕ) (st : WordState) (a m : List ℕ) → seen_args x ≡ yes d st a m → seen (on_args x f g) ≡ seen (f d.1 st a m d.0)
         go (passed (Args.Done next st) a m args) d u b w h = unfold seen_args on_args in (let o : (args, next) ≡ d = cc in let q : st ≡ u = cc in let r : a ≡ b = cc in let t : m ≡ w = cc in rw (← o, q, r, t))
-        go (passed (Args.No n) a m args) d u b w h = unfold seen_args in (let z : ◌≡◌ {A = ℕ} 0 1 = cc in absurd (omega arith))
+        go (passed (Args.No n) a m args) d u b w h = unfold seen_args in cc
 
         stop : (x : ArgsOut) (n : ℕ) → seen_args x ≡ no n → seen (on_args x f g) ≡ no n
-        stop (passed (Args.Done next st) a m args) n h = unfold seen_args in (let z : ◌≡◌ {A = ℕ} 0 1 = cc in absurd (omega arith))
+        stop (passed (Args.Done next st) a m args) n h = unfold seen_args in cc
         stop (passed (Args.No k) a m args) n h = unfold seen_args on_args in (let p : k ≡ n = cc in j k a m ∙ rw p)
 
   -- a value made of the one that was given
@@ -218,7 +217,7 @@ module _ (sec : Section) (front tail rest : List ℕ) where
     goes = λ c u q. let i : g a ≡ c = cc in let j : st ≡ u = cc in let l = r.goes a st refl in rw (← i, ← j) (l.0, k (count st) a l.1);
     stops = halts_done from (g a) st;
   }
-  refines_map spare e from enc P enc_c Q g x (stopped r ordinal errors) f h k = record { same = f.same; goes = λ c u q. let z : ◌≡◌ {A = ℕ} 0 1 = cc in absurd (omega arith); stops = λ q o n h. f.stops q o n cc }
+  refines_map spare e from enc P enc_c Q g x (stopped r ordinal errors) f h k = record { same = f.same; goes = λ c u q. cc; stops = λ q o n h. f.stops q o n cc }
 
   -- a test: on with what passes it
   module _ {B C R : Type 0} (more : ℕ) (e : Env) (st : State) (seen : R → Seen B) (enc_c : C → B) (Q : ℕ → C → Type 0) where

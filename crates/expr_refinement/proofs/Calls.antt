@@ -64,7 +64,7 @@ on_assoc e (stopped r ordinal errors) f g = refl
 -- Whom a name calls.
 
 get_d_some : {A : Type 0} (l : List A) (i : ℕ) (a z : A) → get_elem? l i ≡ some a → get_or l i z ≡ a
-get_d_some [] i a z h = let q : ◌≡◌ {A = ℕ} 0 1 = cc in absurd (omega arith)
+get_d_some [] i a z h = cc
 get_d_some (x ∷ l) zero a z h = cc
 get_d_some (x ∷ l) (suc i) a z h = get_d_some l i a z h
 
@@ -216,10 +216,10 @@ module _ (s t : List ℕ) (e : Env) (p front tail rest : List ℕ) (we : WordEnv
     where
       go : (y : ReadOut) (v : WordValue) (st1 : WordState) (a m : List ℕ) → seen_read y ≡ yes v st1 a m → seen_expr (expr_of y (subpiece_of s pos n)) ≡ seen_expr (resolved (subpiece_from (only_integer s pos n) (after pos 13) v st1) a m)
       go (read (Read.Value u st2) b w) v st1 a m q = unfold seen_read expr_of subpiece_of in (let i : u ≡ v = cc in let j : st2 ≡ st1 = cc in let k : b ≡ a = cc in let l : w ≡ m = cc in rw (i, j, k, l))
-      go (read (Read.No n) b w) v st1 a m q = unfold seen_read in (let z : ◌≡◌ {A = ℕ} 0 1 = cc in absurd (omega arith))
+      go (read (Read.No n) b w) v st1 a m q = unfold seen_read in cc
 
       stop : (y : ReadOut) (j : ℕ) → seen_read y ≡ no j → seen_expr (expr_of y (subpiece_of s pos n)) ≡ no j
-      stop (read (Read.Value u st2) b w) j q = unfold seen_read in (let z : ◌≡◌ {A = ℕ} 0 1 = cc in absurd (omega arith))
+      stop (read (Read.Value u st2) b w) j q = unfold seen_read in cc
       stop (read (Read.No k) b w) j q = unfold seen_read expr_of subpiece_of seen_expr in (let i : k ≡ j = cc in rw i)
 
   pub sub_piece : (st : State) → Stood e.section tail rest spare st → Scoped t p we st → (name : ℕ) → name < 1024 → (args : Args) (pos n : ℕ) → Only (d.only_integer args) (only_integer s pos n) (after pos 13) next

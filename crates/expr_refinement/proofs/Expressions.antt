@@ -25,7 +25,7 @@ use Rattle.definition.specs.Spellings.{Inbuilt, translate_inbuilt_func}
 use Rattle.definition.specs.Scope.{find, Symbol, globals, Meaning, means, wrong, meaning, meant}
 use Rattle.definition.specs.Expressions as d
 use Rattle.definition.specs.ActionList.{or_none}
-use Rattle.definition.proofs.Openers.{base_opens}
+pub use Rattle.list_refinement.proofs.FromSection.{absent-word}
 use Rattle.list_values.specs.declared.value.Value.{Value as WordValue}
 use Rattle.list_pushes.specs.declared.push.State.{State as WordState}
 use Rattle.list_pushes.specs.declared.push.Env.{Env as WordEnv}
@@ -69,13 +69,6 @@ unfolding after
 after_is pos n h k = rw (lt-ltb pos 65536 h, lt-ltb n 65536 k)
 
 -- a u16 that may be absent
-pub absent-word : (s : List ℕ) (q : ℕ) → or_none (absent_at s q) ≡ le16 s q
-absent-word s q = go (eqb (le16 s q) 65535) refl
-  where
-    go : (b : Bool) → eqb (le16 s q) 65535 ≡ b → or_none (definition.when◌then◌else◌ b none (some (le16 s q))) ≡ le16 s q
-    go true h = unfold or_none or_else base_opens in sym (eqb-true (le16 s q) 65535 h)
-    go false h = unfold or_none or_else base_opens in refl
-
 pub small_or : (z : Option ℕ) → ((y : ℕ) → z ≡ some y → y < 1025) → or_else 0 z < 65535
 unfolding or_else
 small_or none h = omega arith
@@ -90,11 +83,11 @@ args_count item (suc n) u xs t h = one (λ v ys w g. args_count item n v ys w g)
   where
     more : (x : PcodeExpr) (y : Parsed Args) → ((ys : Args) (v : List ℕ) → y ≡ parsed ys v → d.arg_count ys ≡ n) → file.on y (λ ys v. parsed (arg x ys) v) ≡ parsed xs t → d.arg_count xs ≡ suc n
     more x (parsed ys v) g k = let q : xs ≡ arg x ys = cc in rw q (ap suc (g ys v refl))
-    more x (refused r) g k = let z : ◌≡◌ {A = ℕ} 0 1 = cc in absurd (omega arith)
+    more x (refused r) g k = cc
 
     one : ((v : List ℕ) (ys : Args) (w : List ℕ) → args_of item n v ≡ parsed ys w → d.arg_count ys ≡ n) → (y : Parsed PcodeExpr) → file.on y (λ x v. file.on (args_of item n v) (λ ys w. parsed (arg x ys) w)) ≡ parsed xs t → d.arg_count xs ≡ suc n
     one ih (parsed x v) k = more x (args_of item n v) (ih v) k
-    one ih (refused r) k = let z : ◌≡◌ {A = ℕ} 0 1 = cc in absurd (omega arith)
+    one ih (refused r) k = cc
 
 -- an expression is an integer by its code alone
 abbrev IntegerOr : Bool → List ℕ → ℕ → PcodeExpr → ℕ → Type 0
@@ -162,7 +155,7 @@ many_args s m deep pos n xs t i h =
 module _ (s : List ℕ) (m deep pos n : ℕ) (xs : Args) (next : ℕ) (starts : pos + 4 ≤ length s) (short : length s ≤ 65280) (inside : next ≤ length s) (reads : args_of (expr_within m deep) n (drop (pos + 4) s) ≡ parsed xs (drop next s)) where
   none_of : (o : Option ℕ) (offset : ℕ) → o ≡ none → 255 < offset → Only o offset (after pos 13) next
   none_of none offset h k = k
-  none_of (some i) offset h k = let z : ◌≡◌ {A = ℕ} 0 1 = cc in absurd (omega arith)
+  none_of (some i) offset h k = cc
 
   by_code_lem : (g : OneArg s m deep (pos + 4) xs next) (b : Bool) → IntegerOr b s (pos + 4) g.first next → Only (d.only_integer xs) (when b then le64 s (after pos 5) else 18446744073709551615) (after pos 13) next
   by_code_lem g true h =
@@ -284,8 +277,8 @@ module _ (s t : List ℕ) (e : Env) (p front tail rest : List ℕ) (we : WordEnv
     where
       go : (y : ReadOut) (o : Outcome Value) → seen_read y ≡ outcome front tail rest enc_v o → seen_operand (operand_of y (value_then next)) ≡ outcome front tail rest (λ (v : Value). (enc_v v, next)) o
       go (read (WordRead.Value v st1) a m) (done u st2) q = unfold seen_read seen_operand operand_of value_then outcome in (let i : v ≡ enc_v u = cc in let j : st1 ≡ W st2 = cc in let k : a ≡ A st2 = cc in let l : m ≡ M st2 = cc in rw (i, j, k, l))
-      go (read (WordRead.Value v st1) a m) (stopped r ordinal errors) q = unfold seen_read outcome in (let z : ◌≡◌ {A = ℕ} 0 1 = cc in absurd (omega arith))
-      go (read (WordRead.No n) a m) (done u st2) q = unfold seen_read outcome in (let z : ◌≡◌ {A = ℕ} 0 1 = cc in absurd (omega arith))
+      go (read (WordRead.Value v st1) a m) (stopped r ordinal errors) q = unfold seen_read outcome in cc
+      go (read (WordRead.No n) a m) (done u st2) q = unfold seen_read outcome in cc
       go (read (WordRead.No n) a m) (stopped r ordinal errors) q = unfold seen_read seen_operand operand_of value_then outcome in (let i : n ≡ refusal_number r = cc in rw i)
 
   -- an expression resolved, then read
@@ -309,10 +302,10 @@ module _ (s t : List ℕ) (e : Env) (p front tail rest : List ℕ) (we : WordEnv
     where
       go : (y : OperandOut) (u : WordValue × ℕ) (st1 : WordState) (a m : List ℕ) → seen_operand y ≡ yes u st1 a m → seen_expr (applied_to y (apply2 (operation_number op) (enc_v v) end)) ≡ seen_expr (resolved (Expr.Value (later end u.1) (WordExpr.Apply (operation_number op) 0 2 (enc_v v) u.0) st1) a m)
       go (operand (Operand.Value z n st2) b w) u st1 a m q = (let i : (z, n) ≡ u = cc in let j : st2 ≡ st1 = cc in let k : b ≡ a = cc in let l : w ≡ m = cc in rw (← i, j, k, l))
-      go (operand (Operand.No n) b w) u st1 a m q = (let z : ◌≡◌ {A = ℕ} 0 1 = cc in absurd (omega arith))
+      go (operand (Operand.No n) b w) u st1 a m q = cc
 
       stop : (y : OperandOut) (n : ℕ) → seen_operand y ≡ no n → seen_expr (applied_to y (apply2 (operation_number op) (enc_v v) end)) ≡ no n
-      stop (operand (Operand.Value z k st2) b w) n q = (let z : ◌≡◌ {A = ℕ} 0 1 = cc in absurd (omega arith))
+      stop (operand (Operand.Value z k st2) b w) n q = cc
       stop (operand (Operand.No k) b w) n q = (let i : k ≡ n = cc in rw i)
 
   -- one operand after the other
@@ -366,10 +359,10 @@ module _ (s t : List ℕ) (e : Env) (p front tail rest : List ℕ) (we : WordEnv
     where
       go : (y : OperandOut) (u : WordValue × ℕ) (st1 : WordState) (a m : List ℕ) → seen_operand y ≡ yes u st1 a m → seen_expr (applied_to y (apply1 (operation_number op))) ≡ seen_expr (resolved (Expr.Value u.1 (WordExpr.Apply (operation_number op) 0 1 u.0 absent) st1) a m)
       go (operand (Operand.Value z n st2) b w) u st1 a m q = (let i : (z, n) ≡ u = cc in let j : st2 ≡ st1 = cc in let k : b ≡ a = cc in let l : w ≡ m = cc in rw (← i, j, k, l))
-      go (operand (Operand.No n) b w) u st1 a m q = (let z : ◌≡◌ {A = ℕ} 0 1 = cc in absurd (omega arith))
+      go (operand (Operand.No n) b w) u st1 a m q = cc
 
       stop : (y : OperandOut) (n : ℕ) → seen_operand y ≡ no n → seen_expr (applied_to y (apply1 (operation_number op))) ≡ no n
-      stop (operand (Operand.Value z k st2) b w) n q = (let z : ◌≡◌ {A = ℕ} 0 1 = cc in absurd (omega arith))
+      stop (operand (Operand.Value z k st2) b w) n q = cc
       stop (operand (Operand.No k) b w) n q = (let i : k ≡ n = cc in rw i)
 
   later_second : (a b : ℕ) → a ≤ b → later a b ≡ b

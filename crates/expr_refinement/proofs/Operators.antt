@@ -59,7 +59,7 @@ all_coded i (o ∷ os) = coded i o && all_coded (suc i) os
 
 coded_at : (os : List PcodeOp) (i code : ℕ) (o : PcodeOp) → all_coded i os ≡ true → get_elem? os code ≡ some o → coded (i + code) o ≡ true
 unfolding all_coded
-coded_at [] i code o h q = let z : ◌≡◌ {A = ℕ} 0 1 = cc in absurd (omega arith)
+coded_at [] i code o h q = cc
 coded_at (x ∷ os) i zero o h q = let p : x ≡ o = cc in let r : i + 0 ≡ i = omega arith in rw (r, ← p) (and_true (coded i x) (all_coded (suc i) os) h).0
 coded_at (x ∷ os) i (suc code) o h q = let r : i + suc code ≡ suc i + code = omega arith in rw r (coded_at os (suc i) code o (and_true (coded i x) (all_coded (suc i) os) h).1 q)
 

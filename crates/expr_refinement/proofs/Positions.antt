@@ -75,7 +75,7 @@ module _ (s : List ℕ) (m : ℕ) where
           let k : drop q s ≡ drop next s = cc in
           let l = drop_same s q next b j k in
           record { val = w; is = rw l at f }
-      go (stopped r q e f) = let g : refused r ≡ parsed x (drop next s) = sym e ∙ h in let z : ◌≡◌ {A = ℕ} 0 1 = cc in absurd (omega arith)
+      go (stopped r q e f) = let g : refused r ≡ parsed x (drop next s) = sym e ∙ h in cc
 
   module _ (deep pos : ℕ) (x : PcodeExpr) (next : ℕ) (reads : expr_within m (suc deep) (drop pos s) ≡ parsed x (drop next s)) (inside : next ≤ length s) where
     pub starts : pos + 1 ≤ length s
@@ -221,7 +221,7 @@ Less {A} a b = (x : A) (t : List ℕ) → a ≡ parsed x t → b ≡ parsed x t
 less_on : {A B : Type 0} (a b : Parsed A) (g h : A → Read B) → Less a b → ((x : A) (u : List ℕ) → Less (g x u) (h x u)) → Less (on a g) (on b h)
 unfolding on
 less_on (parsed x u) b g h l k y t q = rw (l x u refl) (k x u y t q)
-less_on (refused r) b g h l k y t q = let z : ◌≡◌ {A = ℕ} 0 1 = cc in absurd (omega arith)
+less_on (refused r) b g h l k y t q = cc
 
 less_same : {A : Type 0} (a : Parsed A) → Less a a
 less_same a x t q = q

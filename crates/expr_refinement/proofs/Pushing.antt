@@ -146,7 +146,7 @@ module _ (s t : List ℕ) (e : Env) (front tail rest : List ℕ) (we : WordEnv) 
     where
       go : (b : Bool) → on e (require b too_many_temporaries e st) (λ _. λ e1 st1. on e1 (done (tt {0}) (with_sizing (sizes.with_temporaries (tmps st ++ (record { name = none; size = size } ∷ [])) st.sizing) st1)) λ _. λ e2 st2. done (local Kind.PcodeTmp (length (tmps st))) st2) ≡ done v u → u ≡ added st size
       go true q = let h : done (local Kind.PcodeTmp (length (tmps st))) (added st size) ≡ done v u = unfold require in q in cc
-      go false q = let h : stopped too_many_temporaries st.sizing.begun 0 ≡ done v u = unfold require in q in let z : ◌≡◌ {A = ℕ} 0 1 = cc in absurd (omega arith)
+      go false q = let h : stopped too_many_temporaries st.sizing.begun 0 ≡ done v u = unfold require in q in cc
 
   add_refines : (spare : ℕ) (st : State) → Spare spare tail → Stood e.section tail rest spare st → (size : Option ℕ) → Small size
       → Refines e.section front tail rest spare st enc_v (Sound e.section) (seen_tmp (acts e.section front tail rest st) (add_tmp (temps e.section front tail rest st) 65535 (or_none size) (word e.section front tail rest st))) (d.add_tmp none size e st)
@@ -248,7 +248,7 @@ module _ (s t : List ℕ) (e : Env) (front tail rest : List ℕ) (we : WordEnv) 
           let j : w ≡ u = cc in
           let m = k a w refl in
           rw (← i, ← j) (m.0, known w m.0.later.temporaries a m.1)
-      go (stopped r ordinal errors) k v u q = let z : ◌≡◌ {A = ℕ} 0 1 = cc in absurd (omega arith)
+      go (stopped r ordinal errors) k v u q = cc
 
   arg_refines : (spare : ℕ) (st : State) → Spare spare tail → Stood e.section tail rest spare st → (n : ℕ) (v : Value) → Sound e.section (count st) v
       → Refines e.section front tail rest spare st (λ _. tt {0}) (λ n (_ : Unit {0}). Unit {0}) (seen_pushed (push_op s t (acts e.section front tail rest st) (temps e.section front tail rest st) we 64 n 1 no_output (enc_v v) absent (word e.section front tail rest st))) (d.op_no_output Operation.Arg n (v ∷ []) e st)
@@ -273,7 +273,7 @@ module _ (s t : List ℕ) (e : Env) (front tail rest : List ℕ) (we : WordEnv) 
           let h : done (tt {0}) (with_action x st) ≡ done tt u = unfold require in q in
           let k = leb-true (length st.actions + 1 + length e.section.subtables) e.action_room p in
           (omega (arith, lent.builds, lent.action_room), cc)
-      go false p q = let h : stopped list_full st.sizing.begun 0 ≡ done (tt {0}) u = unfold require in q in let z : ◌≡◌ {A = ℕ} 0 1 = cc in absurd (omega arith)
+      go false p q = let h : stopped list_full st.sizing.begun 0 ≡ done (tt {0}) u = unfold require in q in cc
 
   push_refines : (spare : ℕ) (st : State) → Spare spare tail → Stood e.section tail rest (4 + spare) st → (x : SemanticAction) → length x.inputs ≤ 2 → SoundAction e.section (count st) x → places_label x ≡ false
       → Refines e.section front tail rest spare st (λ _. tt {0}) (λ n (_ : Unit {0}). Unit {0}) (seen_push (temps e.section front tail rest st) (push (acts e.section front tail rest st) (action_kind_number x.kind) (operation_word (operation_of x.kind)) x.number (length x.inputs) (output_of (operation_of x.kind) x.output) (first_of x.inputs) (second_of x.inputs) (word e.section front tail rest st))) (d.push x e st)

@@ -203,10 +203,10 @@ module _ (s t : List ℕ) (e : Env) (front tail rest : List ℕ) (we : WordEnv) 
     where
       go : (y : Listed Pushed) (z : Unit {0}) (st1 : WordState) (b u : List ℕ) → seen_push m y ≡ yes z st1 b u → seen_read (pushed_out y (enc_v v) m) ≡ seen_read (read (Read.Value (enc_v v) st1) b u)
       go (listed (Pushed.Done st2) c) z st1 b u h = (let p : st2 ≡ st1 = cc in let q : c ≡ b = cc in let r : m ≡ u = cc in rw (p, q, r))
-      go (listed (Pushed.No k) c) z st1 b u h = (let q : ◌≡◌ {A = ℕ} 0 1 = cc in absurd (omega arith))
+      go (listed (Pushed.No k) c) z st1 b u h = cc
 
       stop : (y : Listed Pushed) (k : ℕ) → seen_push m y ≡ no k → seen_read (pushed_out y (enc_v v) m) ≡ no k
-      stop (listed (Pushed.Done st2) c) k h = (let q : ◌≡◌ {A = ℕ} 0 1 = cc in absurd (omega arith))
+      stop (listed (Pushed.Done st2) c) k h = cc
       stop (listed (Pushed.No j) c) k h = (let p : j ≡ k = cc in rw p)
 
   pub read_address_lem : (st : State) → Stands st → (base : Value) (size : Option ℕ) (to : Option Value) → Sound e.section (count st) base → Small size → EachOption (Sound e.section (count st)) to
@@ -244,7 +244,7 @@ module _ (s t : List ℕ) (e : Env) (front tail rest : List ℕ) (we : WordEnv) 
       go c (listed out b) u st2 a m q = (let p : out.v ≡ u = cc in let r : out.st ≡ st2 = cc in let i : c ≡ a = cc in let j : b ≡ m = cc in rw (p, r, i, j))
 
       stop : (c : List ℕ) (x : Listed Stated) (k : ℕ) → seen_stated c x ≡ no k → seen_read (load_to s t c we (enc_v pointer) x) ≡ no k
-      stop c (listed out b) k q = (let z : ◌≡◌ {A = ℕ} 0 1 = cc in absurd (omega arith))
+      stop c (listed out b) k q = cc
 
   abbrev loading : Value → ℕ → Value → SemanticAction
   loading pointer size out = record { kind = ActionKind.LoadRegister; number = size; inputs = pointer ∷ []; output = some out }
@@ -271,7 +271,7 @@ module _ (s t : List ℕ) (e : Env) (front tail rest : List ℕ) (we : WordEnv) 
       go c (listed out b) u st2 a m q = (let p : out.v ≡ u = cc in let r : out.st ≡ st2 = cc in let i : c ≡ a = cc in let j : b ≡ m = cc in rw (p, r, i, j))
 
       stop : (c : List ℕ) (x : Listed Stated) (k : ℕ) → seen_stated c x ≡ no k → seen_read (load_register_to c (enc_v pointer) size x) ≡ no k
-      stop c (listed out b) k q = (let z : ◌≡◌ {A = ℕ} 0 1 = cc in absurd (omega arith))
+      stop c (listed out b) k q = cc
 
   -- what an expression means, in the output where one is given
   pub read_value_lem : (st : State) → Stands st → (x : ExprValue) (to : Option Value) → SoundX e.section (count st) x → EachOption (Sound e.section (count st)) to

@@ -1,14 +1,14 @@
 -- What a name means: a parameter's slot, the two instruction addresses, a local of the scope's list or of the table, a
 -- global register or bit range, each as the definition has it.
 use Prim.Native.Nat.{ℕ, suc, ◌+◌, ◌-◌, ◌*◌, ◌/◌, ◌%◌, ◌≤◌, ◌<◌}
-use mathlib.Core.Path.{◌≡◌, refl, sym, ◌∙◌, subst}
+use mathlib.Core.Path.{◌≡◌, refl, sym, ◌∙◌}
 use mathlib.Core.Bool.{Bool, true, false}
 use mathlib.Core.List.{List, [], ◌∷◌}
 use mathlib.Core.Option.{Option, none, some}
 use native.Mathlib.Omega.{arith}
 use lib.ListN.{length, get_or, get_elem?}
 use lib.Dec.{eqb, ltb}
-use borrow.Author.Tests.{eqb-true, eqb-false, ne_eqb, eq-eqb, lt-ltb}
+use borrow.Author.Tests.{ne_eqb, lt-ltb}
 use Rattle.prelude.specs.Base as definition
 use Rattle.prelude.specs.Base.{◌or◌, and_then, or_else, first, when◌then◌else◌}
 use Rattle.definition.specs.Refusals.{refusal_number}
@@ -24,7 +24,9 @@ use Rattle.list_values.specs.Sizes.{entry}
 use Rattle.file_refinement.specs.Holds.{Holds, bit_range_at, symbol_word}
 use Rattle.definition_guarantee.proofs.Tests.{some_same}
 use Rattle.definition_guarantee.proofs.Globals.{place-below, FoundPlaced, found_placed}
-use Rattle.list_refinement.specs.Encoding.{Sound, Each}
+pub use Rattle.definition_guarantee.proofs.Entries.{find-each}
+pub use Rattle.list_refinement.proofs.Finishing.{test_sym as eqb_swap}
+use Rattle.list_refinement.specs.Encoding.{Sound}
 use Rattle.expr_scope.specs.declared.scope.ExprValue.{ExprValue as WordExpr}
 use Rattle.expr_scope.specs.Outcomes.{Meaning as WordMeaning}
 use Rattle.expr_terms.specs.Answers.{resolved}
@@ -35,13 +37,6 @@ use Rattle.expr_scope.specs.Symbols.{of_kind, symbol_of, lookup}
 use Rattle.expr_scope.specs.Scopes.{find_param, bits_at, bit_range, found_or, param_or}
 use Rattle.expr_refinement.proofs.Answers.{acts, temps, word, Refines, refines_done, refines_stopped, seen_expr}
 use Rattle.expr_refinement.specs.Encoding.{enc_x, SoundX, count, Stood, Later, enc_m, enc_f, ParamsIn, Scoped, enc_symbol, BitRangesFit, SoundM}
-
-pub eqb_swap : (a b : ℕ) → eqb a b ≡ eqb b a
-eqb_swap a b = go (eqb b a) refl
-  where
-    go : (c : Bool) → eqb b a ≡ c → eqb a b ≡ c
-    go true h = eq-eqb a b (sym (eqb-true b a h))
-    go false h = ne_eqb a b (λ q. eqb-false b a h (sym q))
 
 -- what an option holds, as a meaning
 unfoldable pub means_or : Option ExprValue → WordMeaning → WordMeaning
@@ -73,15 +68,6 @@ scoped-later t p we from st l h = record {
 }
 
 -- Globals.
-
-pub find-each : {A : Type 0} (P : A → Type 0) (n : ℕ) (xs : List (ℕ × A)) (a : A) → Each (λ (x : ℕ × A). P x.1) xs → find n xs ≡ some a → P a
-unfolding find first base_opens
-find-each P n [] a h q = let z : ◌≡◌ {A = ℕ} 0 1 = cc in absurd (omega arith)
-find-each {A} P n (x ∷ xs) a h q = go (eqb n x.0) (find-each P n xs a h.1) q
-  where
-    go : (b : Bool) → (find n xs ≡ some a → P a) → (definition.when◌then◌else◌ b (some x.1) none) or (find n xs) ≡ some a → P a
-    go true f q = let r : x.1 ≡ a = cc in subst P r h.0
-    go false f q = f q
 
 word_parts : (k i : ℕ) → k < 8 → symbol_of (1 + k + 8 * i) ≡ of_kind k i
 unfolding symbol_of

@@ -103,10 +103,10 @@ module _ (s t : List ℕ) (e : Env) (front tail rest : List ℕ) (we : WordEnv) 
     where
       go : (y : ReadOut) (v : WordValue) (st1 : WordState) (a m : List ℕ) → seen_read y ≡ yes v st1 a m → seen_expr (expr_of y (unbound_then next)) ≡ seen_expr (resolved (Expr.Value next (WordExpr.Unbound v) st1) a m)
       go (read (Read.Value u st2) b w) v st1 a m q = (let i : u ≡ v = cc in let j : st2 ≡ st1 = cc in let k : b ≡ a = cc in let l : w ≡ m = cc in rw (i, j, k, l))
-      go (read (Read.No n) b w) v st1 a m q = (let z : ◌≡◌ {A = ℕ} 0 1 = cc in absurd (omega arith))
+      go (read (Read.No n) b w) v st1 a m q = cc
 
       stop : (y : ReadOut) (n : ℕ) → seen_read y ≡ no n → seen_expr (expr_of y (unbound_then next)) ≡ no n
-      stop (read (Read.Value u st2) b w) n q = (let z : ◌≡◌ {A = ℕ} 0 1 = cc in absurd (omega arith))
+      stop (read (Read.Value u st2) b w) n q = cc
       stop (read (Read.No k) b w) n q = (let i : k ≡ n = cc in rw i)
 
   pub slice_bits_lem : (st : State) → Stood e.section tail rest spare st → (from bits : ℕ) (x : ExprValue) → SoundX e.section (count st) x → from + bits ≤ 16384

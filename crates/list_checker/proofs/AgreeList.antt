@@ -15,6 +15,7 @@ use Rattle.definition.specs.Value.{Value, ActionKind, SemanticAction, operation_
 use Rattle.definition.specs.ActionList.{action_kind_number, operation_word, filled, action_words, list_words, places_label}
 use Rattle.definition.specs.End.{is_build, builds}
 use Rattle.definition.specs.Checker.{inputs_from, output_from, action_kind_numbered, action_from, actions_from, layout_fits, sizes_hold, places, labels_once, all_built, list_holds, check}
+use Rattle.list_checker.proofs.AgreeRow.{and_false}
 use Rattle.list_checker.specs.Action.{zeros, value_fit, inputs_fit, row_of, row_fit, operation_fit, head_fit, output_there, action_fit}
 use Rattle.list_checker.specs.Sweep as w
 use Rattle.list_checker.specs.Sweep.{noted, note_label, when_new, rows_fit, labels_new, builds_it, any_builds, all_built_by, list_fit}
@@ -88,10 +89,6 @@ reads (suc n) ws found e = go (λ rest q. reads n (drop 24 ws) rest q) (action_f
     go ih none p y q e = cc
     go ih (some a) p none q e = cc
     go ih (some a) p (some rest) q e = let z : (a ∷ rest) ≡ found = cc in rw (← z) (more p (ih rest q))
-
-and_false : (b : Bool) → (b && false) ≡ false
-and_false true = refl
-and_false false = refl
 
 unread : (t s p n : ℕ) (ws : List ℕ) → 24 * n ≤ length ws → actions_from n ws ≡ none → rows_fit t s p n ws ≡ false
 unfolding actions_from and_then rows_fit or_else

@@ -175,7 +175,7 @@ regroup true false true f z = refl
 regroup true true false f z = refl
 regroup true true true f z = refl
 
-and_false : (b : Bool) → (b && false) ≡ false
+pub and_false : (b : Bool) → (b && false) ≡ false
 and_false true = refl
 and_false false = refl
 

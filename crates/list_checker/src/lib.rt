@@ -60,7 +60,6 @@ struct Counts {
     pointer: u64,
 }
 
-#[tactic(auto, unfolding(crate::specs::Action::zeros))]
 fn zeros(words: &[u64]) -> bool
     ensures { result ≡ zeros words.now }
 {

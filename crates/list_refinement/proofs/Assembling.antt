@@ -17,6 +17,7 @@ use Rattle.definition.specs.End as d
 use Rattle.definition.specs.End.{is_build, builds}
 use Rattle.definition.specs.ActionList.{input_words, action_kind_number, operation_word, filled, action_words, list_words}
 use Rattle.definition.proofs.Openers.{base_opens}
+use Rattle.definition_guarantee.proofs.RightAccepted.{zeros as filled-zeros}
 use Rattle.list_values.specs.Base.{Listed, listed, then_l}
 use Rattle.access.specs.Loops.{run}
 use Rattle.list_values.specs.Values.{place}
@@ -250,11 +251,6 @@ move_from (x ∷ xs) p g q base to i b c m e h k =
     ∙ rw (append_assoc p (action_words x) (list_words xs))
 
 -- zeros behind
-
-filled-zeros : (n : ℕ) → filled n [] ≡ replicate n 0
-unfolding filled
-filled-zeros zero = refl
-filled-zeros (suc n) = ap (λ (l : List ℕ). 0 ∷ l) (filled-zeros n)
 
 filled_behind : (ws : List ℕ) (n m : ℕ) → n ≡ length ws + m → filled n ws ≡ ws ++ replicate m 0
 filled_behind ws n m e = rw (← filled-zeros m, ← filled_append ws [] n m e, append-nil ws)

@@ -67,12 +67,10 @@ bind_end {A} {B} e words more (listed f a) o g k h i = go (eqb f.refusal 0) refl
         rw (u, v) (i y s refl))
     go true p (stopped r ordinal errors) h i =
         let q : ended f.z a ≡ refused_end (refusal_number r) = unfold ending in h in
-        let z : ◌≡◌ {A = ℕ} 0 1 = cc in
-        absurd (omega arith)
+        cc
     go false p (done y s) h i =
         let q : refused_end f.refusal ≡ ended (enc_z s.sizing) (words y) = unfold ending in h in
-        let z : ◌≡◌ {A = ℕ} 0 1 = cc in
-        absurd (omega arith)
+        cc
     go false p (stopped r ordinal errors) h i = unfold on seen_end ending in rw p (unfold ending in h)
 
 -- a subpiece
@@ -85,7 +83,7 @@ pub record Piece (number : ℕ) (inputs : List Value) (output : Option Value) : 
   pub an_output : output ≡ some result
   pub small : number < 65536
 
-test_sym : (m n : ℕ) → eqb m n ≡ eqb n m
+pub test_sym : (m n : ℕ) → eqb m n ≡ eqb n m
 test_sym m n = go (eqb m n) refl
   where
     go : (b : Bool) → eqb m n ≡ b → b ≡ eqb n m
@@ -258,15 +256,14 @@ module _ (e : Env) (u : State) where
           (cc, sym (ap (λ (a : SemanticAction). a.kind) c))
       then_inputs n (stopped r ordinal errors) p h =
           let k : stopped r ordinal errors ≡ done y q = unfold on in h in
-          let z : ◌≡◌ {A = ℕ} 0 1 = cc in
-          absurd (omega arith)
+          cc
 
       go : (z : Option ℕ) → on e (expect subpiece_size z e u)
           (λ size. λ e s. on e (sliced_inputs x.number size x.inputs e s) λ inputs. λ e s. done
           (record { kind = ActionKind.Op Operation.Copy; number = 0; inputs = inputs; output = x.output }) s) ≡ done y q
           → (q ≡ u) × (y.kind ≡ ActionKind.Op Operation.Copy)
       go none h = let k : stopped subpiece_size u.sizing.begun 0
-          ≡ done y q = unfold expect on in h in let z : ◌≡◌ {A = ℕ} 0 1 = cc in absurd (omega arith)
+          ≡ done y q = unfold expect on in h in cc
       go (some n) h = then_inputs n (sliced_inputs x.number n x.inputs e u) refl (unfold expect on in h)
 
 -- what a finished list leaves
@@ -453,7 +450,7 @@ module _ (e : Env) (s t : List ℕ) (holds : SizesHold s t e.section) (rest : Li
               built = λ i. rw (b i, t.built i);
             })
         then_rest y r a b (stopped m ordinal errors) p rec h = let k : stopped m ordinal errors
-            ≡ done ys q = unfold on in h in let z : ◌≡◌ {A = ℕ} 0 1 = cc in absurd (omega arith)
+            ≡ done ys q = unfold on in h in cc
 
         go : (o : Outcome SemanticAction) → d.finish_op (operation_of x.kind) x e u ≡ o
             → on e o (λ b. λ e s. on e (d.finish_actions xs e s) λ bs. λ e s. done (b ∷ bs) s) ≡ done ys q
@@ -463,4 +460,4 @@ module _ (e : Env) (s t : List ℕ) (holds : SizesHold s t e.section) (rest : Li
             let a = finish-op-done u same x f.0 x.kind refl y r p in
             then_rest y r a.0 a.1 (d.finish_actions xs e r) refl (rec y r (a.0.temporaries ∙ same)) (unfold on in h)
         go (stopped m ordinal errors) p h rec = let k : stopped m ordinal errors
-            ≡ done ys q = unfold on in h in let z : ◌≡◌ {A = ℕ} 0 1 = cc in absurd (omega arith)
+            ≡ done ys q = unfold on in h in cc

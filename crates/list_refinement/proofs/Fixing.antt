@@ -1,5 +1,5 @@
 -- The sizes fixed at the end: a value's, and those of an action's inputs and output, within its words.
-use Prim.Native.Nat.{ℕ, zero, suc, ◌+◌, ◌-◌, ◌*◌, ◌%◌, ◌^◌, ◌≤◌, ◌<◌}
+use Prim.Native.Nat.{ℕ, suc, ◌+◌, ◌-◌, ◌*◌, ◌%◌, ◌^◌, ◌≤◌, ◌<◌}
 use mathlib.Core.Path.{◌≡◌, refl, ◌∙◌, ap}
 use mathlib.Core.Bool.{Bool, true, false}
 use mathlib.Core.List.{List, [], ◌∷◌, ◌++◌, append_assoc}
@@ -31,6 +31,7 @@ use Rattle.list_refinement.proofs.Settled.{size_is, known_small, error_is}
 use Rattle.list_refinement.proofs.Focus.{words_of}
 use Rattle.list_refinement.proofs.Shares.{falls_is}
 use Rattle.definition_guarantee.proofs.Words.{kind_small}
+pub use Rattle.definition_guarantee.proofs.Words.{filled_append}
 
 -- what fixing leaves: the temporaries as they were, and an error more at most
 pub record AfterFix (cost : ℕ) (z y : Sizing) : Type 0 where
@@ -127,12 +128,6 @@ input_length : (us : List Value) → length (input_words us) ≡ 2 * length us
 unfolding input_words value_words
 input_length [] = refl
 input_length (u ∷ us) = omega (arith, input_length us)
-
-pub filled_append : (xs ys : List ℕ) (n m : ℕ) → n ≡ length xs + m → filled n (xs ++ ys) ≡ xs ++ filled m ys
-unfolding filled
-filled_append [] ys n m e = let k : n ≡ m = omega arith in rw k
-filled_append (x ∷ xs) ys zero m e = absurd (omega arith)
-filled_append (x ∷ xs) ys (suc n) m e = ap (λ (l : List ℕ). x ∷ l) (filled_append xs ys n m (omega arith))
 
 -- an action with other inputs
 abbrev pub with_inputs : List Value → SemanticAction → SemanticAction

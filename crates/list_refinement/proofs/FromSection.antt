@@ -18,9 +18,10 @@ use Rattle.access.specs.Le.{le16}
 use Rattle.list_values.specs.Sizes.{entry, list_size, export_size_of}
 use Rattle.file_refinement.specs.Holds.{absent_at, register_at, table_at, field_at, subtable_at, Holds}
 use Rattle.definition_guarantee.proofs.Layouts.{SmallSection}
+use Rattle.definition_guarantee.proofs.Kept.{option_small}
 use Rattle.list_refinement.specs.Encoding.{SizesHold}
 
-absent-word : (s : List ℕ) (p : ℕ) → or_none (absent_at s p) ≡ le16 s p
+pub absent-word : (s : List ℕ) (p : ℕ) → or_none (absent_at s p) ≡ le16 s p
 unfolding or_none base_opens
 absent-word s p = go (eqb (le16 s p) 65535) refl
   where
@@ -47,11 +48,6 @@ small_at (some a) f h = go (f a) refl
     go : (y : Option ℕ) → f a ≡ y → or_else 0 y < 65535
     go none e = omega arith
     go (some n) e = h a n refl e
-
-option_small : (y : Option ℕ) → ((n : ℕ) → y ≡ some n → n < 65535) → or_else 0 y < 65535
-unfolding or_else
-option_small none h = omega arith
-option_small (some n) h = h n refl
 
 -- Each subtable names one of the tables.
 pub record TablesNamed (sec : Section) : Type 0 where

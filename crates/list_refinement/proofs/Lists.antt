@@ -10,18 +10,14 @@ use Rattle.definition.specs.Operations.{Operation}
 use Rattle.definition.specs.Value.{Value, SemanticAction, operation_of}
 use Rattle.definition.specs.Ast.{Section}
 use Rattle.definition.specs.ActionList.{input_words, value_words, action_kind_number, operation_word, filled, action_words, list_words}
+pub use Rattle.definition_guarantee.proofs.RightAccepted.{list_length}
 use Rattle.list_values.specs.declared.value.Value.{Value as WordValue}
 use Rattle.access.specs.Loops.{run}
 use Rattle.list_values.specs.Values.{word, put_value}
 use Rattle.list_pushes.specs.Pushes.{write_operands, write_zeros, write_head, write}
 use Rattle.list_refinement.specs.Encoding.{enc_v, packed, actions_in, Sound, Each, EachOption, SoundAction, first_of, second_of, output_of}
-use Rattle.list_refinement.proofs.Operands.{word_is, words_of_lem, out_number, out_word, action_length}
+use Rattle.list_refinement.proofs.Operands.{word_is, words_of_lem, out_number, out_word}
 use Rattle.list_refinement.proofs.Focus.{words_of}
-
-pub list_length : (xs : List SemanticAction) → length (list_words xs) ≡ 24 * length xs
-unfolding list_words
-list_length [] = refl
-list_length (x ∷ xs) = length-append (action_words x) (list_words xs) ∙ omega (arith, action_length x, list_length xs)
 
 pub list_append : (xs ys : List SemanticAction) → list_words (xs ++ ys) ≡ list_words xs ++ list_words ys
 unfolding list_words

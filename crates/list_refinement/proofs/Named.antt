@@ -3,7 +3,6 @@ use Prim.Native.Nat.{ℕ, zero, suc, ◌<◌}
 use mathlib.Core.Path.{◌≡◌, refl, ap, subst}
 use mathlib.Core.Bool.{true}
 use mathlib.Core.List.{List, [], ◌∷◌}
-use native.Mathlib.Omega.{arith}
 use lib.ListN.{length}
 use lib.Dec.{ltb}
 use borrow.Author.Tests.{ltb-true}
@@ -69,11 +68,11 @@ section_named bytes rest sec h = go (stream_of bytes) h
   where
     held : (x : Parsed Section) → Reading SectionNamed x → x ≡ parsed sec rest → SectionNamed sec
     held (parsed a s) w e = let d : a ≡ sec = cc in subst SectionNamed d w
-    held (refused r) w e = let z : ◌≡◌ {A = ℕ} 0 1 = cc in absurd (omega arith)
+    held (refused r) w e = cc
 
     go : (x : Parsed (List ℕ)) → on x (λ stream _. read_section stream) ≡ parsed sec rest → SectionNamed sec
     go (parsed stream s) e = held (read_section stream) (reads_section.reads stream) e
-    go (refused r) e = let z : ◌≡◌ {A = ℕ} 0 1 = cc in absurd (omega arith)
+    go (refused r) e = cc
 
 pub tables-named : (sec : Section) → SectionNamed sec → TablesNamed sec
 tables-named sec w = record { table = λ i x e. each_at (λ (x : Subtable). x.table < length sec.tables) sec.subtables i x w.subtables e }

@@ -1,5 +1,5 @@
 -- An operand within its action's 24 words: it is read as the value that it is, and setting its size there sets the value's.
-use Prim.Native.Nat.{ℕ, zero, suc, ◌+◌, ◌*◌, ◌/◌, ◌%◌, ◌^◌, ◌≤◌, ◌<◌}
+use Prim.Native.Nat.{ℕ, ◌+◌, ◌*◌, ◌/◌, ◌%◌, ◌^◌, ◌≤◌, ◌<◌}
 use mathlib.Core.Path.{◌≡◌, refl, ◌∙◌, ap}
 use mathlib.Core.List.{List, [], ◌∷◌, ◌++◌}
 use mathlib.Core.Option.{Option, none, some}
@@ -14,13 +14,11 @@ use Rattle.list_values.specs.Values.{value_of, word, value_at, put_size}
 use Rattle.list_refinement.specs.Encoding.{enc_v, packed}
 use Rattle.list_refinement.proofs.Framing.{value_in, size_in}
 use Rattle.definition_guarantee.proofs.Words.{kind_small, word_kind, word-offset}
+pub use Rattle.definition_guarantee.proofs.Words.{filled_length}
+pub use Rattle.definition_guarantee.proofs.Words.{action_length}
+pub use Rattle.definition_guarantee.proofs.Words.{size_word}
 
 -- values
-
-pub size_word : (z : Option ℕ) → or_else 0 z < 65535 → or_none z ≤ 65535
-unfolding or_none or_else
-size_word none h = omega arith
-size_word (some n) h = omega arith
 
 word_top : (k off z : ℕ) → k < 8 → off ≤ 65535 → (k + 256 * off + 2 ^ 24 * z) / 16777216 ≡ z
 word_top k off z h j = omega arith
@@ -66,12 +64,6 @@ output-words o (some v) rest = refl
 output-words (some op) none rest = refl
 output-words none none rest = refl
 
-pub filled_length : (n : ℕ) (ws : List ℕ) → length (filled n ws) ≡ n
-unfolding filled
-filled_length zero ws = refl
-filled_length (suc n) [] = ap suc (filled_length n [])
-filled_length (suc n) (w ∷ ws) = ap suc (filled_length n ws)
-
 pub words_of_lem : (x : SemanticAction) → action_words x
     ≡ action_kind_number x.kind ∷ operation_word (operation_of x.kind) ∷ x.number ∷ length x.inputs ∷ out_number x.output ∷ out_word
     (operation_of x.kind) x.output ∷ filled 18 (input_words x.inputs)
@@ -85,7 +77,7 @@ operand_at in1 = 8
 operand_at out = 4
 
 absent_value : {A : Type 0} {v : Value} → none ≡ some v → A
-absent_value e = let z : ◌≡◌ {A = ℕ} 0 1 = cc in absurd (omega arith)
+absent_value e = cc
 
 module _ (v : Value) (h : v.offset ≤ 65535) where
   module _ (j : or_else 0 v.size < 65535) where
@@ -154,10 +146,6 @@ module _ (v : Value) (h : v.offset ≤ 65535) where
         (second_sized _ _ _ _ _ _ x.inputs q)
     operand-sized out x q = rw (words_of_lem x, words_of_lem (put out (truncate n v) x))
         (out_sized _ _ _ _ (operation_of x.kind) x.output (filled 18 (input_words x.inputs)) q)
-
-pub action_length : (x : SemanticAction) → length (action_words x) ≡ 24
-unfolding filled
-action_length x = rw (words_of_lem x) (omega (arith, filled_length 18 (input_words x.inputs)))
 
 operand-inside : (p : Operand) → operand_at p + 1 < 24
 operand-inside in0 = omega arith

@@ -227,7 +227,7 @@ module _ (e : Env) (s : State) (front tail rest : List ℕ) (lent : Lent e front
             }),
           )
       go false p q = let h : stopped list_full s.sizing.begun 0
-          ≡ done (tt {0}) u = unfold require in q in let z : ◌≡◌ {A = ℕ} 0 1 = cc in absurd (omega arith)
+          ≡ done (tt {0}) u = unfold require in q in cc
 
   -- an operation, sized by its rule
   module _ (stream table : List ℕ) (holds : SizesHold stream table e.section) (we : WordEnv)
@@ -337,8 +337,7 @@ module _ (e : Env) (s : State) (front tail rest : List ℕ) (lent : Lent e front
                 )
             go false p q =
                 let h : stopped list_full updated.1.begun 0 ≡ done a u = unfold require in q in
-                let z : ◌≡◌ {A = ℕ} 0 1 = cc in
-                absurd (omega arith)
+                cc
 
     -- with an output, and the output as its rule left it
     module _ (to : Value) where
@@ -465,8 +464,7 @@ module _ (e : Env) (s : State) (front tail rest : List ℕ) (lent : Lent e front
           })
       go false p q =
           let h : stopped too_many_temporaries s.sizing.begun 0 ≡ done v u = unfold require in q in
-          let z : ◌≡◌ {A = ℕ} 0 1 = cc in
-          absurd (omega arith)
+          cc
 
   pub output-done : (size : Option ℕ) (to : Option Value) → or_else 0 size < 65535
       → EachOption (Sound e.section (length s.sizing.temporaries)) to → (v : Value) (u : State) → d.output_or size to e s ≡ done v u
@@ -570,7 +568,7 @@ module _ (e : Env) (s : State) (front tail rest : List ℕ) (lent : Lent e front
           result w f none g = unfold or_else in f
           result w f (some z) g = unfold or_else in g
       pushed-done w r m (stopped z ordinal errors) p h = let k : stopped z ordinal errors
-          ≡ done v u = unfold on in h in let z : ◌≡◌ {A = ℕ} 0 1 = cc in absurd (omega arith)
+          ≡ done v u = unfold on in h in cc
 
       go : (o : Outcome Value) → d.output_or none to e s ≡ o
           → on e o (λ w. λ e r. on e (d.push_op operation number inputs (some w) e r) λ a. λ e u. done (or_else w a.output) u) ≡ done v u
@@ -578,4 +576,4 @@ module _ (e : Env) (s : State) (front tail rest : List ℕ) (lent : Lent e front
       go (done w r) p h = pushed-done w r (output-done e s front tail rest lent stands none to (unfold or_else in omega arith) given w
           r p) (d.push_op operation number inputs (some w) e r) refl (unfold on in h)
       go (stopped z ordinal errors) p h = let k : stopped z ordinal errors
-          ≡ done v u = unfold on in h in let z : ◌≡◌ {A = ℕ} 0 1 = cc in absurd (omega arith)
+          ≡ done v u = unfold on in h in cc

@@ -67,7 +67,7 @@ absent_given : (sec : Section) (n : ℕ) (p : Operand) (x : SemanticAction) (z :
     → set_given sec n p y x z ≡ (x, z)
 unfolding set_given is_some
 absent_given sec n p x z none e = refl
-absent_given sec n p x z (some v) e = let q : ◌≡◌ {A = ℕ} 0 1 = cc in absurd (omega arith)
+absent_given sec n p x z (some v) e = cc
 
 absent_set : (sec : Section) (n : ℕ) (p : Operand) (x : SemanticAction) (z : Sizing) → has p x ≡ false → d.set_operand sec n p x z ≡ (x, z)
 unfolding d.set_operand

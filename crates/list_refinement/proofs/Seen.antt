@@ -3,7 +3,6 @@
 use Prim.Native.Nat.{ℕ}
 use mathlib.Core.Path.{◌≡◌, refl, ◌∙◌}
 use mathlib.Core.List.{List}
-use native.Mathlib.Omega.{arith}
 use lib.ListN.{length}
 use Rattle.definition.specs.Refusals.{refusal_number}
 use Rattle.definition.specs.Walk.{State, Env, Outcome, done, stopped, on, Walk}
@@ -73,8 +72,8 @@ module _ (front tail rest : List ℕ) where
         let r : a ≡ actions_of s = cc in
         let t : m ≡ tmps_of s = cc in
         rw (p, q, r, t) (i b s refl)
-    bind_read enc (read (Read.Value v st) a m) (stopped r ordinal errors) f g h j i = let z : ◌≡◌ {A = ℕ} 0 1 = cc in absurd (omega arith)
-    bind_read enc (read (Read.No n) a m) (done b s) f g h j i = let z : ◌≡◌ {A = ℕ} 0 1 = cc in absurd (omega arith)
+    bind_read enc (read (Read.Value v st) a m) (stopped r ordinal errors) f g h j i = cc
+    bind_read enc (read (Read.No n) a m) (done b s) f g h j i = cc
     bind_read enc (read (Read.No n) a m) (stopped r ordinal errors) f g h j i = j n a m ∙ (let p : n ≡ refusal_number r = cc in rw p)
 
     pub bind_pushed : (x : PushedOut) (o : Outcome A) (f : WordState → List ℕ → List ℕ → R) (g : ℕ → List ℕ → List ℕ → R)
@@ -86,8 +85,8 @@ module _ (front tail rest : List ℕ) where
         let r : a ≡ actions_of s = cc in
         let t : m ≡ tmps_of s = cc in
         rw (q, r, t) (i b s refl)
-    bind_pushed (pushed (Pushed.Done st) a m) (stopped r ordinal errors) f g h j i = let z : ◌≡◌ {A = ℕ} 0 1 = cc in absurd (omega arith)
-    bind_pushed (pushed (Pushed.No n) a m) (done b s) f g h j i = let z : ◌≡◌ {A = ℕ} 0 1 = cc in absurd (omega arith)
+    bind_pushed (pushed (Pushed.Done st) a m) (stopped r ordinal errors) f g h j i = cc
+    bind_pushed (pushed (Pushed.No n) a m) (done b s) f g h j i = cc
     bind_pushed (pushed (Pushed.No n) a m) (stopped r ordinal errors) f g h j i = j n a m ∙ (let p : n ≡ refusal_number r = cc in rw p)
 
     pub bind_tmp : (enc : A → WordValue) (actions : List ℕ) (x : Listed Read) (o : Outcome A) (f : WordValue → WordState → List ℕ → R)
@@ -102,9 +101,8 @@ module _ (front tail rest : List ℕ) where
         let r : actions ≡ actions_of s = cc in
         let t : m ≡ tmps_of s = cc in
         rw (p, q, t) (i b s refl r)
-    bind_tmp enc actions (listed (Read.Value v st) m) (stopped r ordinal errors) f g h j i = let z : ◌≡◌ {A = ℕ} 0 1 = cc in absurd
-        (omega arith)
-    bind_tmp enc actions (listed (Read.No n) m) (done b s) f g h j i = let z : ◌≡◌ {A = ℕ} 0 1 = cc in absurd (omega arith)
+    bind_tmp enc actions (listed (Read.Value v st) m) (stopped r ordinal errors) f g h j i = cc
+    bind_tmp enc actions (listed (Read.No n) m) (done b s) f g h j i = cc
     bind_tmp enc actions (listed (Read.No n) m) (stopped r ordinal errors) f g h j i = j n m ∙ (let p : n ≡ refusal_number r = cc in rw p)
 
     pub bind_push : (tmps : List ℕ) (x : Listed Pushed) (o : Outcome A) (f : WordState → List ℕ → R) (g : ℕ → List ℕ → R)
@@ -117,6 +115,6 @@ module _ (front tail rest : List ℕ) where
         let r : a ≡ actions_of s = cc in
         let t : tmps ≡ tmps_of s = cc in
         rw (q, r) (i b s refl t)
-    bind_push tmps (listed (Pushed.Done st) a) (stopped r ordinal errors) f g h j i = let z : ◌≡◌ {A = ℕ} 0 1 = cc in absurd (omega arith)
-    bind_push tmps (listed (Pushed.No n) a) (done b s) f g h j i = let z : ◌≡◌ {A = ℕ} 0 1 = cc in absurd (omega arith)
+    bind_push tmps (listed (Pushed.Done st) a) (stopped r ordinal errors) f g h j i = cc
+    bind_push tmps (listed (Pushed.No n) a) (done b s) f g h j i = cc
     bind_push tmps (listed (Pushed.No n) a) (stopped r ordinal errors) f g h j i = j n a ∙ (let p : n ≡ refusal_number r = cc in rw p)

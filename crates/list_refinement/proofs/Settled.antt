@@ -16,6 +16,7 @@ use Rattle.definition.specs.Sizes as d
 use Rattle.definition.specs.Sizes.{Operand, in0, in1, out, at, put, Sizing, set_tmp_size, set_size}
 use Rattle.definition.specs.ActionList.{or_none, temporary_word}
 use Rattle.definition.proofs.Openers.{base_opens}
+pub use Rattle.definition_guarantee.proofs.Tests.{each_at}
 use Rattle.list_values.specs.declared.sizes.Sizing.{Sizing as WordSizing}
 use Rattle.list_values.specs.Base.{Listed, listed}
 use Rattle.list_values.specs.Sizes.{tmp_size, listed_size, size_of_local, size_of, sum_of_errors, recorded, error, size_temporary, settled}
@@ -50,7 +51,7 @@ tmp-get rest (t ∷ ts) (suc i) h f = tmp-get rest ts i (omega arith) f.1
 tmp_set : (rest : List ℕ) (ts : List Temporary) (i n : ℕ) (t : Temporary) → get_elem? ts i ≡ some t → Each SoundTmp ts → n < 65535
     → set (map temporary_word ts ++ rest) i (resized n (get_or (map temporary_word ts ++ rest) i 0))
     ≡ map temporary_word (set ts i (record { name = t.name; size = some n })) ++ rest
-tmp_set rest [] i n t e f h = let z : ◌≡◌ {A = ℕ} 0 1 = cc in absurd (omega arith)
+tmp_set rest [] i n t e f h = cc
 tmp_set rest (u ∷ ts) zero n t e f h = let q : u ≡ t = cc in rw (← q, tmp_resized n u f.0 h)
 tmp_set rest (u ∷ ts) (suc i) n t e f h = ap (λ (l : List ℕ). temporary_word u ∷ l) (tmp_set rest ts i n t e f.1 h)
 
@@ -63,11 +64,6 @@ pub each_set : {A : Type 0} (P : A → Type 0) (xs : List A) (i : ℕ) (x : A) �
 each_set P [] i x f g = tt
 each_set P (y ∷ xs) zero x f g = (g, f.1)
 each_set P (y ∷ xs) (suc i) x f g = (f.0, each_set P xs i x f.1 g)
-
-pub each_at : {A : Type 0} (P : A → Type 0) (xs : List A) (i : ℕ) (x : A) → Each P xs → get_elem? xs i ≡ some x → P x
-each_at P [] i x h e = let z : ◌≡◌ {A = ℕ} 0 1 = cc in absurd (omega arith)
-each_at P (y ∷ xs) zero x h e = let d : y ≡ x = cc in subst P d h.0
-each_at P (y ∷ xs) (suc i) x h e = each_at P xs i x h.1 e
 
 -- errors
 
@@ -248,7 +244,7 @@ pub record Ready (sec : Section) (room : ℕ) (x : SemanticAction) (z : Sizing) 
   pub errors : length z.errors + room < 2 ^ 64
 
 option_at : {A : Type 0} (P : A → Type 0) (x : Option A) (a : A) → EachOption P x → x ≡ some a → P a
-option_at P none a f e = let z : ◌≡◌ {A = ℕ} 0 1 = cc in absurd (omega arith)
+option_at P none a f e = cc
 option_at P (some b) a f e = let d : b ≡ a = cc in subst P d f
 
 pub operand_sound : {sec : Section} {n : ℕ} (p : Operand) (x : SemanticAction) (v : Value) → SoundAction sec n x → at p x ≡ some v
@@ -261,7 +257,7 @@ operand_sound {sec} {n} out x v f e = option_at (Sound sec n) x.output v f.outpu
 pub present : {A : Type 0} (y : Option A) → is_some y ≡ true → (a : A) × (y ≡ some a)
 unfolding is_some
 present (some a) e = (a, refl)
-present none e = let z : ◌≡◌ {A = ℕ} 0 1 = cc in absurd (omega arith)
+present none e = cc
 
 -- putting changes neither that nor what is sound
 
