@@ -1,16 +1,18 @@
 // Expressions, resolved by a walk over their prefix code: each part one level deeper.
-ghost use Rattle.std.specs.Prelude.{◌≡◌};
+ghost use Rattle.std.specs.Prelude.{◌≡◌, ◌+◌, ℕ, List, Ok, IfSome};
+ghost use Rattle.access.specs.Le.{le16};
+ghost use Rattle.expr_scope.specs.Scopes.{resolve_ident};
 ghost use Rattle.expr_scope.specs.Outcomes.{to_args};
 ghost use Rattle.expr_terms.specs.Outcomes.{to_expr, to_operand};
-ghost use Rattle.expr_terms.specs.Answers.{resolved, operand, passed};
-ghost use Rattle.expr_resolver.specs.Expressions.{local_address, address_of, atom, operation_of, later, skip_expr, operands_of, part_at, with_part, expr_value, part, resolve_op, call_inbuilt, resolve_args, user_op, resolve_call, resolve_expr};
+ghost use Rattle.expr_terms.specs.Answers.{resolved, operand, passed, after};
+ghost use Rattle.expr_resolver.specs.Expressions.{means_at, local_address, address_of, atom, operation_of, later, skip_expr, operands_of, part_at, with_part, expr_value, part, resolve_op, call_inbuilt, resolve_args, user_op, resolve_call, resolve_expr};
 
 use access::u16_in;
 use codes::refusal::Refusal;
 use codes::{NONE, expression, header, operation};
-use expr_reading::read::read_operand;
+use expr_reading::read::{constant, read_operand};
 use expr_scope::args::put_arg;
-use expr_scope::scope::{ExprValue, resolve_ident};
+use expr_scope::scope::{ExprValue, plain_local, resolve_ident};
 use expr_terms::address::resolve_address;
 use expr_terms::answers::{Operand, Resolved, after};
 use expr_terms::calls::{Callee, applied, call_user_op, callee_of, subpiece};
@@ -64,6 +66,26 @@ fn address_of(
     local_address(base, u16_in(section.stream, pos, 1), after(pos, 5), state)
 }
 
+// The name at a position.
+#[tactic(auto, unfolding(crate::specs::Expressions::means_at))]
+fn name_at(
+    section: Section<'_>,
+    scope: &[u64],
+    pos: usize,
+    env: Env,
+    state: State,
+) -> Result<Resolved, Refusal>
+    ensures { to_expr result ≡ means_at (resolve_ident section.entry.stream.now section.entry.table.now scope.now env (le16 section.entry.stream.now (pos + 1))) (after pos 3) state }
+{
+    let name = u16_in(section.stream, pos, 1);
+    let next = after(pos, 3);
+    let value = match plain_local(section, scope, env, name) {
+        Some(local) => ExprValue::Local(local),
+        None => resolve_ident(section, scope, env, name)?,
+    };
+    Ok(Resolved { next, value, state })
+}
+
 // A name, an integer or the address of a local.
 #[tactic(auto, unfolding(crate::specs::Expressions::atom, crate::specs::Expressions::means_at))]
 fn atom(
@@ -77,14 +99,7 @@ fn atom(
     ensures { to_expr result ≡ atom code section.entry.stream.now section.entry.table.now scope.now pos env state }
 {
     match code {
-        expression::IDENT => {
-            let value = resolve_ident(section, scope, env, u16_in(section.stream, pos, 1))?;
-            Ok(Resolved {
-                next: after(pos, 3),
-                value,
-                state,
-            })
-        }
+        expression::IDENT => name_at(section, scope, pos, env, state),
         expression::INTEGER => Ok(Resolved {
             next: after(pos, 9),
             value: ExprValue::Const {
@@ -226,6 +241,38 @@ fn with_part(
     }
 }
 
+// What stands at a position, where it is a plain local or an integer: reading it pushes nothing.
+fn plain_operand(
+    deep: u64,
+    section: Section<'_>,
+    scope: &[u64],
+    pos: usize,
+    env: Env,
+    state: State,
+) -> Option<Operand>
+    ensures { IfSome result (λ o. (a m : List ℕ) → operand (to_operand (Ok o)) a m ≡ expr_value (resolve_expr deep section.entry.stream.now section.entry.table.now scope.now env) section.entry.stream.now section.entry.table.now env pos a m state) }
+{
+    if deep == 0 {
+        return None;
+    }
+    match access::byte(section.stream, pos, 0) {
+        expression::IDENT => {
+            let value = plain_local(section, scope, env, u16_in(section.stream, pos, 1))?;
+            Some(Operand {
+                value,
+                next: after(pos, 3),
+                state,
+            })
+        }
+        expression::INTEGER => Some(Operand {
+            value: constant(access::u64_at(section.stream, after(pos, 1))),
+            next: after(pos, 9),
+            state,
+        }),
+        _ => None,
+    }
+}
+
 // An expression resolved, then read.
 #[cycle(call_inbuilt_expr_value_part_resolve_args_resolve_call_resolve_expr_resolve_op_user_op)]
 #[tactic(auto, unfolding(crate::specs::Expressions::expr_value, crate::specs::Expressions::value_then, expr_terms::specs::Answers::on_expr, expr_terms::specs::Answers::operand_of))]
@@ -241,6 +288,9 @@ pub fn expr_value(
 ) -> Result<Operand, Refusal>
     ensures { operand (to_operand result) actions.new temporaries.new ≡ expr_value (resolve_expr deep section.entry.stream.now section.entry.table.now scope.now env) section.entry.stream.now section.entry.table.now env pos actions.old temporaries.old state }
 {
+    if let Some(operand) = plain_operand(deep, section, scope, pos, env, state) {
+        return Ok(operand);
+    }
     let expr = resolve_expr(deep, section, scope, pos, env, actions, temporaries, state)?;
     let (value, state) = read_operand(section, actions, temporaries, env, expr.value, expr.state)?;
     Ok(Operand {

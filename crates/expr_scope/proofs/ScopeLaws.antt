@@ -46,10 +46,11 @@ is_found (Found.Is v) = 1
 is_found Found.Nothing = 0
 
 nothing_is : (v : Value) → Found.Nothing ≡ Found.Is v → ⊥
+unfolding is_found
 nothing_is v h = let z : ◌≡◌ {A = ℕ} 0 1 = ap is_found h in omega arith
 
 local_means : (x : Meaning) (v : Value) → local_of x ≡ Found.Is v → x ≡ Meaning.Means (ExprValue.Local v)
-unfolding local_of
+unfolding local_of value_in
 local_means (Meaning.Means (ExprValue.Local u)) v h = ap (λ w. Meaning.Means (ExprValue.Local w)) (ap (value_in u) h)
 local_means (Meaning.Means (ExprValue.Unbound u)) v h = absurd (nothing_is v h)
 local_means (Meaning.Means (ExprValue.Const n z)) v h = absurd (nothing_is v h)
@@ -63,7 +64,7 @@ local_means (Meaning.Wrong n) v h = absurd (nothing_is v h)
 plain_param : (k : ℕ) (p : List ℕ) (x : Meaning) (v : Value) → (when eqb k 0 then local_of x else Found.Nothing) ≡ Found.Is v → param_or k p x ≡ Meaning.Means (ExprValue.Local v)
 unfolding param_or
 plain_param zero p x v h = local_means x v h
-plain_param (suc k) p x v h = absurd (nothing_is v h)
+plain_param (suc k) p x v h = absurd (nothing_is v (rw (ne_eqb (suc k) 0 (λ z. omega arith)) at h))
 
 pub plain_means : (s t p : List ℕ) (e : Env) (name : ℕ) (v : Value) → Found.Is v ≡ plain_local s t p e name → resolve_ident s t p e name ≡ Meaning.Means (ExprValue.Local v)
 unfolding plain_local resolve_ident
