@@ -5,7 +5,7 @@ use crate::names::{Name, Names};
 use crate::values::{Size, Value};
 use codes::{NONE, action, action_kind, operation, value_kind};
 use listing_names::names::Symbol;
-use listing_names::operations::operation as name_of;
+use listing_names::operations::operation as operation_name;
 use std::fmt;
 
 // The second word of an output that is not there.
@@ -152,20 +152,24 @@ impl fmt::Display for Action<'_> {
                 write!(
                     f,
                     "  {output}{} {called}{inputs}",
-                    name_of(operation::PCODE_OP)
+                    operation_name(operation::PCODE_OP)
                 )
             }
             Action::Argument(number, inputs) => {
-                write!(f, "  {} {number}{inputs}", name_of(operation::ARG))
+                write!(f, "  {} {number}{inputs}", operation_name(operation::ARG))
             }
             Action::Load(output, access) => {
-                write!(f, "  {output}{} {access}", name_of(operation::LOAD))
+                write!(f, "  {output}{} {access}", operation_name(operation::LOAD))
             }
             Action::Store(access, value) => {
-                write!(f, "  {} {access}, {value}", name_of(operation::STORE))
+                write!(
+                    f,
+                    "  {} {access}, {value}",
+                    operation_name(operation::STORE)
+                )
             }
             Action::Branch(condition, hint, target) => {
-                let name = name_of(operation::BRANCH);
+                let name = operation_name(operation::BRANCH);
                 write!(
                     f,
                     "  {}{name} {hint} {target}{condition}",
@@ -173,7 +177,7 @@ impl fmt::Display for Action<'_> {
                 )
             }
             Action::LabelBranch(condition, label) => {
-                let name = name_of(operation::PCODE_BRANCH);
+                let name = operation_name(operation::PCODE_BRANCH);
                 write!(f, "  {}{name} {label}{condition}", condition.letter())
             }
             Action::Label(label) => write!(f, "{label}"),
@@ -266,7 +270,11 @@ impl<'a> Words<'a> {
                 self.inputs(", "),
             ),
             operation::ARG => Action::Argument(self.number(), self.inputs(", ")),
-            _ => Action::Plain(self.maybe_output(), name_of(number), self.inputs(" ")),
+            _ => Action::Plain(
+                self.maybe_output(),
+                operation_name(number),
+                self.inputs(" "),
+            ),
         }
     }
 

@@ -5,7 +5,7 @@
 use accepted::Accepted;
 use codes::refusal::Refusal;
 use codes::{NONE, table};
-use listing_names::names::Section;
+use list_values::section::Section;
 use mizgalon::Checked;
 use names::Names;
 use refusals::{Reason, Refused};
@@ -36,7 +36,7 @@ const TEMPORARIES: usize = 512;
 
 // The stream of a file, unless the check of a block refuses it.
 fn stream_of(alloc: Global, file: &[u8]) -> Result<Option<Vec<u8>>, AllocError> {
-    if file_blocks::blocks::check_blocks(file) != 0 {
+    if file_blocks::blocks::check_blocks(file).is_err() {
         return Ok(None);
     }
     let mut stream = vec![in alloc; 0u8; file.len() / 512 * 510]?;
@@ -46,9 +46,7 @@ fn stream_of(alloc: Global, file: &[u8]) -> Result<Option<Vec<u8>>, AllocError> 
 
 // The section of a stream, with the table that is filled for it, unless the stream is refused.
 fn section_of<'a>(stream: &'a [u8], table: &'a mut [u16; table::LENGTH]) -> Option<Section<'a>> {
-    if file_section::read_stream(stream, table) != 0 {
-        return None;
-    }
+    file_section::read_stream(stream, table).ok()?;
     Some(Section { stream, table })
 }
 

@@ -1,6 +1,7 @@
 // The names of a section's file and its temporaries, as a listing has them, and counts of things.
 use codes::NONE;
-use listing_names::names::{Section, Symbol};
+use list_values::section::Section;
+use listing_names::names::{Symbol, name_of, symbol_name};
 use std::fmt;
 
 // A file's name may have any bytes: those that are not visible ASCII are written by their numbers.
@@ -64,11 +65,11 @@ impl<'a> Names<'a> {
     // The name whose number stands at a place of the stream.
     pub(crate) fn at(&self, place: usize) -> Name<'a> {
         let section = self.section;
-        Name(section.name(access::u16_at(section.stream, place)))
+        Name(name_of(section, access::u16_at(section.stream, place)))
     }
 
     pub(crate) fn symbol(&self, symbol: Symbol, index: u64) -> Name<'a> {
-        Name(self.section.symbol(symbol, index))
+        Name(symbol_name(self.section, symbol, index))
     }
 
     // Whether another temporary has that name, as where a macro that declares it is called twice.
@@ -82,7 +83,7 @@ impl<'a> Names<'a> {
         if number == NONE {
             return Temporary::Unnamed(index);
         }
-        let name = Name(self.section.name(number));
+        let name = Name(name_of(self.section, number));
         if self.is_shared(index, number) {
             return Temporary::Shared(name, index);
         }

@@ -1,8 +1,9 @@
 // A statement by its ordinal: its kind, and the macro in whose body it stands. Macro bodies have the lower ordinals.
 use crate::names::Name;
 use codes::{header, statement, table};
-use file_syntax::cursor::Cursor;
-use listing_names::names::Section;
+use file_syntax::cursor::{Cursor, place_of};
+use list_values::section::Section;
+use listing_names::names::name_of;
 use std::fmt;
 
 // A section has no more macros.
@@ -76,14 +77,15 @@ pub(crate) struct Statement<'a> {
 
 // Where the statement stands that so many of those from a place on come before.
 fn after(stream: &[u8], at: usize, count: u64) -> usize {
-    let cursor = Cursor { at, bad: 0, val: 0 };
-    file_syntax::statements::body(stream, access::u16_at(stream, header::NAMES), count, cursor).at
+    let names = access::u16_at(stream, header::NAMES);
+    let cursor = Cursor { at, val: 0 };
+    place_of(file_syntax::statements::body(stream, names, count, cursor))
 }
 
 // The number that stands in the table at a place.
 fn entry(section: Section<'_>, place: usize) -> u16 {
     let table = section.table;
-    access::get_u16(table, place)
+    access::get(table, place)
 }
 
 // The last macro whose body begins at the ordinal or before.
@@ -103,7 +105,7 @@ fn macro_body<'a>(section: Section<'a>, index: usize) -> Body<'a> {
     let index = index % MACROS;
     let at = usize::from(entry(section, table::MACROS + index));
     let parameters = access::byte(stream, at, 0) as usize;
-    let name = section.name(access::u16_at(stream, at.saturating_sub(2)));
+    let name = name_of(section, access::u16_at(stream, at.saturating_sub(2)));
     Body {
         at: at + 3 + 2 * parameters,
         first: u64::from(entry(section, table::MACRO_ORDINALS + index)),

@@ -1,6 +1,5 @@
 // The cases of the data, one after the other: each has a file, the lengths of the lists to lend, and the right answer.
 use crate::problem::Problem;
-use resolve_answer::answer::Answer;
 use std::alloc::{AllocError, Global};
 use std::fmt;
 
@@ -44,23 +43,6 @@ pub(crate) struct Case {
     temporaries: Vec<u64>,
 }
 
-fn numbers(answer: Answer) -> [u64; 12] {
-    [
-        answer.refusal,
-        answer.ordinal,
-        answer.statements,
-        answer.actions,
-        answer.temporaries,
-        answer.labels,
-        answer.points,
-        answer.errors,
-        answer.kind,
-        answer.number,
-        answer.word,
-        answer.size,
-    ]
-}
-
 // The first word that is not the right one. Behind the right ones all are to be 0.
 fn first_wrong(words: &[u64], right: &[u64]) -> Option<usize> {
     for (index, word) in words.iter().copied().enumerate() {
@@ -80,8 +62,9 @@ impl Case {
     pub(crate) fn difference(&self, alloc: Global) -> Result<Option<Difference>, AllocError> {
         let mut actions = vec![in alloc; FILLER; self.lent_actions]?;
         let mut temporaries = vec![in alloc; FILLER; self.lent_temporaries]?;
-        let answer = mizgalon::resolve(&self.file, &mut actions, &mut temporaries);
-        if let Some(index) = first_wrong(&numbers(answer), &self.result) {
+        let mut result = [0u64; 12];
+        mizgalon::mizgalon_resolve(&self.file, &mut actions, &mut temporaries, &mut result);
+        if let Some(index) = first_wrong(&result, &self.result) {
             return Ok(Some(Difference::Result(index)));
         }
         if let Some(index) = first_wrong(&actions, &self.actions) {
