@@ -1,5 +1,5 @@
 // Copies: the target is a local, a place in RAM or a range of bits, which keeps the bits around it.
-ghost use Rattle.std.specs.Prelude.{◌≡◌, ◌<◌};
+ghost use Rattle.std.specs.Prelude.{◌≡◌, ◌<◌, ℕ, List, Ok, IfSome};
 ghost use Rattle.list_pushes.specs.Outcomes.{to_read};
 ghost use Rattle.list_pushes.specs.Pushes.{read};
 ghost use Rattle.expr_terms.specs.Outcomes.{to_expr};
@@ -14,7 +14,7 @@ use codes::refusal::Refusal;
 use codes::{NONE, expression, operation};
 use expr_reading::read::{byte_aligned, constant, read_operand, read_value, sliced};
 use expr_resolver::expr::{DEPTH, resolve_expr};
-use expr_scope::scope::{ExprValue, named_tmp, resolve_ident};
+use expr_scope::scope::{ExprValue, named_tmp, plain_local, resolve_ident};
 use expr_terms::answers::{Resolved, after};
 use list_pushes::push::{Env, Operation, State, add_tmp, op_to};
 use list_values::section::Section;
@@ -440,6 +440,31 @@ fn is_new(section: Section<'_>, scope: &[u64], env: Env, name: u64) -> bool
     }
 }
 
+// A bare name that is a plain local's, the usual target.
+fn plain_target(
+    section: Section<'_>,
+    scope: &[u64],
+    env: Env,
+    pos: usize,
+    state: State,
+) -> Option<Resolved>
+    ensures { IfSome result (λ r. (a m : List ℕ) → targeted (to_expr (Ok r)) scope.now a m ≡ resolve_dst section.entry.stream.now section.entry.table.now scope.now a m env pos state) }
+{
+    if access::byte(section.stream, pos, 0) != expression::IDENT {
+        return None;
+    }
+    let name = u16_in(section.stream, pos, 1);
+    if name == NONE {
+        return None;
+    }
+    let local = plain_local(section, scope, env, name)?;
+    Some(Resolved {
+        next: after(pos, 3),
+        value: ExprValue::Local(local),
+        state,
+    })
+}
+
 // An unknown or disallowed name as target becomes a temporary.
 #[tactic(auto, unfolding(crate::specs::Copies::resolve_dst, crate::specs::Copies::beside_a, crate::specs::Copies::in_scope))]
 fn resolve_dst(
@@ -453,6 +478,9 @@ fn resolve_dst(
 ) -> Result<Resolved, Refusal>
     ensures { targeted (to_expr result) scope.new actions.new temporaries.new ≡ resolve_dst section.entry.stream.now section.entry.table.now scope.old actions.old temporaries.old env pos state }
 {
+    if let Some(target) = plain_target(section, scope, env, pos, state) {
+        return Ok(target);
+    }
     let name = target_name(section.stream, pos);
     if is_new(section, scope, env, name) {
         return new_target(section, scope, temporaries, env, pos, name, state);
