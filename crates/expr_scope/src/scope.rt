@@ -29,7 +29,8 @@ pub const SLOT_A: usize = 4;
 
 const SLOT_B: usize = 6;
 
-// The tags, in the order of `ExprValue`; the last is that of a bit range.
+// The tags, in the order of `ExprValue`; the last is that of a bit range. Numbers, since a scope is one array of words that
+// lies on the stack: there is no heap for values of their own.
 const LOCAL: u64 = 0;
 
 const UNBOUND: u64 = 1;

@@ -56,6 +56,7 @@ fn known(
     ensures { result ≡ known stream.now table.now at count }
 {
     let mut j = usize::from(access::get(chains, LAST + chain));
+    // No count of turns: a chain leads from name to name.
     while 0 < j {
         let i = j - 1;
         if alike(stream, at, usize::from(access::get(table, i))) {

@@ -281,6 +281,7 @@ pub fn check(
         pointer: pointer_size,
     };
     let mut base = 0;
+    // No index: the base of a sweep, and one is made only if the sweep before it passed.
     while counts.sweep(&rows[..n], base) {
         if subtables - base <= SWEPT {
             return true;

@@ -15,7 +15,8 @@ use list_values::value::{Value, absent, local, put, put_value, value_at};
 
 const MOST_TEMPORARIES: usize = 512;
 
-// Where the list of actions ends, the temporaries made, and the sizing.
+// Where the list of actions ends, the temporaries made, and the sizing. The two lent lists go beside it as parameters of their
+// own: a struct that holds them as `&mut` would need in each contract two clauses more, that it still holds the same ones.
 #[derive(Clone, Copy)]
 pub struct State {
     pub end: usize,

@@ -1,8 +1,8 @@
 // The size rule of each operation, applied in place to an action of the list, and how many errors that gives.
 ghost use Rattle.std.specs.Prelude.{◌≡◌, ◌<◌};
 ghost use Rattle.list_values.specs.Sizes.{Counted};
-ghost use Rattle.list_pushes.specs.RuleNumbers.{rule_number};
-ghost use Rattle.list_pushes.specs.Rules.{rule_of_operator, rule_of_one_input, rule_of_other, rule_of, shift, comparison, bool_not, branch, apply_rule, update_operand_sizes};
+ghost use Rattle.list_pushes.specs.RuleNumbers.{rule_number, partner, pair_rule};
+ghost use Rattle.list_pushes.specs.Rules.{rule_of_operator, rule_of_one_input, rule_of_other, rule_of, bool_not, branch, apply_rule, update_operand_sizes};
 
 use codes::{action, action_kind, operation};
 use list_values::section::Section;
@@ -87,43 +87,37 @@ fn rule_of(op: u64) -> Rule
     rule_of_other(op)
 }
 
-#[inline(always)]
-#[tactic(auto, using(crate::proofs::RuleLaws::shift_law))]
-fn shift(
-    section: Section<'_>,
-    fallback: bool,
-    actions: &mut [u64],
-    temporaries: &mut [u64],
-    at: usize,
-    pointer: u64,
-) -> u64
-    ensures { Counted result actions.new temporaries.new (shift section.entry.stream.now section.entry.table.now fallback actions.old temporaries.old at pointer) }
-{
-    let x = set_size_of_pair(
-        section,
-        fallback,
-        actions,
-        temporaries,
-        at,
-        action::INPUT_0,
-        action::OUTPUT,
-        pointer,
-    );
-    let y = set_unsized(section, actions, temporaries, at, action::INPUT_1, pointer);
-    sum_of_errors(x, y)
+// The rules that begin with a pair of operands of one size: of that pair alone, of a shift, of a comparison.
+#[derive(Clone, Copy)]
+enum Paired {
+    Alone,
+    Shift,
+    Comparison,
 }
 
-#[inline(always)]
-#[tactic(auto, using(crate::proofs::RuleLaws::comparison_law))]
-fn comparison(
+// The operand that has the size of the first input: the second input of a comparison, else the output.
+fn partner(paired: Paired) -> usize
+    ensures { (result ≡ partner paired) × (result < 32) }
+{
+    match paired {
+        Paired::Alone => action::OUTPUT,
+        Paired::Shift => action::OUTPUT,
+        Paired::Comparison => action::INPUT_1,
+    }
+}
+
+// These three call `set_size_of_pair` from one place, so that it is compiled into it: with a call of its own each, a push takes
+// longer.
+fn pair_rule(
     section: Section<'_>,
+    paired: Paired,
     fallback: bool,
     actions: &mut [u64],
     temporaries: &mut [u64],
     at: usize,
     pointer: u64,
 ) -> u64
-    ensures { Counted result actions.new temporaries.new (comparison section.entry.stream.now section.entry.table.now fallback actions.old temporaries.old at pointer) }
+    ensures { Counted result actions.new temporaries.new (pair_rule section.entry.stream.now section.entry.table.now paired fallback actions.old temporaries.old at pointer) }
 {
     let x = set_size_of_pair(
         section,
@@ -132,11 +126,20 @@ fn comparison(
         temporaries,
         at,
         action::INPUT_0,
-        action::INPUT_1,
+        partner(paired),
         pointer,
     );
-    let more = set_operand(section, actions, temporaries, at, action::OUTPUT, 1);
-    sum_of_errors(x, more)
+    match paired {
+        Paired::Alone => x,
+        Paired::Shift => {
+            let more = set_unsized(section, actions, temporaries, at, action::INPUT_1, pointer);
+            sum_of_errors(x, more)
+        }
+        Paired::Comparison => {
+            let more = set_operand(section, actions, temporaries, at, action::OUTPUT, 1);
+            sum_of_errors(x, more)
+        }
+    }
 }
 
 fn bool_not(section: Section<'_>, actions: &mut [u64], temporaries: &mut [u64], at: usize) -> u64
@@ -175,19 +178,19 @@ fn apply_rule(
 {
     match rule {
         Rule::Unsized => 0,
-        Rule::Pair => set_size_of_pair(
-            section,
-            fallback,
-            actions,
-            temporaries,
-            at,
-            action::INPUT_0,
-            action::OUTPUT,
-            pointer,
-        ),
-        Rule::Shift => shift(section, fallback, actions, temporaries, at, pointer),
+        Rule::Pair => {
+            let paired = Paired::Alone;
+            pair_rule(section, paired, fallback, actions, temporaries, at, pointer)
+        }
+        Rule::Shift => {
+            let paired = Paired::Shift;
+            pair_rule(section, paired, fallback, actions, temporaries, at, pointer)
+        }
         Rule::Triple => set_size_of_triple(section, fallback, actions, temporaries, at, pointer),
-        Rule::Comparison => comparison(section, fallback, actions, temporaries, at, pointer),
+        Rule::Comparison => {
+            let paired = Paired::Comparison;
+            pair_rule(section, paired, fallback, actions, temporaries, at, pointer)
+        }
         Rule::Boolean => set_three(section, actions, temporaries, at, 1),
         Rule::Not => bool_not(section, actions, temporaries, at),
         Rule::Nan => set_operand(section, actions, temporaries, at, action::OUTPUT, 1),

@@ -271,7 +271,6 @@ fn pair_fallback(
 }
 
 // Two operands have one size.
-#[inline(always)]
 pub fn set_size_of_pair(
     section: Section<'_>,
     fallback: bool,
