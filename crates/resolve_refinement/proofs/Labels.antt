@@ -20,8 +20,8 @@ placed-numbers [] = refl
 placed-numbers (x ∷ xs) = go (placing x.kind) (placed-numbers xs)
   where
     go : (b : Bool) → labels_placed xs ≡ length (label_numbers xs) → (when b then 1 else 0) + labels_placed xs ≡ length (place b x.number (label_numbers xs))
-    go true h =  omega (arith, h)
-    go false h =  omega (arith, h)
+    go true h = omega (arith, h)
+    go false h = omega (arith, h)
 
 module _ (sec : Section) (xs : List SemanticAction) (z : Sizing) (w : List Temporary) (ys : List SemanticAction) where
   pub labels_kept : FinishedAll sec w (apply_size_inference sec xs z).0 ys → (n : ℕ) → labels_placed (implicit_builds (apply_size_inference sec xs z).0 0 n ++ ys) ≡ labels_placed xs

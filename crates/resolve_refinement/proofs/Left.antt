@@ -129,8 +129,8 @@ module _ (s t m : List ℕ) (n begun : ℕ) where
       go (listed f b) h rec = unfold then_f in test (eqb f.refusal 0)
         where
           test : (c : Bool) → LeftAs n begun (when c then finish_from k (suc i) s t b m base ptr f.z else listed f b)
-          test true =  rec b f.z h
-          test false =  h
+          test true = rec b f.z h
+          test false = h
 
   pub actions_left : (k : ℕ) (a : List ℕ) (base ptr : ℕ) (z : WordSizing) → length a ≡ n → z.begun ≡ begun → LeftAs n begun (finish_actions s t a m base k ptr z)
   unfolding finish_actions

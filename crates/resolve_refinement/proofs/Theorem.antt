@@ -56,7 +56,7 @@ module _ (file a m : List ℕ) (short : length a < 2 ^ 60) (shorter : length m <
       go : (b : Bool) → b ≡ true → (Lengths (length a) (length m) (w.resolve_section x t a m) → as_answer (w.resolve_section x t a m) ≡ d.resolve_read (length a) (length m) (parsed sec left))
           → Lengths (length a) (length m) (when b then w.resolve_section x t a m else answers.refused a m (read_stream x (replicate 3344 0)).refusal 65535 0)
           → as_answer (when b then w.resolve_section x t a m else answers.refused a m (read_stream x (replicate 3344 0)).refusal 65535 0) ≡ d.resolve_read (length a) (length m) (parsed sec left)
-      go true h f l =  f l
+      go true h f l = f l
       go false h f l = let z : ◌≡◌ {A = ℕ} 0 1 = cc in absurd (omega arith)
 
   joined_is : (x rest : List ℕ) → stream_of file ≡ parsed x rest → Lengths (length a) (length m) (when eqb (refusal_of (parsed x rest)) 0 then resolve_stream (joined (length file / 512) file) a m else answers.refused a m (refusal_of (parsed x rest)) 65535 0)

@@ -29,16 +29,16 @@ unfolding label_number
 number_is l h = go l.defined
   where
     go : (b : Bool) → (l.id + 1 + (when b then 512 else 0)) % 512 ≡ l.id + 1
-    go true =  omega arith
-    go false =  omega arith
+    go true = omega arith
+    go false = omega arith
 
 number_placed : (l : Label) → l.id < 256 → leb 512 (label_number (some l)) ≡ l.defined
 unfolding label_number
 number_placed l h = go l.defined
   where
     go : (b : Bool) → leb 512 (l.id + 1 + (when b then 512 else 0)) ≡ b
-    go true =  le-leb 512 (l.id + 1 + 512) (omega arith)
-    go false =  lt-leb 512 (l.id + 1 + 0) (omega arith)
+    go true = le-leb 512 (l.id + 1 + 512) (omega arith)
+    go false = lt-leb 512 (l.id + 1 + 0) (omega arith)
 
 module _ (p : List ℕ) (n : ℕ) (labels : List (ℕ × Label)) (labelled : LabelsIn p n labels) (few : n ≤ 256) (name : ℕ) (known : name < 1024) where
   pub label_found : (l : Label) → find name labels ≡ some l → get_or_insert_label p name n ≡ listed (WordLabel.Is l.id) p
@@ -87,8 +87,8 @@ module _ (p : List ℕ) (n m : ℕ) (labels : List (ℕ × Label)) (labelled : L
   number_small = go l.defined
     where
       go : (b : Bool) → (l.id + 1 + (when b then 512 else 0)) % 1024 ≡ l.id + 1 + (when b then 512 else 0)
-      go true =  omega arith
-      go false =  omega arith
+      go true = omega arith
+      go false = omega arith
 
   pub label-put : LabelsIn (put_small p (label_place name) (label_number (some l))) m (put_entry name l labels)
   label-put = record {

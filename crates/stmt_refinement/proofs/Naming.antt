@@ -51,8 +51,8 @@ use Rattle.stmt_refinement.specs.Standing.{Beside, Given, walk_of, Standing, Fra
 -- a name that was not found is found where the scope's list has it
 lookup_new : (t p q : List ℕ) (own : Bool) (name : ℕ) (x : Found) → lookup_local t p own name ≡ Found.Nothing → tmp_local q name ≡ x → lookup_local t q own name ≡ x
 unfolding lookup_local
-lookup_new t p q false name x h f =  f
-lookup_new t p q true name x h f =  go (own_local t name) ( h)
+lookup_new t p q false name x h f = f
+lookup_new t p q true name x h f = go (own_local t name) (h)
   where
     go : (y : Found) → or_tmp y p name ≡ Found.Nothing → or_tmp y q name ≡ x
     go (Found.Is v) k = let i : Found.Is v ≡ Found.Nothing = (unfold or_tmp in k) in let z : ◌≡◌ {A = ℕ} 0 1 = cc in absurd (omega arith)
@@ -61,8 +61,8 @@ lookup_new t p q true name x h f =  go (own_local t name) ( h)
 -- and one whose small number stays is found as before
 pub lookup_as : (t p q : List ℕ) (own : Bool) (name : ℕ) → small q (name % 1024) ≡ small p (name % 1024) → lookup_local t q own name ≡ lookup_local t p own name
 unfolding lookup_local tmp_local
-lookup_as t p q false name h =  rw h
-lookup_as t p q true name h =  go (own_local t name)
+lookup_as t p q false name h = rw h
+lookup_as t p q true name h = go (own_local t name)
   where
     go : (y : Found) → or_tmp y q name ≡ or_tmp y p name
     go (Found.Is v) = unfold or_tmp in refl

@@ -238,7 +238,7 @@ module _ (s t : List ℕ) (e : Env) (p front tail rest : List ℕ) (we : WordEnv
             let known : name < 1024 = omega arith in
             unfold is_new new_target d.dst_named scope.meaning on in
             rw (q, h, i, j, ne_eqb name 65535 (λ z. omega arith), ident_is s t e p we given.holds st stand.scoped name known)
-            ( by name known size small (meaning_of e.section (inner_meaning e.section st.scope name) name))
+            (by name known size small (meaning_of e.section (inner_meaning e.section st.scope name) name))
 
   -- the source is resolved before the target
   pub copy_steps : (from : State) → Stands s t e front tail rest we given spare room b p from → (pos : ℕ) → pos + 1 ≤ length s → (x : Statement) (u : List ℕ) (i : CopyAt s (le16 s 2) pos x u)
