@@ -9,7 +9,7 @@ use crate::answer::{Answer, Rejected, accepted};
 use codes::refusal::Refusal;
 use codes::{action, header};
 use list_end::end::{Fixed, finish_actions, fix_size};
-use list_end::passes::{backward_pass, forward_pass};
+use list_end::passes::size_pass;
 use list_values::section::Section;
 use list_values::sizes::Sizing;
 use list_values::value::{Value, place};
@@ -143,8 +143,8 @@ fn both_passes(
 ) -> Sizing
     ensures { sized result actions.new temporaries.new ≡ both_passes section.entry.stream.now section.entry.table.now actions.old temporaries.old base count pointer sizing }
 {
-    let back = backward_pass(section, actions, temporaries, base, count, pointer, sizing);
-    forward_pass(section, actions, temporaries, base, count, pointer, back)
+    let back = size_pass(section, false, actions, temporaries, base, count, pointer, sizing);
+    size_pass(section, true, actions, temporaries, base, count, pointer, back)
 }
 
 #[tactic(auto, unfolding(crate::specs::Ends::finish, crate::specs::Ends::finish_all, list_values::specs::Sizes::then_s))]
