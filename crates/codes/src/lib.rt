@@ -9,6 +9,7 @@ pub mod action_kind;
 pub mod export_kind;
 pub mod expression;
 pub mod header;
+pub mod limit;
 pub mod operation;
 pub mod refusal;
 pub mod statement;

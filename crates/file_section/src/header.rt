@@ -4,6 +4,7 @@ ghost use Rattle.file_section.specs.Headers.{global_counts, counts, roles, heade
 ghost use Rattle.file_syntax.specs.Cursors.{u16};
 ghost use Rattle.file_syntax.specs.Reads.{good, to_cursor};
 
+use codes::limit::STATEMENTS;
 use codes::refusal::Refusal;
 use file_syntax::cursor::{Cursor, Refused, name, u16_below, u16_or};
 
@@ -21,8 +22,6 @@ const MACROS: u64 = 129;
 const FIELDS: u64 = 65;
 
 const SUBTABLES: u64 = 33;
-
-const STATEMENTS: u64 = 1025;
 
 // A count, which is below the limit.
 fn count(stream: &[u8], limit: u64, cursor: Cursor) -> Result<Cursor, Refused>

@@ -6,6 +6,7 @@ ghost use Rattle.file_section.specs.Lists.{slot, stamp, mark, named, after, para
 ghost use Rattle.file_syntax.specs.Reads.{good, to_cursor};
 
 use crate::names::low;
+use codes::limit::STATEMENTS;
 use codes::refusal::Refusal;
 use codes::{header, symbol_kind, table};
 use file_syntax::cursor::{
@@ -16,9 +17,6 @@ use file_syntax::statements::body;
 
 // The number of the list of fields, behind those of the globals.
 const FIELDS: u64 = 7;
-
-// A macro has fewer statements than this.
-const STATEMENTS: u64 = 1025;
 
 // Where list k marks a name.
 #[tactic(auto, unfolding(crate::specs::Lists::slot))]

@@ -7,10 +7,8 @@ ghost use Rattle.file_syntax.specs.Reads.{good, to_cursor};
 
 use access::inside::two;
 use codes::NONE;
+use codes::limit::SIZES;
 use codes::refusal::Refusal;
-
-// Sizes, in bytes, are below this.
-const SIZES: u64 = 1025;
 
 // First bits and bit counts are below this.
 const BITS: u64 = 8193;

@@ -4,14 +4,9 @@ ghost use Rattle.std.specs.Prelude.{◌≡◌, ◌+◌, ◌<◌, get_or, set};
 ghost use Rattle.list_values.specs.Outcomes.{to_slice};
 ghost use Rattle.list_values.specs.Values.{local, with_size, absent, no_output, slice_bytes, word, value_at, put_value, put_size, place};
 
+use codes::action::{NO_OUTPUT, SIZE_PLACE};
 use codes::refusal::Refusal;
 use codes::{NONE, action};
-
-// The size stands in a value's second word from bit 24 on.
-pub const SIZE_PLACE: u64 = 16777216;
-
-// The second word of an output that is not there.
-pub const NO_OUTPUT: u64 = 255;
 
 // The greatest offset that a value's second word holds.
 const LAST_OFFSET: u64 = 65535;
