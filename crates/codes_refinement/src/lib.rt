@@ -123,7 +123,7 @@ fn refusals() -> [u64; 36]
         Refusal::SubpieceSize,
         Refusal::ErrorsRecorded,
     ]
-    .map(u64::from)
+    .map(|refusal| u64::from(refusal))
 }
 
 #[tactic(auto, unfolding(definition::specs::Value::kind_number, crate::specs::Lists::value_kinds))]
