@@ -11,7 +11,7 @@ use codes::refusal::Refusal;
 use codes::{header, symbol_kind, table};
 use file_syntax::cursor::{
     Cursor, Refused, bits, code, last_number, name, place_of, refuse, size, size_or, small_count,
-    u16_below,
+    below,
 };
 use file_syntax::statements::body;
 
@@ -82,7 +82,7 @@ fn after(kind: u64, stream: &[u8], cursor: Cursor) -> Result<Cursor, Refused>
             let registers = access::u16_at(stream, header::REGISTERS);
             bits(
                 stream,
-                u16_below(stream, registers, Refusal::NamesNothing, cursor)?,
+                below::<u16>(stream, registers, Refusal::NamesNothing, cursor)?,
             )
         }
         symbol_kind::TABLE => size_or(stream, cursor),
@@ -92,7 +92,7 @@ fn after(kind: u64, stream: &[u8], cursor: Cursor) -> Result<Cursor, Refused>
         FIELDS => size_or(stream, cursor),
         _ => {
             let tables = access::u16_at(stream, header::TABLES);
-            u16_below(stream, tables, Refusal::NamesNothing, cursor)
+            below::<u16>(stream, tables, Refusal::NamesNothing, cursor)
         }
     }
 }
@@ -116,7 +116,7 @@ fn macro_head(stream: &[u8], names: u64, so_far: Result<Cursor, Refused>) -> Res
 {
     let counted = small_count(stream, so_far?)?;
     let named = params(stream, names, counted)?;
-    u16_below(stream, STATEMENTS, Refusal::OutsideLimit, named)
+    below::<u16>(stream, STATEMENTS, Refusal::OutsideLimit, named)
 }
 
 // Where macro i stands, its first ordinal, and the next free ordinal after its n statements.

@@ -7,7 +7,7 @@ ghost use Rattle.file_syntax.specs.Reads.{to_cursor};
 
 use crate::chains::{CHAINS, LAST, hash, link};
 use codes::refusal::Refusal;
-use file_syntax::cursor::{Cursor, Refused, place_of, refuse, skip, u8_below};
+use file_syntax::cursor::{Cursor, Refused, place_of, refuse, skip, below};
 
 // A name has fewer letters than this.
 const LETTERS: u64 = 25;
@@ -81,7 +81,7 @@ fn spelling(
     ensures { to_cursor result ≡ spelling stream.now table.now index (to_cursor so_far) }
 {
     let start = so_far?;
-    let l = u8_below(stream, LETTERS, Refusal::OutsideLimit, start)?;
+    let l = below::<u8>(stream, LETTERS, Refusal::OutsideLimit, start)?;
     if l.val == 0 {
         return refuse(Refusal::OutsideLimit, l);
     }

@@ -59,7 +59,8 @@ pub fn statement(stream: &[u8], names: u64, cursor: Cursor) -> Result<Cursor, Re
     }
 }
 
-// n statements.
+// As many statements as the count says; nothing is indexed by it.
+#[tactic(auto, using(crate::proofs::RefusedLaws::body_laws), unfolding(crate::specs::Statements::body))]
 pub fn body(stream: &[u8], names: u64, count: u64, cursor: Cursor) -> Result<Cursor, Refused>
     ensures { to_cursor result ≡ body stream.now names count (good cursor) }
 {
