@@ -6,7 +6,7 @@ ghost use Rattle.file_syntax.specs.Reads.{good, to_cursor};
 
 use codes::limit::STATEMENTS;
 use codes::refusal::Refusal;
-use file_syntax::cursor::{Cursor, Refused, name, below, u16_or};
+use file_syntax::cursor::{Cursor, Refused, below, name, u16_or};
 
 // The counts are below these: of names, as of registers, bit ranges and other symbols; of tables, as of user ops.
 const RULE_SETS: u64 = 1;

@@ -10,8 +10,8 @@ use codes::limit::STATEMENTS;
 use codes::refusal::Refusal;
 use codes::{header, symbol_kind, table};
 use file_syntax::cursor::{
-    Cursor, Refused, bits, code, last_number, name, place_of, refuse, size, size_or, small_count,
-    below,
+    Cursor, Refused, below, bits, code, last_number, name, place_of, refuse, size, size_or,
+    small_count,
 };
 use file_syntax::statements::body;
 
@@ -98,6 +98,7 @@ fn after(kind: u64, stream: &[u8], cursor: Cursor) -> Result<Cursor, Refused>
 }
 
 // As many names as the cursor's number says.
+#[tactic(auto, using(crate::proofs::ChainLaws::run_laws), unfolding(crate::specs::Lists::params, file_syntax::specs::Expressions::counted))]
 fn params(stream: &[u8], names: u64, cursor: Cursor) -> Result<Cursor, Refused>
     ensures { to_cursor result ≡ params stream.now names (good cursor) }
 {
@@ -173,6 +174,7 @@ fn entry(
 }
 
 // List k, whose count stands in the header.
+#[tactic(auto, using(crate::proofs::ListLaws::list_laws))]
 fn list(
     kind: usize,
     stream: &[u8],
@@ -192,6 +194,7 @@ fn list(
 }
 
 // The nine lists from spaces to subtables.
+#[tactic(auto, using(crate::proofs::ChainLaws::run_laws), unfolding(crate::specs::Lists::lists))]
 pub fn lists(
     stream: &[u8],
     so_far: Result<Cursor, Refused>,
