@@ -58,13 +58,15 @@ fn inbuilt_or(
 ) -> Result<Callee, Refusal>
     ensures { to_callee result ≡ inbuilt_or (to_inbuilt inbuilt) (lookup table.now name) count }
 {
-    let Some(found) = inbuilt else {
-        return symbol_called(lookup(table, name));
+    let (op, arguments) = match inbuilt {
+        Some(Inbuilt::Unary(op)) => (op, 1),
+        Some(Inbuilt::Binary(op)) => (op, 2),
+        None => return symbol_called(lookup(table, name)),
     };
-    if found.arguments != count {
+    if arguments != count {
         return Err(Refusal::ArgumentCount);
     }
-    Ok(Callee::Inbuilt(found.op))
+    Ok(Callee::Inbuilt(op))
 }
 
 #[tactic(auto, unfolding(crate::specs::Calls::callee_of))]
