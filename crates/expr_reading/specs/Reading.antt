@@ -119,7 +119,7 @@ unfoldable pub read_value : List ℕ → List ℕ → List ℕ → List ℕ → 
 read_value s t a m e (ExprValue.Local v) given to st = copy_to s t a m e given to v st
 read_value s t a m e (ExprValue.Unbound v) given to st = copy_to s t a m e given to v st
 read_value s t a m e (ExprValue.Const n size) given to st = copy_to s t a m e given to (with_size size (constant n)) st
-read_value s t a m e (ExprValue.Apply code number count x y) given to st = op s t a m e code number count given to x y st
+read_value s t a m e (ExprValue.Apply o) given to st = op s t a m e o.code o.number o.count given to o.first o.second st
 read_value s t a m e (ExprValue.RamRef pointer size) given to st = load s t a m e pointer size given to st
 read_value s t a m e (ExprValue.RegisterRef pointer size) given to st = load_register s t a m pointer size given to st
 read_value s t a m e (ExprValue.AddressOf base size) given to st = read_address a m base size given to st

@@ -303,20 +303,7 @@ pub fn read_value(
             let v = with_size(constant(value), size);
             copy_to(section, actions, temporaries, env, to, v, state)
         }
-        ExprValue::Apply {
-            op: code,
-            number,
-            count,
-            a: first,
-            b: second,
-        } => {
-            let operation = Operation {
-                code,
-                number,
-                count,
-                first,
-                second,
-            };
+        ExprValue::Apply(operation) => {
             op(section, actions, temporaries, env, operation, to, state)
         }
         ExprValue::RamRef { pointer, size } => {

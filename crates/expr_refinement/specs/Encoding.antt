@@ -25,7 +25,7 @@ unfoldable pub enc_x : ExprValue → WordExpr
 enc_x (ExprValue.Local v) = WordExpr.Local (enc_v v)
 enc_x (ExprValue.Unbound v) = WordExpr.Unbound (enc_v v)
 enc_x (ExprValue.Const n size) = WordExpr.Const n (or_none size)
-enc_x (ExprValue.Apply op n vs) = WordExpr.Apply (operation_number op) n (length vs) (first_of vs) (second_of vs)
+enc_x (ExprValue.Apply op n vs) = WordExpr.Apply (record { code = operation_number op; number = n; count = length vs; first = first_of vs; second = second_of vs })
 enc_x (ExprValue.RamRef v size) = WordExpr.RamRef (enc_v v) size
 enc_x (ExprValue.RegisterRef v size) = WordExpr.RegisterRef (enc_v v) size
 enc_x (ExprValue.AddressOf v size) = WordExpr.AddressOf (enc_v v) (or_none size)

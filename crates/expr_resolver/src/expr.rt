@@ -44,7 +44,7 @@ fn local_address(expr: ExprValue, size: u64, next: usize, state: State) -> Resul
         }),
         ExprValue::Unbound(_)
         | ExprValue::Const { .. }
-        | ExprValue::Apply { .. }
+        | ExprValue::Apply(_)
         | ExprValue::RamRef { .. }
         | ExprValue::RegisterRef { .. }
         | ExprValue::AddressOf { .. }

@@ -87,7 +87,7 @@ unfoldable pub local_of : Meaning → Found
 local_of (Meaning.Means (ExprValue.Local v)) = Found.Is v
 local_of (Meaning.Means (ExprValue.Unbound v)) = Found.Nothing
 local_of (Meaning.Means (ExprValue.Const n z)) = Found.Nothing
-local_of (Meaning.Means (ExprValue.Apply op number count x y)) = Found.Nothing
+local_of (Meaning.Means (ExprValue.Apply operation)) = Found.Nothing
 local_of (Meaning.Means (ExprValue.RamRef v z)) = Found.Nothing
 local_of (Meaning.Means (ExprValue.RegisterRef v z)) = Found.Nothing
 local_of (Meaning.Means (ExprValue.AddressOf v z)) = Found.Nothing

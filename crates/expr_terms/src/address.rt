@@ -43,7 +43,7 @@ fn in_const_space(
             size: or_size(size, own),
         },
         ExprValue::Unbound(_)
-        | ExprValue::Apply { .. }
+        | ExprValue::Apply(_)
         | ExprValue::RamRef { .. }
         | ExprValue::RegisterRef { .. }
         | ExprValue::AddressOf { .. }

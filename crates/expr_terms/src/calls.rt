@@ -132,13 +132,7 @@ pub fn applied(operation: Operation, next: usize, state: State) -> Resolved
 {
     Resolved {
         next,
-        value: ExprValue::Apply {
-            op: operation.code,
-            number: operation.number,
-            count: operation.count,
-            a: operation.first,
-            b: operation.second,
-        },
+        value: ExprValue::Apply(operation),
         state,
     }
 }

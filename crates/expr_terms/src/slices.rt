@@ -143,7 +143,7 @@ pub fn slice_bits(
             bits: whole,
         } => slice_range(v, before, whole, from, bits, next, state),
         ExprValue::Unbound(_)
-        | ExprValue::Apply { .. }
+        | ExprValue::Apply(_)
         | ExprValue::RamRef { .. }
         | ExprValue::RegisterRef { .. }
         | ExprValue::AddressOf { .. } => {

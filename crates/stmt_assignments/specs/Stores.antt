@@ -37,7 +37,7 @@ store_at s t a m e (ExprValue.RegisterRef pointer size) v next st w = store_regi
 store_at s t a m e (ExprValue.Local x) v next st w = stepped (stop 28 w) a m
 store_at s t a m e (ExprValue.Unbound x) v next st w = stepped (stop 28 w) a m
 store_at s t a m e (ExprValue.Const n z) v next st w = stepped (stop 28 w) a m
-store_at s t a m e (ExprValue.Apply op number count x y) v next st w = stepped (stop 28 w) a m
+store_at s t a m e (ExprValue.Apply operation) v next st w = stepped (stop 28 w) a m
 store_at s t a m e (ExprValue.AddressOf x z) v next st w = stepped (stop 28 w) a m
 store_at s t a m e (ExprValue.BitRange x from bits) v next st w = stepped (stop 28 w) a m
 
