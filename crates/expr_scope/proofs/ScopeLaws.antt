@@ -86,7 +86,7 @@ local_means (Meaning.Means (ExprValue.Apply operation)) v h = absurd (nothing_is
 local_means (Meaning.Means (ExprValue.RamRef u z)) v h = absurd (nothing_is v h)
 local_means (Meaning.Means (ExprValue.RegisterRef u z)) v h = absurd (nothing_is v h)
 local_means (Meaning.Means (ExprValue.AddressOf u z)) v h = absurd (nothing_is v h)
-local_means (Meaning.Means (ExprValue.BitRange u from bits)) v h = absurd (nothing_is v h)
+local_means (Meaning.Means (ExprValue.BitRange u bits)) v h = absurd (nothing_is v h)
 local_means (Meaning.Wrong n) v h = absurd (nothing_is v h)
 
 plain_param : (k : ℕ) (p : List ℕ) (x : Meaning) (v : Value) → (when eqb k 0 then local_of x else Found.Nothing) ≡ Found.Is v → param_or k p x ≡ Meaning.Means (ExprValue.Local v)

@@ -20,7 +20,7 @@ slot_of (ExprValue.Apply o) = slot 3 (o.code % 256 + o.count % 256 * 256) o.numb
 slot_of (ExprValue.RamRef pointer size) = one_value 4 size 0 pointer
 slot_of (ExprValue.RegisterRef pointer size) = one_value 5 size 0 pointer
 slot_of (ExprValue.AddressOf base size) = one_value 6 size 0 base
-slot_of (ExprValue.BitRange v from bits) = one_value 7 from bits v
+slot_of (ExprValue.BitRange v bits) = one_value 7 bits.from bits.count v
 
 unfoldable pub of_parts : ℕ → ℕ → ℕ → Value → Value → ExprValue
 of_parts tag x y a b =
@@ -31,7 +31,7 @@ of_parts tag x y a b =
     else when eqb tag 4 then ExprValue.RamRef a x
     else when eqb tag 5 then ExprValue.RegisterRef a x
     else when eqb tag 6 then ExprValue.AddressOf a x
-    else ExprValue.BitRange a x y
+    else ExprValue.BitRange a (record { from = x; count = y })
 
 unfoldable pub of_slot : Slot → ExprValue
 of_slot k = of_parts k.tag k.x k.y k.a k.b

@@ -47,6 +47,13 @@ const ADDRESS_OF: u64 = 6;
 
 const BIT_RANGE: u64 = 7;
 
+// A range of bits: so many from a bit on.
+#[derive(Clone, Copy)]
+pub struct Bits {
+    pub from: u64,
+    pub count: u64,
+}
+
 // What an expression means before it is read.
 #[derive(Clone, Copy)]
 pub enum ExprValue {
@@ -57,7 +64,7 @@ pub enum ExprValue {
     RamRef { pointer: Value, size: u64 },
     RegisterRef { pointer: Value, size: u64 },
     AddressOf { base: Value, size: u64 },
-    BitRange { v: Value, from: u64, bits: u64 },
+    BitRange { v: Value, bits: Bits },
 }
 
 // An expression's value as a parameter's slot of eight words keeps it: its name, which constructor, two numbers, two
@@ -102,7 +109,7 @@ impl From<ExprValue> for Slot {
             ExprValue::RamRef { pointer, size } => one_value(RAM_REF, size, 0, pointer),
             ExprValue::RegisterRef { pointer, size } => one_value(REGISTER_REF, size, 0, pointer),
             ExprValue::AddressOf { base, size } => one_value(ADDRESS_OF, size, 0, base),
-            ExprValue::BitRange { v, from, bits } => one_value(BIT_RANGE, from, bits, v),
+            ExprValue::BitRange { v, bits } => one_value(BIT_RANGE, bits.from, bits.count, v),
         }
     }
 }
@@ -135,8 +142,7 @@ impl From<Slot> for ExprValue {
             ADDRESS_OF => ExprValue::AddressOf { base: a, size: x },
             _ => ExprValue::BitRange {
                 v: a,
-                from: x,
-                bits: y,
+                bits: Bits { from: x, count: y },
             },
         }
     }
@@ -229,8 +235,10 @@ fn bit_range(section: Section<'_>, index: u64) -> ExprValue
     let at = entry(section.table, table::BIT_RANGES, index % 65536 * 8);
     ExprValue::BitRange {
         v: local(value_kind::REGISTER, access::u16_in(section.stream, at, 2)),
-        from: access::u16_in(section.stream, at, 4),
-        bits: access::u16_in(section.stream, at, 6),
+        bits: Bits {
+            from: access::u16_in(section.stream, at, 4),
+            count: access::u16_in(section.stream, at, 6),
+        },
     }
 }
 
