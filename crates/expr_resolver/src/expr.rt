@@ -12,7 +12,7 @@ use codes::refusal::Refusal;
 use codes::{NONE, expression, header, operation};
 use expr_reading::read::{constant, read_operand};
 use expr_scope::args::put_arg;
-use expr_scope::scope::{ExprValue, plain_local, resolve_ident};
+use expr_scope::scope::{Bits, ExprValue, plain_local, resolve_ident};
 use expr_terms::address::resolve_address;
 use expr_terms::answers::{Operand, Resolved, after};
 use expr_terms::calls::{Callee, applied, call_user_op, callee_of, subpiece};
@@ -185,58 +185,46 @@ fn with_part(
     temporaries: &mut [u64],
     pos: usize,
     env: Env,
-    expr: ExprValue,
-    next: usize,
-    state: State,
+    part: Resolved,
 ) -> Result<Resolved, Refusal>
-    ensures { resolved (to_expr result) actions.new temporaries.new ≡ with_part code section.entry.stream.now section.entry.table.now actions.old temporaries.old pos env expr next state }
+    ensures { resolved (to_expr result) actions.new temporaries.new ≡ with_part code section.entry.stream.now section.entry.table.now actions.old temporaries.old pos env part.value part.next part.state }
 {
+    let next = part.next;
     match code {
         expression::TRUNCATE => {
-            let bits = 8 * u16_in(section.stream, next, 0);
-            let end = after(next, 2);
+            let bits = Bits {
+                from: 0,
+                count: 8 * u16_in(section.stream, next, 0),
+            };
+            let next = after(next, 2);
             slice_bits(
                 section,
                 actions,
                 temporaries,
                 env,
-                expr,
-                0,
+                Resolved { next, ..part },
                 bits,
-                end,
-                state,
             )
         }
         expression::SLICE_BITS => {
-            let from = u16_in(section.stream, next, 0);
-            let bits = u16_in(section.stream, next, 2);
-            let end = after(next, 4);
+            let bits = Bits {
+                from: u16_in(section.stream, next, 0),
+                count: u16_in(section.stream, next, 2),
+            };
+            let next = after(next, 4);
             slice_bits(
                 section,
                 actions,
                 temporaries,
                 env,
-                expr,
-                from,
+                Resolved { next, ..part },
                 bits,
-                end,
-                state,
             )
         }
         _ => {
             let space = u16_in(section.stream, pos, 1);
             let size = u16_in(section.stream, pos, 3);
-            resolve_address(
-                section,
-                actions,
-                temporaries,
-                env,
-                space,
-                size,
-                expr,
-                next,
-                state,
-            )
+            resolve_address(section, actions, temporaries, env, space, size, part)
         }
     }
 }
@@ -318,17 +306,7 @@ fn part(
 {
     let at = after(pos, part_at(code));
     let part = resolve_expr(deep, section, scope, at, env, actions, temporaries, state)?;
-    with_part(
-        code,
-        section,
-        actions,
-        temporaries,
-        pos,
-        env,
-        part.value,
-        part.next,
-        part.state,
-    )
+    with_part(code, section, actions, temporaries, pos, env, part)
 }
 
 #[cycle(call_inbuilt_expr_value_part_resolve_args_resolve_call_resolve_expr_resolve_op_user_op)]
@@ -409,6 +387,7 @@ fn call_inbuilt(
 
 // n arguments, resolved only, into the slots of `args`.
 #[cycle(call_inbuilt_expr_value_part_resolve_args_resolve_call_resolve_expr_resolve_op_user_op)]
+#[tactic(auto, using(crate::proofs::ExprLaws::args_laws))]
 pub fn resolve_args(
     deep: u64,
     section: Section<'_>,
@@ -536,6 +515,7 @@ fn resolve_call(
 }
 
 #[cycle(call_inbuilt_expr_value_part_resolve_args_resolve_call_resolve_expr_resolve_op_user_op)]
+#[tactic(auto, using(crate::proofs::ExprLaws::deep_laws))]
 pub fn resolve_expr(
     deep: u64,
     section: Section<'_>,
