@@ -67,7 +67,7 @@ fn address_of(
 }
 
 // The name at a position.
-#[tactic(auto, unfolding(crate::specs::Expressions::means_at))]
+#[tactic(auto, using(expr_scope::proofs::ScopeLaws::plain_means), unfolding(crate::specs::Expressions::means_at))]
 fn name_at(
     section: Section<'_>,
     scope: &[u64],
@@ -230,6 +230,7 @@ fn with_part(
 }
 
 // What stands at a position, where it is a plain local or an integer: reading it pushes nothing.
+#[tactic(auto, using(crate::proofs::ExprLaws::plain_read, crate::proofs::ExprLaws::integer_read))]
 fn plain_operand(
     deep: u64,
     section: Section<'_>,
