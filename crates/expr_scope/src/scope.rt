@@ -25,9 +25,9 @@ const SLOT_X: usize = 2;
 
 const SLOT_Y: usize = 3;
 
-pub const SLOT_A: usize = 4;
+pub const SLOT_A: u8 = 4;
 
-const SLOT_B: usize = 6;
+const SLOT_B: u8 = 6;
 
 // The tags, in the order of `ExprValue`; the last is that of a bit range. Numbers, since a scope is one array of words that
 // lies on the stack: there is no heap for values of their own.

@@ -19,7 +19,7 @@ use expr_scope::scope::{ExprValue, resolve_ident};
 use expr_scope::symbols::{Symbol, lookup};
 use list_pushes::push::{Env, Operation, State, push_op};
 use list_values::section::Section;
-use list_values::value::{Value, absent, no_output};
+use list_values::value::{Value, no_output};
 
 // The greatest argument of a subpiece.
 const LAST_SUBPIECE: u64 = 255;
@@ -154,11 +154,8 @@ pub fn call_user_op(
 {
     let state = pass_args(section, actions, temporaries, args, count, env, state)?;
     let call = Operation {
-        code: operation::PCODE_OP,
         number: id,
-        count: 0,
-        first: absent(),
-        second: absent(),
+        ..Operation::nullary(operation::PCODE_OP)
     };
     if count == 0 {
         return Ok(applied(call, next, state));

@@ -201,13 +201,10 @@ impl Counts {
         requires { base ≤ self.now.subtables }
         ensures { result ≡ sweep self.now.temporaries self.now.subtables self.now.pointer base actions.now (replicate 256 false) (replicate 256 false) }
     {
-        let mut seen = [false; 256];
-        let mut built = [false; 256];
+        let mut seen = [false; LABELS as usize];
+        let mut built = [false; SWEPT as usize];
         for action in actions {
-            if !self.action_fits(action) {
-                return false;
-            }
-            if !note_label(action, &mut seen) {
+            if !self.action_fits(action) || !note_label(action, &mut seen) {
                 return false;
             }
             note_build(action, base, &mut built);
@@ -221,13 +218,11 @@ impl Counts {
 fn note_label(action: &Action, seen: &mut [bool]) -> bool
     ensures { noted result seen.new ≡ note_label action.now seen.old }
 {
-    if (action[action::KIND] != action_kind::OP)
-        | (action[action::OPERATION] != operation::PCODE_LABEL)
-    {
-        return true;
-    }
     let label = action[action::NUMBER] as usize;
-    if seen.len() <= label {
+    if action[action::KIND] != action_kind::OP
+        || action[action::OPERATION] != operation::PCODE_LABEL
+        || seen.len() <= label
+    {
         return true;
     }
     let new = !seen[label];
@@ -241,11 +236,12 @@ fn note_build(action: &Action, base: u64, built: &mut [bool])
     ensures { built.new ≡ note_build base action.now built.old }
 {
     let number = action[action::NUMBER];
-    if (action[action::KIND] == action_kind::BUILD) & (base <= number) {
-        let place = (number - base) as usize;
-        if place < built.len() {
-            built[place] = true;
-        }
+    if action[action::KIND] != action_kind::BUILD || number < base {
+        return;
+    }
+    let place = (number - base) as usize;
+    if place < built.len() {
+        built[place] = true;
     }
 }
 

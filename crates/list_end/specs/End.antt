@@ -1,6 +1,6 @@
 -- The end: sizes fixed, subpieces turned into copies, the implicit Builds in front, unused words zero. In all of these s is
 -- the stream, t the section's table, a the actions, m the temporaries, z the record of errors, ptr the pointer size.
-use Rattle.std.specs.Prelude.{ℕ, zero, suc, ◌+◌, ◌-◌, ◌*◌, ◌%◌, ◌^◌, List, ◌++◌, length, take, replicate, ◌==◌, slice_index, slice_set}
+use Rattle.std.specs.Prelude.{ℕ, zero, suc, ◌+◌, ◌-◌, ◌*◌, ◌%◌, ◌^◌, List, ◌++◌, length, take, replicate, get_or, set, Bool, true, false, ◌==◌, slice_index, slice_set}
 use Rattle.list_values.specs.declared.value.Value.{Value}
 use Rattle.list_values.specs.Outcomes.{Slice}
 use Rattle.list_values.specs.declared.sizes.Sizing.{Sizing}
@@ -9,7 +9,7 @@ use Rattle.list_end.specs.Outcomes.{Finished}
 use Rattle.list_values.specs.Base.{Listed, listed, then_l}
 use Rattle.prelude.specs.Base.{when◌then◌else◌}
 use Rattle.access.specs.Loops.{run}
-use Rattle.list_values.specs.Values.{with_size, slice_bytes, value_at, put_value, place, zero_word}
+use Rattle.list_values.specs.Values.{with_size, slice_bytes, value_at, put_value, place, zero_words}
 use Rattle.list_values.specs.Sizes.{size_of, error, falls_back}
 
 abbrev pub fixed : Value → Sizing → Fixed
@@ -85,28 +85,25 @@ unfoldable pub finish_actions : List ℕ → List ℕ → List ℕ → List ℕ 
 finish_actions s t a m base n ptr z = finish_from n 0 s t a m base ptr z
 
 -- Marks the subtable that an action builds.
-unfoldable pub mark_build : ℕ → ℕ → List ℕ → List ℕ
-mark_build kind number built = when kind == 5 then slice_set built number 1 else built
+unfoldable pub mark_build : ℕ → ℕ → List Bool → List Bool
+mark_build kind number built = when kind == 5 then set built number true else built
 
-unfoldable pub mark_action : List ℕ → ℕ → ℕ → List ℕ → List ℕ
+unfoldable pub mark_action : List ℕ → ℕ → ℕ → List Bool → List Bool
 mark_action a base i built = mark_build (slice_index a (place base i + 0)) (slice_index a (place base i + 2)) built
 
-unfoldable pub mark_built : List ℕ → ℕ → ℕ → List ℕ → List ℕ
+unfoldable pub mark_built : List ℕ → ℕ → ℕ → List Bool → List Bool
 mark_built a base n built = run n 0 (mark_action a base) built
 
-unfoldable pub zero_action : List ℕ → ℕ → List ℕ
-zero_action a at = run 24 0 (zero_word at) a
-
 unfoldable pub write_build : List ℕ → ℕ → ℕ → List ℕ
-write_build a at number = slice_set (slice_set (zero_action a at) (at + 0) 5) (at + 2) number
+write_build a at number = slice_set (slice_set (zero_words a at 0) (at + 0) 5) (at + 2) number
 
 -- a Build of subtable i behind k others, unless it is built
-unfoldable pub implicit_build : List ℕ → ℕ → Listed ℕ → Listed ℕ
+unfoldable pub implicit_build : List Bool → ℕ → Listed ℕ → Listed ℕ
 implicit_build built i x =
-    then_l x λ k a. when slice_index built i == 0 then listed ((k + 1) % 2 ^ 64) (write_build a (place 0 k) i) else listed k a
+    then_l x λ k a. when get_or built i false then listed k a else listed ((k + 1) % 2 ^ 64) (write_build a (place 0 k) i)
 
 -- of the first n subtables, a Build of each that is not built; how many
-unfoldable pub implicit_builds : List ℕ → List ℕ → ℕ → Listed ℕ
+unfoldable pub implicit_builds : List ℕ → List Bool → ℕ → Listed ℕ
 implicit_builds a built n = run n 0 (implicit_build built) (listed 0 a)
 
 unfoldable pub move_word : ℕ → ℕ → ℕ → List ℕ → List ℕ
@@ -130,5 +127,5 @@ zero_from l from = take from l ++ replicate (length l - from) 0
 -- the list in its final order, and how many actions it has
 unfoldable pub assemble : List ℕ → ℕ → ℕ → Listed ℕ
 assemble a subtables n =
-    then_l (implicit_builds a (mark_built a (place 0 subtables) n (replicate 32 0)) subtables) λ k b.
+    then_l (implicit_builds a (mark_built a (place 0 subtables) n (replicate 32 false)) subtables) λ k b.
     listed ((k + n) % 2 ^ 64) (zero_from (move_down b (place 0 subtables) k n) (place 0 ((k + n) % 2 ^ 64)))

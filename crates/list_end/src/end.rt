@@ -1,21 +1,27 @@
-// The end: sizes fixed, subpieces turned into copies, the implicit Builds in front, unused words zero.
-ghost use Rattle.std.specs.Prelude.{◌≡◌, ◌<◌};
+// The end: sizes fixed, subpieces turned into copies, the implicit Builds in front, unused words zero. Its loops go by an index:
+// an action may reach past the list's end, where words are read as 0 and none are written, which no method of slices does.
+ghost use Rattle.std.specs.Prelude.{◌≡◌};
 ghost use Rattle.codes.specs.Refusals.{number_or_zero};
 ghost use Rattle.list_values.specs.Base.{listed};
 ghost use Rattle.list_end.specs.Outcomes.{to_finished};
-ghost use Rattle.list_end.specs.End.{fix_size, fix_operand, fix_inputs, fix_output, fix_operands, write_copy, subpiece_copy, finish_op, finish_actions, mark_build, mark_built, zero_action, write_build, implicit_builds, implicit_build, move_action, move_down, assemble};
+ghost use Rattle.list_end.specs.End.{fix_size, fix_operand, fix_inputs, fix_output, fix_operands, write_copy, subpiece_copy, finish_op, finish_actions, mark_build, mark_built, write_build, implicit_builds, implicit_build, move_action, move_down, assemble};
 
 use codes::refusal::Refusal;
 use codes::{NONE, action, action_kind, operation};
 use list_values::section::Section;
 use list_values::sizes::{Sizing, falls_back, record_errors, size_of};
 use list_values::value::{
-    NO_OUTPUT, SIZE_PLACE, Value, get, place, put, put_value, slice_bytes, value_at, with_size,
+    INPUT_0, NO_OUTPUT, OUTPUT, SIZE_PLACE, Value, get, place, put, put_value, slice_bytes,
+    value_at, with_size, zero_words,
 };
 
 // The second word of an output.
 const OUTPUT_WORD: usize = action::OUTPUT + 1;
 
+// How many subtables can be marked as built.
+const MARKS: usize = 32;
+
+// A value with its size fixed, and the sizing after that.
 #[derive(Clone, Copy)]
 pub struct Fixed {
     pub v: Value,
@@ -52,20 +58,20 @@ pub fn fix_size(
     }
 }
 
+#[tactic(auto, using(crate::proofs::EndLaws::fix_operand_law, crate::proofs::EndLaws::fix_sized))]
 fn fix_operand(
     section: Section<'_>,
     actions: &mut [u64],
     temporaries: &[u64],
     at: usize,
-    index: usize,
+    index: u8,
     pointer: u64,
     sizing: Sizing,
 ) -> Sizing
-    requires { index < 32 }
     ensures { listed result actions.new ≡ fix_operand section.entry.stream.now section.entry.table.now actions.old temporaries.now at index pointer sizing }
 {
     // Most operands have a size of their own by now, and stay as they are.
-    if get(actions, at, index + 1) / SIZE_PLACE < NONE {
+    if get(actions, at, usize::from(index) + 1) / SIZE_PLACE < NONE {
         return sizing;
     }
     let f = fix_size(
@@ -79,6 +85,7 @@ fn fix_operand(
     f.z
 }
 
+#[tactic(auto, using(access::proofs::LoopLaws::run_again, access::proofs::LoopLaws::run_end), unfolding(crate::specs::End::fix_inputs, crate::specs::End::fix_input, list_values::specs::Base::then_l))]
 fn fix_inputs(
     section: Section<'_>,
     actions: &mut [u64],
@@ -97,7 +104,7 @@ fn fix_inputs(
             actions,
             temporaries,
             at,
-            action::INPUT_0 + i % 8 * 2,
+            INPUT_0 + (i % 8) as u8 * 2,
             pointer,
             sizing,
         );
@@ -105,6 +112,7 @@ fn fix_inputs(
     sizing
 }
 
+#[tactic(auto, unfolding(crate::specs::End::fix_output))]
 fn fix_output(
     section: Section<'_>,
     actions: &mut [u64],
@@ -118,17 +126,10 @@ fn fix_output(
     if get(actions, at, OUTPUT_WORD) == NO_OUTPUT {
         return sizing;
     }
-    fix_operand(
-        section,
-        actions,
-        temporaries,
-        at,
-        action::OUTPUT,
-        pointer,
-        sizing,
-    )
+    fix_operand(section, actions, temporaries, at, OUTPUT, pointer, sizing)
 }
 
+#[tactic(auto, unfolding(crate::specs::End::fix_operands, list_values::specs::Base::then_l))]
 fn fix_operands(
     section: Section<'_>,
     actions: &mut [u64],
@@ -159,7 +160,7 @@ fn write_copy(actions: &mut [u64], at: usize, part: Value)
 {
     put(actions, at, action::OPERATION, operation::COPY);
     put(actions, at, action::NUMBER, 0);
-    put_value(actions, at, action::INPUT_0, part);
+    put_value(actions, at, INPUT_0, part);
 }
 
 // A subpiece becomes a Copy of part of its input.
@@ -167,11 +168,11 @@ fn write_copy(actions: &mut [u64], at: usize, part: Value)
 fn subpiece_copy(actions: &mut [u64], at: usize) -> Result<(), Refusal>
     ensures { listed (number_or_zero result) actions.new ≡ subpiece_copy actions.old at }
 {
-    let size = value_at(actions, at, action::OUTPUT).size;
+    let size = value_at(actions, at, OUTPUT).size;
     if size == NONE {
         return Err(Refusal::SubpieceSize);
     }
-    let value = value_at(actions, at, action::INPUT_0);
+    let value = value_at(actions, at, INPUT_0);
     let part = slice_bytes(value, get(actions, at, action::NUMBER) % 65536, size)?;
     write_copy(actions, at, part);
     Ok(())
@@ -202,12 +203,11 @@ fn finish_op(
     if get(actions, at, action::OPERATION) != operation::SUBPIECE {
         return Ok(sizing);
     }
-    match subpiece_copy(actions, at) {
-        Ok(()) => Ok(sizing),
-        Err(refusal) => Err(Unfinished { refusal, sizing }),
-    }
+    subpiece_copy(actions, at).map_err(|refusal| Unfinished { refusal, sizing })?;
+    Ok(sizing)
 }
 
+#[tactic(auto, using(crate::proofs::EndLaws::finish_laws))]
 pub fn finish_actions(
     section: Section<'_>,
     actions: &mut [u64],
@@ -228,7 +228,8 @@ pub fn finish_actions(
 }
 
 // Marks the subtables that one of the n actions from a position on builds.
-fn mark_built(actions: &[u64], base: usize, count: usize, built: &mut [u64])
+#[tactic(auto, using(access::proofs::LoopLaws::run_again, access::proofs::LoopLaws::run_end), unfolding(crate::specs::End::mark_built, crate::specs::End::mark_action))]
+fn mark_built(actions: &[u64], base: usize, count: usize, built: &mut [bool])
     ensures { built.new ≡ mark_built actions.now base count built.old }
 {
     for i in 0..count {
@@ -242,20 +243,12 @@ fn mark_built(actions: &[u64], base: usize, count: usize, built: &mut [u64])
 }
 
 #[tactic(auto, unfolding(crate::specs::End::mark_build))]
-fn mark_build(kind: u64, number: u64, built: &mut [u64])
+fn mark_build(kind: u64, number: u64, built: &mut [bool])
     ensures { built.new ≡ mark_build kind number built.old }
 {
-    if kind != action_kind::BUILD {
-        return;
-    }
-    access::put(built, number as usize, 1);
-}
-
-fn zero_action(actions: &mut [u64], at: usize)
-    ensures { actions.new ≡ zero_action actions.old at }
-{
-    for i in 0..action::WORDS {
-        put(actions, at, i, 0);
+    let number = number as usize;
+    if kind == action_kind::BUILD && number < built.len() {
+        built[number] = true;
     }
 }
 
@@ -263,13 +256,14 @@ fn zero_action(actions: &mut [u64], at: usize)
 fn write_build(actions: &mut [u64], at: usize, number: u64)
     ensures { actions.new ≡ write_build actions.old at number }
 {
-    zero_action(actions, at);
+    zero_words(actions, at, action::KIND);
     put(actions, at, action::KIND, action_kind::BUILD);
     put(actions, at, action::NUMBER, number);
 }
 
 // A Build of each of the first n subtables that is not built yet, from the list's start on: how many.
-fn implicit_builds(actions: &mut [u64], built: &[u64], count: usize) -> usize
+#[tactic(auto, using(access::proofs::LoopLaws::run_again, access::proofs::LoopLaws::run_end), unfolding(crate::specs::End::implicit_builds))]
+fn implicit_builds(actions: &mut [u64], built: &[bool], count: usize) -> usize
     ensures { listed result actions.new ≡ implicit_builds actions.old built.now count }
 {
     let mut k = 0;
@@ -280,17 +274,18 @@ fn implicit_builds(actions: &mut [u64], built: &[u64], count: usize) -> usize
 }
 
 #[tactic(auto, unfolding(crate::specs::End::implicit_build, list_values::specs::Base::then_l))]
-fn implicit_build(actions: &mut [u64], built: &[u64], index: usize, placed: usize) -> usize
+fn implicit_build(actions: &mut [u64], built: &[bool], index: usize, placed: usize) -> usize
     ensures { listed result actions.new ≡ implicit_build built.now index (listed placed actions.old) }
 {
-    if access::get(built, index) != 0 {
+    if built.get(index) == Some(&true) {
         return placed;
     }
     write_build(actions, place(0, placed), index as u64);
-    std::num::wrapping_add_usize(placed, 1)
+    placed.wrapping_add(1)
 }
 
 // Moves the action at one position to another.
+#[tactic(auto, using(access::proofs::LoopLaws::run_again, access::proofs::LoopLaws::run_end), unfolding(crate::specs::End::move_action, crate::specs::End::move_word))]
 fn move_action(actions: &mut [u64], from: usize, to: usize)
     ensures { actions.new ≡ move_action actions.old from to }
 {
@@ -301,6 +296,7 @@ fn move_action(actions: &mut [u64], from: usize, to: usize)
 }
 
 // Moves n actions down, from a position to behind k actions.
+#[tactic(auto, using(access::proofs::LoopLaws::run_again, access::proofs::LoopLaws::run_end), unfolding(crate::specs::End::move_down, crate::specs::End::move_to))]
 fn move_down(actions: &mut [u64], base: usize, builds: usize, count: usize)
     ensures { actions.new ≡ move_down actions.old base builds count }
 {
@@ -318,12 +314,12 @@ fn move_down(actions: &mut [u64], base: usize, builds: usize, count: usize)
 pub fn assemble(actions: &mut [u64], subtables: usize, pushed: usize) -> usize
     ensures { listed result actions.new ≡ assemble actions.old subtables pushed }
 {
-    let mut built = [0u64; 32];
+    let mut built = [false; MARKS];
     let base = place(0, subtables);
     mark_built(actions, base, pushed, &mut built);
     let k = implicit_builds(actions, &built, subtables);
     move_down(actions, base, k, pushed);
-    let count = std::num::wrapping_add_usize(k, pushed);
+    let count = k.wrapping_add(pushed);
     access::zero_from(actions, place(0, count));
     count
 }

@@ -1,14 +1,16 @@
-// The two passes over the n actions from a position on: backward, then forward with fallback.
+// A pass over the n actions from a position on, whose errors are recorded: backward, or forward with fallback.
 ghost use Rattle.std.specs.Prelude.{◌≡◌};
 ghost use Rattle.list_values.specs.Sizes.{sized};
-ghost use Rattle.list_end.specs.Passes.{backward_pass, forward_pass};
+ghost use Rattle.list_end.specs.Passes.{size_pass};
 
 use list_pushes::passes::pass;
 use list_values::section::Section;
 use list_values::sizes::{Sizing, record_errors};
 
-pub fn backward_pass(
+#[tactic(auto, using(crate::proofs::PassLaws::size_pass_law))]
+pub fn size_pass(
     section: Section<'_>,
+    forward: bool,
     actions: &mut [u64],
     temporaries: &mut [u64],
     base: usize,
@@ -16,23 +18,8 @@ pub fn backward_pass(
     pointer: u64,
     sizing: Sizing,
 ) -> Sizing
-    ensures { sized result actions.new temporaries.new ≡ backward_pass section.entry.stream.now section.entry.table.now actions.old temporaries.old base count pointer sizing }
+    ensures { sized result actions.new temporaries.new ≡ size_pass section.entry.stream.now section.entry.table.now forward actions.old temporaries.old base count pointer sizing }
 {
-    let k = pass(section, false, actions, temporaries, base, count, pointer);
-    record_errors(sizing, k)
-}
-
-pub fn forward_pass(
-    section: Section<'_>,
-    actions: &mut [u64],
-    temporaries: &mut [u64],
-    base: usize,
-    count: usize,
-    pointer: u64,
-    sizing: Sizing,
-) -> Sizing
-    ensures { sized result actions.new temporaries.new ≡ forward_pass section.entry.stream.now section.entry.table.now actions.old temporaries.old base count pointer sizing }
-{
-    let k = pass(section, true, actions, temporaries, base, count, pointer);
-    record_errors(sizing, k)
+    let errors = pass(section, forward, actions, temporaries, base, count, pointer);
+    record_errors(sizing, errors)
 }

@@ -4,25 +4,13 @@ use mathlib.Core.Bool.{Bool, true, false}
 use mathlib.Core.List.{List}
 use Prim.Native.Nat.{ℕ, ◌+◌, ◌-◌, ◌≤◌, ◌<◌}
 use native.Mathlib.Omega.{arith}
-use borrow.Author.Tests.{eq-eqb, ne_eqb}
 use Rattle.list_values.specs.declared.sizes.Sizing.{Sizing}
-use Rattle.prelude.specs.Base.{when◌then◌else◌}
 use Rattle.access.specs.Loops.{run, run_down}
-use Rattle.list_values.specs.Values.{place}
 use Rattle.list_values.specs.Sizes.{sized, then_s, sum_of_errors, recorded, Counted}
 use Rattle.list_values.proofs.SizeLaws.{record_sum}
 use Rattle.access.proofs.LoopLaws.{run_again, run_end, down_again, down_end}
 use Rattle.list_pushes.specs.Rules.{update_operand_sizes}
 use Rattle.list_pushes.specs.Passes.{action_place, update_action, turn, turns, pass}
-
-pub update_action_law : (s t a m a1 m1 : List ℕ) (fallback : Bool) (base ptr i p k x y : ℕ) (z : Sizing) → p ≡ action_place base i → Counted x a1 m1 (update_operand_sizes s t fallback a m p ptr) → y ≡ sum_of_errors k x → sized (recorded y z) a1 m1 ≡ update_action s t fallback base ptr i (sized (recorded k z) a m)
-unfolding update_action then_s
-update_action_law s t a m a1 m1 fallback base ptr i p k x y z h e g = rw (g, record_sum z k x, ← h) (e.counted (recorded k z))
-
--- a pass that begins
-pub pass_start : (s t a m : List ℕ) (fallback : Bool) (base n ptr : ℕ) (z : Sizing) → turns fallback n 0 (update_action s t fallback base ptr) (sized (recorded 0 z) a m) ≡ pass s t fallback a m base n ptr z
-unfolding pass recorded
-pass_start s t a m fallback base n ptr z = refl
 
 pub turns_again : {A : Type 0} (b : Bool) (n i k : ℕ) (f : ℕ → A → A) (x y w : A) → i < n → k ≡ turn b n i → turns b n i f x ≡ w → y ≡ f k x → turns b n (i + 1) f y ≡ w
 unfolding turn turns
@@ -36,6 +24,26 @@ pub turns-end : {A : Type 0} (b : Bool) (n i : ℕ) (f : ℕ → A → A) (x w :
 unfolding turns
 turns-end true n i f x w h e = run_end n i f x w h e
 turns-end false n i f x w h e = down_end (n - i) f x w (omega arith) e
+
+-- Whatever the errors before, what is left of a pass after i turns, with k errors from them, is the whole pass.
+pub record Left (s t : List ℕ) (forward : Bool) (base n ptr : ℕ) (a₀ m₀ : List ℕ) (i k : ℕ) (a m : List ℕ) : Type 0 where
+  pub left : (z : Sizing) → turns forward n i (update_action s t forward base ptr) (sized (recorded k z) a m) ≡ pass s t forward a₀ m₀ base n ptr z
+
+module _ (s t : List ℕ) (forward : Bool) (base n ptr : ℕ) (a₀ m₀ : List ℕ) where
+  pub left_start : Left s t forward base n ptr a₀ m₀ 0 0 a₀ m₀
+  unfolding pass recorded
+  left_start = record { left = λ z. refl }
+
+  pub left_again : (i k x y o p : ℕ) (a m a1 m1 : List ℕ) → i < n → o ≡ turn forward n i → p ≡ action_place base o → Left s t forward base n ptr a₀ m₀ i k a m → Counted x a1 m1 (update_operand_sizes s t forward a m p ptr) → y ≡ sum_of_errors k x → Left s t forward base n ptr a₀ m₀ (i + 1) y a1 m1
+  left_again i k x y o p a m a1 m1 h f g l e q = record { left = λ z. turns_again forward n i o (update_action s t forward base ptr) (sized (recorded k z) a m) (sized (recorded y z) a1 m1) (pass s t forward a₀ m₀ base n ptr z) h f (l.left z) (step z) }
+    where
+      step : (z : Sizing) → sized (recorded y z) a1 m1 ≡ update_action s t forward base ptr o (sized (recorded k z) a m)
+      step z = unfold update_action then_s in rw (q, record_sum z k x, ← g) (e.counted (recorded k z))
+
+  pub left_end : (i k : ℕ) (a m : List ℕ) → n ≤ i → Left s t forward base n ptr a₀ m₀ i k a m → Counted k a m (pass s t forward a₀ m₀ base n ptr)
+  left_end i k a m h l = record { counted = λ z. turns-end forward n i (update_action s t forward base ptr) (sized (recorded k z) a m) (pass s t forward a₀ m₀ base n ptr z) h (l.left z) }
+
+pub ruleset pass_laws = (left_start, left_again, left_end)
 
 -- a pass whose errors are then recorded
 pub pass-recorded : (s t a m a1 m1 : List ℕ) (fallback : Bool) (base n ptr k : ℕ) (z y : Sizing) → Counted k a1 m1 (pass s t fallback a m base n ptr) → y ≡ recorded k z → sized y a1 m1 ≡ pass s t fallback a m base n ptr z

@@ -4,6 +4,9 @@ use Rattle.list_values.specs.declared.value.Value.{Value}
 use Rattle.list_values.specs.Values.{absent}
 use Rattle.list_pushes.specs.declared.push.Operation.{Operation}
 
+abbrev pub nullary : ℕ → Operation
+nullary code = record { code = code; number = 0; count = 0; first = absent; second = absent }
+
 abbrev pub unary : ℕ → Value → Operation
 unary code input = record { code = code; number = 0; count = 1; first = input; second = absent }
 

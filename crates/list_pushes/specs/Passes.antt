@@ -25,4 +25,4 @@ unfoldable pub turns : {A : Type 0} → Bool → ℕ → ℕ → (ℕ → A → 
 turns forward n i f x = when forward then run (n - i) i f x else run_down (n - i) f x
 
 unfoldable pub pass : List ℕ → List ℕ → Bool → List ℕ → List ℕ → ℕ → ℕ → ℕ → Sizing → Sized
-pass s t fallback a m base n ptr z = turns fallback n 0 (update_action s t fallback base ptr) (sized z a m)
+pass s t forward a m base n ptr z = turns forward n 0 (update_action s t forward base ptr) (sized z a m)

@@ -9,8 +9,7 @@ use Rattle.list_pushes.specs.Outcomes.{Read}
 use Rattle.list_pushes.specs.Outcomes.{Pushed}
 use Rattle.list_values.specs.Base.{Listed, listed}
 use Rattle.prelude.specs.Base.{when◌then◌else◌}
-use Rattle.access.specs.Loops.{run}
-use Rattle.list_values.specs.Values.{local, value_at, put_value, zero_word}
+use Rattle.list_values.specs.Values.{local, value_at, put_value, zero_words}
 use Rattle.list_values.specs.Sizes.{then_s}
 use Rattle.list_pushes.specs.Rules.{update_operand_sizes}
 
@@ -74,16 +73,12 @@ output_or m given to size st = when given then listed (Read.Value to st) m else 
 unfoldable pub write_operands : List ℕ → ℕ → Value → Value → Value → List ℕ
 write_operands a at out x y = put_value (put_value (put_value a at 4 out) at 6 x) at 8 y
 
--- the last 14 words
-unfoldable pub write_zeros : List ℕ → ℕ → List ℕ
-write_zeros a at = run 14 10 (zero_word at) a
-
 unfoldable pub write_head : List ℕ → ℕ → ℕ → ℕ → ℕ → ℕ → List ℕ
 write_head a at kind op number count = set (set (set (set a (at + 0) kind) (at + 1) op) (at + 2) number) (at + 3) count
 
 -- all 24 words of an action with at most two inputs
 unfoldable pub write : List ℕ → ℕ → ℕ → ℕ → ℕ → ℕ → Value → Value → Value → List ℕ
-write a at kind op number count out x y = write_zeros (write_operands (write_head a at kind op number count) at out x y) at
+write a at kind op number count out x y = zero_words (write_operands (write_head a at kind op number count) at out x y) at 10
 
 -- an action of any kind with at most two inputs, pushed as it is
 unfoldable pub push : List ℕ → ℕ → ℕ → ℕ → ℕ → Value → Value → Value → State → Listed Pushed

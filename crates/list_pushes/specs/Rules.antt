@@ -1,6 +1,6 @@
 -- The size rule of each operation, applied to the action at a position. In all of these s is the stream, t the section's
 -- table, a the actions, m the temporaries, z the record of errors, ptr the pointer size.
-use Rattle.std.specs.Prelude.{ℕ, ◌+◌, Bool, false, List, get_or, eqb, ltb}
+use Rattle.std.specs.Prelude.{ℕ, ◌+◌, Bool, List, get_or, eqb, ltb}
 use Rattle.list_values.specs.declared.sizes.Sizing.{Sizing}
 use Rattle.prelude.specs.Base.{when◌then◌else◌}
 use Rattle.list_values.specs.Sizes.{Sized, sized, then_s, set_operand, set_three, set_size_of_pair, set_size_of_triple, set_unsized}

@@ -27,23 +27,24 @@ fn turn(forward: bool, count: usize, index: usize) -> usize
 }
 
 // The n actions from a position on, forward with fallback or backward without: how many errors.
+#[tactic(auto, using(crate::proofs::PassLaws::pass_laws))]
 pub fn pass(
     section: Section<'_>,
-    fallback: bool,
+    forward: bool,
     actions: &mut [u64],
     temporaries: &mut [u64],
     base: usize,
     count: usize,
     pointer: u64,
 ) -> u64
-    ensures { Counted result actions.new temporaries.new (pass section.entry.stream.now section.entry.table.now fallback actions.old temporaries.old base count pointer) }
+    ensures { Counted result actions.new temporaries.new (pass section.entry.stream.now section.entry.table.now forward actions.old temporaries.old base count pointer) }
 {
     let mut k = 0;
     for i in 0..count {
-        let at = action_place(base, turn(fallback, count, i));
+        let at = action_place(base, turn(forward, count, i));
         k = sum_of_errors(
             k,
-            update_operand_sizes(section, fallback, actions, temporaries, at, pointer),
+            update_operand_sizes(section, forward, actions, temporaries, at, pointer),
         );
     }
     k

@@ -3,17 +3,22 @@ ghost use Rattle.std.specs.Prelude.{◌≡◌, ◌+◌, leb, is_some, unwrap_or}
 ghost use Rattle.list_values.specs.Base.{listed};
 ghost use Rattle.list_values.specs.Values.{absent};
 ghost use Rattle.list_pushes.specs.Outcomes.{to_read, to_pushed};
-ghost use Rattle.list_pushes.specs.Operations.{unary, binary};
-ghost use Rattle.list_pushes.specs.Pushes.{read, pushed, state, add_tmp, output_or, write_operands, write_zeros, write_head, write, push, update_last, push_op, op_to, op};
+ghost use Rattle.list_pushes.specs.Operations.{nullary, unary, binary};
+ghost use Rattle.list_pushes.specs.Pushes.{read, pushed, state, add_tmp, output_or, write_operands, write_head, write, push, update_last, push_op, op_to, op};
 
 use crate::passes::pass;
 use codes::refusal::Refusal;
 use codes::{NONE, action, action_kind, value_kind};
 use list_values::section::Section;
 use list_values::sizes::{Sizing, record_errors};
-use list_values::value::{Value, absent, local, put, put_value, value_at};
+use list_values::value::{
+    INPUT_0, INPUT_1, OUTPUT, Value, absent, local, put, put_value, value_at, zero_words,
+};
 
 const MOST_TEMPORARIES: usize = 512;
+
+// The words behind an action's first two inputs.
+const AFTER_INPUTS: usize = 10;
 
 // Where the list of actions ends, the temporaries made, and the sizing. The two lent lists go beside it as parameters of their
 // own: a struct that holds them as `&mut` would need in each contract two clauses more, that it still holds the same ones.
@@ -43,6 +48,19 @@ pub struct Operation {
 }
 
 impl Operation {
+    // With no input; its number is 0, as with the next two.
+    pub fn nullary(code: u64) -> Operation
+        ensures { result ≡ nullary code }
+    {
+        Operation {
+            code,
+            number: 0,
+            count: 0,
+            first: absent(),
+            second: absent(),
+        }
+    }
+
     pub fn unary(code: u64, input: Value) -> Operation
         ensures { result ≡ unary code input }
     {
@@ -79,17 +97,13 @@ pub fn add_tmp(
     ensures { listed (to_read result) temporaries.new ≡ add_tmp temporaries.old name size state }
 {
     let n = state.temporaries;
-    if n < temporaries.len() {
-        if n < MOST_TEMPORARIES {
-            temporaries[n] = name % 65536 + size % 65536 * 65536;
-            return Ok((
-                local(value_kind::PCODE_TMP, n as u64),
-                State {
-                    temporaries: n + 1,
-                    ..state
-                },
-            ));
-        }
+    if n < temporaries.len() && n < MOST_TEMPORARIES {
+        temporaries[n] = name % 65536 + size % 65536 * 65536;
+        let next = State {
+            temporaries: n + 1,
+            ..state
+        };
+        return Ok((local(value_kind::PCODE_TMP, n as u64), next));
     }
     Err(Refusal::TooManyTemporaries)
 }
@@ -114,17 +128,9 @@ pub fn output_or(
 fn write_operands(actions: &mut [u64], at: usize, out: Value, first: Value, second: Value)
     ensures { actions.new ≡ write_operands actions.old at out first second }
 {
-    put_value(actions, at, action::OUTPUT, out);
-    put_value(actions, at, action::INPUT_0, first);
-    put_value(actions, at, action::INPUT_1, second);
-}
-
-fn write_zeros(actions: &mut [u64], at: usize)
-    ensures { actions.new ≡ write_zeros actions.old at }
-{
-    for i in 10..action::WORDS {
-        put(actions, at, i, 0);
-    }
+    put_value(actions, at, OUTPUT, out);
+    put_value(actions, at, INPUT_0, first);
+    put_value(actions, at, INPUT_1, second);
 }
 
 #[tactic(auto, unfolding(crate::specs::Pushes::write_head))]
@@ -144,17 +150,13 @@ fn write(actions: &mut [u64], at: usize, kind: u64, operation: Operation, out: V
 {
     write_head(actions, at, kind, operation);
     write_operands(actions, at, out, operation.first, operation.second);
-    write_zeros(actions, at);
+    zero_words(actions, at, AFTER_INPUTS);
 }
 
 fn has_room(len: usize, end: usize) -> bool
     ensures { result ≡ leb (end + 24) len }
 {
-    if end <= len {
-        action::WORDS <= len - end
-    } else {
-        false
-    }
+    end <= len && action::WORDS <= len - end
 }
 
 // An action of any kind with at most two inputs, pushed as it is.
@@ -228,7 +230,7 @@ pub fn op_to(
 {
     let at = state.end;
     let next = push_op(section, actions, temporaries, env, operation, to, state)?;
-    Ok((value_at(actions, at, action::OUTPUT), next))
+    Ok((value_at(actions, at, OUTPUT), next))
 }
 
 // The same, with a fresh temporary where no output is given.

@@ -1,5 +1,5 @@
 // The size rule of each operation, applied in place to an action of the list, and how many errors that gives.
-ghost use Rattle.std.specs.Prelude.{◌≡◌, ◌<◌};
+ghost use Rattle.std.specs.Prelude.{◌≡◌};
 ghost use Rattle.list_values.specs.Sizes.{Counted};
 ghost use Rattle.list_pushes.specs.RuleNumbers.{rule_number, partner, pair_rule};
 ghost use Rattle.list_pushes.specs.Rules.{rule_of_operator, rule_of_one_input, rule_of_other, rule_of, bool_not, branch, apply_rule, update_operand_sizes};
@@ -7,9 +7,10 @@ ghost use Rattle.list_pushes.specs.Rules.{rule_of_operator, rule_of_one_input, r
 use codes::{action, action_kind, operation};
 use list_values::section::Section;
 use list_values::sizes::{
-    set_operand, set_size_of_pair, set_size_of_triple, set_three, set_unsized, sum_of_errors,
+    set_operand, set_size_of_pair, set_size_of_triple, set_three, set_two, set_unsized,
+    sum_of_errors,
 };
-use list_values::value::get;
+use list_values::value::{INPUT_0, INPUT_1, OUTPUT, get};
 
 // The operators have the numbers below this.
 const OPERATORS: u64 = 33;
@@ -66,8 +67,7 @@ fn rule_of_other(op: u64) -> Rule
 {
     match op {
         operation::COPY => Rule::Pair,
-        operation::LOAD => Rule::Pointer,
-        operation::STORE => Rule::Pointer,
+        operation::LOAD | operation::STORE => Rule::Pointer,
         operation::BRANCH => Rule::Branch,
         operation::PCODE_BRANCH => Rule::Condition,
         _ => Rule::Unsized,
@@ -96,18 +96,18 @@ enum Paired {
 }
 
 // The operand that has the size of the first input: the second input of a comparison, else the output.
-fn partner(paired: Paired) -> usize
-    ensures { (result ≡ partner paired) × (result < 32) }
+fn partner(paired: Paired) -> u8
+    ensures { result ≡ partner paired }
 {
     match paired {
-        Paired::Alone => action::OUTPUT,
-        Paired::Shift => action::OUTPUT,
-        Paired::Comparison => action::INPUT_1,
+        Paired::Alone | Paired::Shift => OUTPUT,
+        Paired::Comparison => INPUT_1,
     }
 }
 
 // These three call `set_size_of_pair` from one place, so that it is compiled into it: with a call of its own each, a push takes
 // longer.
+#[tactic(auto, using(crate::proofs::RuleLaws::rule_laws))]
 fn pair_rule(
     section: Section<'_>,
     paired: Paired,
@@ -125,31 +125,31 @@ fn pair_rule(
         actions,
         temporaries,
         at,
-        action::INPUT_0,
+        INPUT_0,
         partner(paired),
         pointer,
     );
     match paired {
         Paired::Alone => x,
         Paired::Shift => {
-            let more = set_unsized(section, actions, temporaries, at, action::INPUT_1, pointer);
+            let more = set_unsized(section, actions, temporaries, at, INPUT_1, pointer);
             sum_of_errors(x, more)
         }
         Paired::Comparison => {
-            let more = set_operand(section, actions, temporaries, at, action::OUTPUT, 1);
+            let more = set_operand(section, actions, temporaries, at, OUTPUT, 1);
             sum_of_errors(x, more)
         }
     }
 }
 
+#[tactic(auto, unfolding(crate::specs::Rules::bool_not, list_values::specs::Sizes::set_two))]
 fn bool_not(section: Section<'_>, actions: &mut [u64], temporaries: &mut [u64], at: usize) -> u64
     ensures { Counted result actions.new temporaries.new (bool_not section.entry.stream.now section.entry.table.now actions.old temporaries.old at) }
 {
-    let x = set_operand(section, actions, temporaries, at, action::INPUT_0, 1);
-    let y = set_operand(section, actions, temporaries, at, action::OUTPUT, 1);
-    sum_of_errors(x, y)
+    set_two(section, actions, temporaries, at, INPUT_0, OUTPUT, 1)
 }
 
+#[tactic(auto, using(crate::proofs::RuleLaws::rule_laws))]
 fn branch(
     section: Section<'_>,
     actions: &mut [u64],
@@ -159,9 +159,9 @@ fn branch(
 ) -> u64
     ensures { Counted result actions.new temporaries.new (branch section.entry.stream.now section.entry.table.now actions.old temporaries.old at pointer) }
 {
-    let x = set_operand(section, actions, temporaries, at, action::INPUT_0, 1);
-    let y = set_unsized(section, actions, temporaries, at, action::INPUT_1, pointer);
-    sum_of_errors(x, y)
+    let condition = set_operand(section, actions, temporaries, at, INPUT_0, 1);
+    let target = set_unsized(section, actions, temporaries, at, INPUT_1, pointer);
+    sum_of_errors(condition, target)
 }
 
 #[tactic(auto, unfolding(crate::specs::Rules::apply_rule, crate::specs::Rules::few_operands, list_values::specs::Sizes::recorded))]
@@ -193,14 +193,15 @@ fn apply_rule(
         }
         Rule::Boolean => set_three(section, actions, temporaries, at, 1),
         Rule::Not => bool_not(section, actions, temporaries, at),
-        Rule::Nan => set_operand(section, actions, temporaries, at, action::OUTPUT, 1),
-        Rule::Pointer => set_operand(section, actions, temporaries, at, action::INPUT_0, pointer),
+        Rule::Nan => set_operand(section, actions, temporaries, at, OUTPUT, 1),
+        Rule::Pointer => set_operand(section, actions, temporaries, at, INPUT_0, pointer),
         Rule::Branch => branch(section, actions, temporaries, at, pointer),
-        Rule::Condition => set_operand(section, actions, temporaries, at, action::INPUT_0, 1),
+        Rule::Condition => set_operand(section, actions, temporaries, at, INPUT_0, 1),
     }
 }
 
 // The rule of the Op at a position; other actions are not sized here.
+#[tactic(auto, using(crate::proofs::RuleLaws::rule_laws))]
 pub fn update_operand_sizes(
     section: Section<'_>,
     fallback: bool,

@@ -20,8 +20,8 @@ use Rattle.definition.proofs.Openers.{base_opens}
 use Rattle.definition_guarantee.proofs.RightAccepted.{zeros as filled-zeros}
 use Rattle.list_values.specs.Base.{Listed, listed, then_l}
 use Rattle.access.specs.Loops.{run}
-use Rattle.list_values.specs.Values.{place}
-use Rattle.list_end.specs.End.{mark_build, mark_action, mark_built, zero_action, write_build, implicit_build, implicit_builds, move_word, move_action, move_to, move_down, zero_from, assemble}
+use Rattle.list_values.specs.Values.{place, zero_words}
+use Rattle.list_end.specs.End.{mark_build, mark_action, mark_built, write_build, implicit_build, implicit_builds, move_word, move_action, move_to, move_down, zero_from, assemble}
 use Rattle.list_refinement.specs.Encoding.{actions_in}
 use Rattle.list_refinement.proofs.Framing.{get_in, set_in}
 use Rattle.list_refinement.proofs.Operands.{words_of_lem, out_number, out_word, action_length}
@@ -32,27 +32,27 @@ use Rattle.list_refinement.proofs.Fixing.{filled_append}
 
 -- which subtables are built
 
-unfoldable mark_all : List SemanticAction → List ℕ → List ℕ
+unfoldable mark_all : List SemanticAction → List Bool → List Bool
 mark_all [] b = b
 mark_all (x ∷ xs) b = mark_all xs (mark_build (action_kind_number x.kind) x.number b)
 
-mark_length : (k n : ℕ) (b : List ℕ) → length (mark_build k n b) ≡ length b
+mark_length : (k n : ℕ) (b : List Bool) → length (mark_build k n b) ≡ length b
 unfolding mark_build
 mark_length k n b = go (eqb k 5)
   where
-    go : (c : Bool) → length (when c then set b n 1 else b) ≡ length b
-    go true = length-set b n 1
+    go : (c : Bool) → length (when c then set b n true else b) ≡ length b
+    go true = length-set b n true
     go false = refl
 
-set_get : (b : List ℕ) (n i : ℕ) → i < length b → get_or (set b n 1) i 0 ≡ (when eqb i n then 1 else get_or b i 0)
+set_get : (b : List Bool) (n i : ℕ) → i < length b → get_or (set b n true) i false ≡ (when eqb i n then true else get_or b i false)
 set_get b n i h = go (eqb i n) refl
   where
-    go : (c : Bool) → eqb i n ≡ c → get_or (set b n 1) i 0 ≡ (when c then 1 else get_or b i 0)
-    go true e = let q : i ≡ n = eqb-true i n e in rw (← q) (get_or-set_same b i 1 0 h)
-    go false e = get_or-set_other b n i 1 0 (eqb-false i n e)
+    go : (c : Bool) → eqb i n ≡ c → get_or (set b n true) i false ≡ (when c then true else get_or b i false)
+    go true e = let q : i ≡ n = eqb-true i n e in rw (← q) (get_or-set_same b i true false h)
+    go false e = get_or-set_other b n i true false (eqb-false i n e)
 
-kind_get : (k : ActionKind) (n : ℕ) (b : List ℕ) (i : ℕ) → i < length b → get_or (mark_build (action_kind_number k) n b) i 0
-    ≡ (when (when is_build k then eqb i n else false) then 1 else get_or b i 0)
+kind_get : (k : ActionKind) (n : ℕ) (b : List Bool) (i : ℕ) → i < length b → get_or (mark_build (action_kind_number k) n b) i false
+    ≡ (when (when is_build k then eqb i n else false) then true else get_or b i false)
 unfolding mark_build action_kind_number is_build
 kind_get (ActionKind.Op op) n b i h = refl
 kind_get ActionKind.AddressOf n b i h = refl
@@ -66,8 +66,8 @@ unfolding base_opens
 same_if true b = refl
 same_if false b = refl
 
-all_get : (xs : List SemanticAction) (b : List ℕ) (i : ℕ) → i < length b → get_or (mark_all xs b) i 0
-    ≡ (when any (builds i) xs then 1 else get_or b i 0)
+all_get : (xs : List SemanticAction) (b : List Bool) (i : ℕ) → i < length b → get_or (mark_all xs b) i false
+    ≡ (when any (builds i) xs then true else get_or b i false)
 unfolding mark_all any
 all_get [] b i h = refl
 all_get (x ∷ xs) b i h =
@@ -75,14 +75,14 @@ all_get (x ∷ xs) b i h =
     ∙ rw (kind_get x.kind x.number b i h) (unfold builds in rw (← same_if (is_build x.kind) (eqb i x.number))
     (go (when is_build x.kind then eqb i x.number else false) (any (builds i) xs)))
   where
-    go : (p q : Bool) → (when q then 1 else (when p then 1 else get_or b i 0)) ≡ (when definition.when◌then◌else◌ p true q then 1 else get_or b i 0)
+    go : (p q : Bool) → (when q then true else (when p then true else get_or b i false)) ≡ (when definition.when◌then◌else◌ p true q then true else get_or b i false)
     go true true = unfold base_opens in refl
     go true false = unfold base_opens in refl
     go false true = unfold base_opens in refl
     go false false = unfold base_opens in refl
 
 module _ (front tail : List ℕ) (base : ℕ) (begins : length front ≡ base) (low : base < 4096) where
-  mark-one : (ps : List SemanticAction) (x : SemanticAction) (xs : List SemanticAction) (b : List ℕ) → length ps < 700000000000000000
+  mark-one : (ps : List SemanticAction) (x : SemanticAction) (xs : List SemanticAction) (b : List Bool) → length ps < 700000000000000000
       → mark_action (actions_in front tail (ps ++ (x ∷ xs))) base (length ps) b ≡ mark_build (action_kind_number x.kind) x.number b
   unfolding mark_action
   mark-one ps x xs b h =
@@ -92,7 +92,7 @@ module _ (front tail : List ℕ) (base : ℕ) (begins : length front ≡ base) (
       (focus_at front tail ps base begins) i (rw (action_length x) h) in
       rw (place_is base (length ps) low h, list_between front tail ps x xs, w 0 (omega arith), w 2 (omega arith), words_of_lem x)
 
-  mark_from : (xs ps : List SemanticAction) (b : List ℕ) → length ps + length xs < 700000000000000000
+  mark_from : (xs ps : List SemanticAction) (b : List Bool) → length ps + length xs < 700000000000000000
       → run (length xs) (length ps) (mark_action (actions_in front tail (ps ++ xs)) base) b ≡ mark_all xs b
   unfolding run mark_all
   mark_from [] ps b h = refl
@@ -102,7 +102,7 @@ module _ (front tail : List ℕ) (base : ℕ) (begins : length front ≡ base) (
       ap (run (length xs) (suc (length ps)) (mark_action (actions_in front tail (ps ++ (x ∷ xs))) base)) (mark-one ps x xs b (omega arith))
       ∙ (rw (n, append_assoc ps (x ∷ []) xs) at i)
 
-  mark_is : (xs : List SemanticAction) (b : List ℕ) → length xs < 700000000000000000
+  mark_is : (xs : List SemanticAction) (b : List Bool) → length xs < 700000000000000000
       → mark_built (actions_in front tail xs) base (length xs) b ≡ mark_all xs b
   unfolding mark_built
   mark_is xs b h = mark_from xs [] b (omega arith)
@@ -120,8 +120,8 @@ build-words i = rw (words_of_lem (built i))
 zeros : List ℕ
 zeros = 0 ∷ 0 ∷ 0 ∷ 0 ∷ 0 ∷ 0 ∷ 0 ∷ 0 ∷ 0 ∷ 0 ∷ 0 ∷ 0 ∷ 0 ∷ 0 ∷ 0 ∷ 0 ∷ 0 ∷ 0 ∷ 0 ∷ 0 ∷ 0 ∷ 0 ∷ 0 ∷ 0 ∷ []
 
-zero_is : (p rest : List ℕ) (at : ℕ) → length p ≡ at → 24 ≤ length rest → zero_action (p ++ rest) at ≡ p ++ (zeros ++ drop 24 rest)
-unfolding zero_action run fill zeros
+zero_is : (p rest : List ℕ) (at : ℕ) → length p ≡ at → 24 ≤ length rest → zero_words (p ++ rest) at 0 ≡ p ++ (zeros ++ drop 24 rest)
+unfolding zero_words run fill zeros
 zero_is p rest at e h = fill_is zeros p rest at 0 (e ∙ omega arith) h
 
 build_is : (p rest : List ℕ) (at i : ℕ) → length p ≡ at → 24 ≤ length rest → write_build (p ++ rest) at i
@@ -140,16 +140,16 @@ more_in l bs x =
     let q : 24 * (length bs + 1) ≡ 24 * length bs + 24 = omega arith in
     rw (list_append bs (x ∷ []), n, q, ← drop-drop 24 (24 * length bs) l) (simp append_assoc)
 
-module _ (ys : List SemanticAction) (l marks : List ℕ) (subtables : ℕ) (few : subtables ≤ 32) (room : 24 * subtables ≤ length l)
-    (marked : (i : ℕ) → i < subtables → get_or marks i 0 ≡ (when any (builds i) ys then 1 else 0)) where
+module _ (ys : List SemanticAction) (l : List ℕ) (marks : List Bool) (subtables : ℕ) (few : subtables ≤ 32) (room : 24 * subtables ≤ length l)
+    (marked : (i : ℕ) → i < subtables → get_or marks i false ≡ (when any (builds i) ys then true else false)) where
   build-one : (bs : List SemanticAction) (i : ℕ) → length bs ≤ i → i < subtables → (b : Bool) → any (builds i) ys ≡ b
       → implicit_build marks i (listed (length bs) (actions_in [] l bs))
       ≡ (when b then listed (length bs) (actions_in [] l bs) else listed (length (bs ++ (built i ∷ [])))
       (actions_in [] l (bs ++ (built i ∷ []))))
   unfolding implicit_build then_l
-  build-one bs i h j true e = let q : get_or marks i 0 ≡ 1 = marked i j ∙ rw e in rw q
+  build-one bs i h j true e = let q : get_or marks i false ≡ true = marked i j ∙ rw e in rw q
   build-one bs i h j false e =
-      let q : get_or marks i 0 ≡ 0 = marked i j ∙ rw e in
+      let q : get_or marks i false ≡ false = marked i j ∙ rw e in
       let n : length (bs ++ (built i ∷ [])) ≡ length bs + 1 = length-append bs (built i ∷ []) in
       let c : (length bs + 1) % 2 ^ 64 ≡ length bs + 1 = omega arith in
       let p : place 0 (length bs) ≡ 24 * length bs = place_is 0 (length bs) (omega arith) (omega arith) ∙ omega arith in
@@ -297,17 +297,17 @@ module _ (front tail : List ℕ) (subtables : ℕ) (few : subtables ≤ 32) (beg
       ∙ rw (length-append (list_words ys) (drop (24 * length ys) tail), list_length ys, length-drop (24 * length ys) tail, begins)
       (omega arith)
 
-  marks_are : (i : ℕ) → i < subtables → get_or (mark_built whole (24 * subtables) (length ys) (replicate 32 0)) i 0
-      ≡ (when any (builds i) ys then 1 else 0)
+  marks_are : (i : ℕ) → i < subtables → get_or (mark_built whole (24 * subtables) (length ys) (replicate 32 false)) i false
+      ≡ (when any (builds i) ys then true else false)
   marks_are i h =
-      rw (mark_is front tail (24 * subtables) begins (omega arith) ys (replicate 32 0) (omega arith))
-      (all_get ys (replicate 32 0) i (rw (length-replicate {A = ℕ} 32 0) (omega arith))
-      ∙ rw (get_or-replicate {A = ℕ} 32 i 0 0 (omega arith)))
+      rw (mark_is front tail (24 * subtables) begins (omega arith) ys (replicate 32 false) (omega arith))
+      (all_get ys (replicate 32 false) i (rw (length-replicate {A = Bool} 32 false) (omega arith))
+      ∙ rw (get_or-replicate {A = Bool} 32 i false false (omega arith)))
 
-  builds_are : implicit_builds whole (mark_built whole (24 * subtables) (length ys) (replicate 32 0)) subtables
+  builds_are : implicit_builds whole (mark_built whole (24 * subtables) (length ys) (replicate 32 false)) subtables
       ≡ listed (length before) (actions_in [] whole before)
   unfolding implicit_builds list_words
-  builds_are = builds_from ys whole (mark_built whole (24 * subtables) (length ys) (replicate 32 0)) subtables few
+  builds_are = builds_from ys whole (mark_built whole (24 * subtables) (length ys) (replicate 32 false)) subtables few
       (rw whole_length (omega arith)) marks_are subtables 0 [] (omega arith) (omega arith)
 
   abbrev gap : List ℕ

@@ -13,8 +13,8 @@ use Rattle.definition.specs.ActionList.{input_words, value_words, action_kind_nu
 pub use Rattle.definition_guarantee.proofs.RightAccepted.{list_length}
 use Rattle.list_values.specs.declared.value.Value.{Value as WordValue}
 use Rattle.access.specs.Loops.{run}
-use Rattle.list_values.specs.Values.{word, put_value}
-use Rattle.list_pushes.specs.Pushes.{write_operands, write_zeros, write_head, write}
+use Rattle.list_values.specs.Values.{word, put_value, zero_words}
+use Rattle.list_pushes.specs.Pushes.{write_operands, write_head, write}
 use Rattle.list_refinement.specs.Encoding.{enc_v, packed, actions_in, Sound, Each, EachOption, SoundAction, first_of, second_of, output_of}
 use Rattle.list_refinement.proofs.Operands.{word_is, words_of_lem, out_number, out_word}
 use Rattle.list_refinement.proofs.Focus.{words_of}
@@ -64,7 +64,7 @@ written kind op number count out x y =
 
 write_is : (p rest : List ℕ) (at kind op number count : ℕ) (out x y : WordValue) → length p ≡ at → 24 ≤ length rest
     → write (p ++ rest) at kind op number count out x y ≡ p ++ (written kind op number count out x y ++ drop 24 rest)
-unfolding write write_zeros write_operands write_head put_value run fill
+unfolding write zero_words write_operands write_head put_value run fill
 write_is p rest at kind op number count out x y e h = fill_is (written kind op number count out x y) p rest at 0 (e ∙ omega arith) h
 
 sound-word : {sec : Section} {n : ℕ} {v : Value} → Sound sec n v → word (enc_v v) ≡ packed v

@@ -16,7 +16,7 @@ use Rattle.access.specs.Loops.{run, run_down}
 use Rattle.list_values.specs.Values.{place}
 use Rattle.list_values.specs.Sizes.{Sized, sized, then_s}
 use Rattle.list_pushes.specs.Passes.{action_place, update_action}
-use Rattle.list_end.specs.Passes.{backward_pass, forward_pass}
+use Rattle.list_end.specs.Passes.{size_pass}
 use Rattle.list_refinement.specs.Encoding.{actions_in, temporaries_in, enc_z, SoundTmp, Each, SoundAction, SizesHold}
 use Rattle.list_refinement.proofs.Rules.{update_is, Ruled, ruled-after, updated_after}
 use Rattle.list_refinement.proofs.Lists.{list_between, focus_at}
@@ -140,9 +140,9 @@ module _ (s t : List ℕ) (sec : Section) (holds : SizesHold s t sec) where
 
     pub forward_is : (xs : List SemanticAction) (z : Sizing) → length xs < 700000000000000000
         → Each (RuledAction sec (length z.temporaries)) xs → Each SoundTmp z.temporaries → length z.errors + 3 * length xs < 2 ^ 64
-        → forward_pass s t (actions_in front tail xs) (temporaries_in rest z.temporaries) base (length xs) (pointer_size sec) (enc_z z)
+        → size_pass s t true (actions_in front tail xs) (temporaries_in rest z.temporaries) base (length xs) (pointer_size sec) (enc_z z)
         ≡ held_list front tail rest (d.forward_pass sec xs z)
-    unfolding forward_pass
+    unfolding size_pass
     forward_is xs z h f g r = forward_from xs [] z (omega arith) f g r
 
     -- the first action last
@@ -174,17 +174,17 @@ module _ (s t : List ℕ) (sec : Section) (holds : SizesHold s t sec) where
 
     pub backward_is : (xs : List SemanticAction) (z : Sizing) → length xs < 700000000000000000
         → Each (RuledAction sec (length z.temporaries)) xs → Each SoundTmp z.temporaries → length z.errors + 3 * length xs < 2 ^ 64
-        → backward_pass s t (actions_in front tail xs) (temporaries_in rest z.temporaries) base (length xs) (pointer_size sec) (enc_z z)
+        → size_pass s t false (actions_in front tail xs) (temporaries_in rest z.temporaries) base (length xs) (pointer_size sec) (enc_z z)
         ≡ held_list front tail rest (d.backward_pass sec xs z)
-    unfolding backward_pass
+    unfolding size_pass
     backward_is xs z h f g r = backward_from xs [] z (update_action s t false base (pointer_size sec))
         (λ i x. ap (λ (n : ℕ). update_action s t false base (pointer_size sec) n x) (sym (zero-add i))) (omega arith) f g r
 
     -- both passes
     pub inference_is : (xs : List SemanticAction) (z : Sizing) → length xs < 700000000000000000
         → Each (RuledAction sec (length z.temporaries)) xs → Each SoundTmp z.temporaries → length z.errors + 6 * length xs < 2 ^ 64
-        → then_s (backward_pass s t (actions_in front tail xs) (temporaries_in rest z.temporaries) base (length xs) (pointer_size sec)
-        (enc_z z)) (λ y a m. forward_pass s t a m base (length xs) (pointer_size sec) y)
+        → then_s (size_pass s t false (actions_in front tail xs) (temporaries_in rest z.temporaries) base (length xs) (pointer_size sec)
+        (enc_z z)) (λ y a m. size_pass s t true a m base (length xs) (pointer_size sec) y)
         ≡ held_list front tail rest (d.apply_size_inference sec xs z)
     unfolding then_s d.apply_size_inference
     inference_is xs z h f g r =

@@ -1,7 +1,8 @@
 -- A value and its two words in a list: its number, and kind + 256 × offset + 2^24 × size.
-use Rattle.std.specs.Prelude.{ℕ, ◌+◌, ◌*◌, ◌/◌, ◌%◌, List, get_or, set, ltb, leb}
+use Rattle.std.specs.Prelude.{ℕ, ◌+◌, ◌-◌, ◌*◌, ◌/◌, ◌%◌, List, get_or, set, ltb, leb}
 use Rattle.list_values.specs.declared.value.Value.{Value}
 use Rattle.list_values.specs.Outcomes.{Slice}
+use Rattle.access.specs.Loops.{run}
 use Rattle.prelude.specs.Base.{when◌then◌else◌}
 
 -- a value at offset 0 with no size of its own
@@ -50,3 +51,7 @@ place base i = when ltb base 4096 then (when ltb i 700000000000000000 then base 
 -- the word i after a position made 0
 abbrev pub zero_word : ℕ → ℕ → List ℕ → List ℕ
 zero_word at i l = set l (at + i) 0
+
+-- an action's words from one of them on made 0
+unfoldable pub zero_words : List ℕ → ℕ → ℕ → List ℕ
+zero_words l at from = run (24 - from) from (zero_word at) l

@@ -1,14 +1,11 @@
 // Known sizes, and setting one: in the operand, in its temporary, or as a recorded error. In all of these s is the stream, t
 // the section's table, a the actions and m the temporaries.
-ghost use Rattle.std.specs.Prelude.{◌≡◌, ◌<◌};
+ghost use Rattle.std.specs.Prelude.{◌≡◌};
 ghost use Rattle.list_values.specs.Sizes.{Settles, Counted, entry, list_size, export_size_of, tmp_size, listed_size, size_of, size_at, sum_of_errors, recorded, size_temporary, settled, set_operand, set_two, set_three, falls_back, pair_fallback, set_size_of_pair, triple_falls_back, triple_fallback, share_size, all_equal, set_size_of_triple, set_unsized};
 
 use crate::section::Section;
-use crate::value::{SIZE_PLACE, Value, get, put_size, value_at};
-use codes::{NONE, action, table, value_kind};
-
-// The greatest number of a word.
-const MOST: u64 = 18446744073709551615;
+use crate::value::{INPUT_0, INPUT_1, OUTPUT, SIZE_PLACE, Value, get, put_size, value_at};
+use codes::{NONE, table, value_kind};
 
 // The ordinal of the statement begun last, the errors recorded and the first one's ordinal.
 #[derive(Clone, Copy)]
@@ -65,8 +62,7 @@ fn listed_size(section: Section<'_>, kind: u64, number: u64) -> u64
     match kind {
         value_kind::REGISTER => list_size(section, table::REGISTERS, number),
         value_kind::FIELD => list_size(section, table::FIELDS, number),
-        value_kind::SUBTABLE => export_size(section, number),
-        value_kind::SUBTABLE_REF => export_size(section, number),
+        value_kind::SUBTABLE | value_kind::SUBTABLE_REF => export_size(section, number),
         _ => NONE,
     }
 }
@@ -85,22 +81,16 @@ pub fn size_of(section: Section<'_>, temporaries: &[u64], value: Value) -> u64
     listed_size(section, value.kind, value.number)
 }
 
-fn size_at(
-    section: Section<'_>,
-    actions: &[u64],
-    temporaries: &[u64],
-    at: usize,
-    index: usize,
-) -> u64
-    requires { index < 32 }
+#[tactic(auto, unfolding(crate::specs::Sizes::size_at, crate::specs::Sizes::size_of, crate::specs::Sizes::size_of_local, crate::specs::Values::value_at, crate::specs::Values::value_of))]
+fn size_at(section: Section<'_>, actions: &[u64], temporaries: &[u64], at: usize, index: u8) -> u64
     ensures { result ≡ size_at section.entry.stream.now section.entry.table.now actions.now temporaries.now at index }
 {
-    let w = get(actions, at, index + 1);
+    let w = get(actions, at, usize::from(index) + 1);
     let own = w / SIZE_PLACE % 65536;
     if own != NONE {
         return own;
     }
-    let number = get(actions, at, index);
+    let number = get(actions, at, usize::from(index));
     if w % 256 == value_kind::PCODE_TMP {
         return tmp_size(temporaries, number);
     }
@@ -112,10 +102,7 @@ fn size_at(
 pub fn sum_of_errors(errors: u64, more: u64) -> u64
     ensures { result ≡ sum_of_errors errors more }
 {
-    if more <= MOST - errors {
-        return errors + more;
-    }
-    MOST
+    errors.saturating_add(more)
 }
 
 // So many errors more.
@@ -127,17 +114,15 @@ pub fn record_errors(sizing: Sizing, count: u64) -> Sizing
         return sizing;
     }
     let errors = sum_of_errors(sizing.errors, count);
-    if sizing.errors == 0 {
-        return Sizing {
-            begun: sizing.begun,
-            errors,
-            first: sizing.begun,
-        };
-    }
+    let first = if sizing.errors == 0 {
+        sizing.begun
+    } else {
+        sizing.first
+    };
     Sizing {
-        begun: sizing.begun,
         errors,
-        first: sizing.first,
+        first,
+        ..sizing
     }
 }
 
@@ -158,6 +143,7 @@ fn size_temporary(temporaries: &mut [u64], value: Value, size: u64)
 }
 
 // A size set on a value whose known size was that one: 1 where that is an error, else 0.
+#[tactic(auto, using(crate::proofs::SizeLaws::size_laws))]
 pub fn settle(temporaries: &mut [u64], value: Value, known: u64, size: u64) -> u64
     ensures { Settles result temporaries.new (settled temporaries.old value known size) }
 {
@@ -165,25 +151,22 @@ pub fn settle(temporaries: &mut [u64], value: Value, known: u64, size: u64) -> u
         size_temporary(temporaries, value, size);
         return 0;
     }
-    if known == size {
-        return 0;
-    }
-    if value.kind == value_kind::SUBTABLE {
+    if known == size || value.kind == value_kind::SUBTABLE {
         return 0;
     }
     1
 }
 
 // Sets the size of the operand i after a position.
+#[tactic(auto, using(crate::proofs::SizeLaws::size_laws))]
 pub fn set_operand(
     section: Section<'_>,
     actions: &mut [u64],
     temporaries: &mut [u64],
     at: usize,
-    index: usize,
+    index: u8,
     size: u64,
 ) -> u64
-    requires { index < 32 }
     ensures { Counted result actions.new temporaries.new (set_operand section.entry.stream.now section.entry.table.now actions.old temporaries.old at index size) }
 {
     let v = value_at(actions, at, index);
@@ -192,23 +175,25 @@ pub fn set_operand(
     settle(temporaries, v, known, size)
 }
 
-fn set_two(
+// The same of two operands, one after the other.
+#[tactic(auto, using(crate::proofs::SizeLaws::size_laws))]
+pub fn set_two(
     section: Section<'_>,
     actions: &mut [u64],
     temporaries: &mut [u64],
     at: usize,
-    index: usize,
-    other: usize,
+    index: u8,
+    other: u8,
     size: u64,
 ) -> u64
-    requires { (index < 32) × (other < 32) }
     ensures { Counted result actions.new temporaries.new (set_two section.entry.stream.now section.entry.table.now actions.old temporaries.old at index other size) }
 {
-    let x = set_operand(section, actions, temporaries, at, index, size);
-    let y = set_operand(section, actions, temporaries, at, other, size);
-    sum_of_errors(x, y)
+    let first = set_operand(section, actions, temporaries, at, index, size);
+    let second = set_operand(section, actions, temporaries, at, other, size);
+    sum_of_errors(first, second)
 }
 
+#[tactic(auto, using(crate::proofs::SizeLaws::size_laws))]
 pub fn set_three(
     section: Section<'_>,
     actions: &mut [u64],
@@ -218,16 +203,8 @@ pub fn set_three(
 ) -> u64
     ensures { Counted result actions.new temporaries.new (set_three section.entry.stream.now section.entry.table.now actions.old temporaries.old at size) }
 {
-    let x = set_two(
-        section,
-        actions,
-        temporaries,
-        at,
-        action::INPUT_0,
-        action::INPUT_1,
-        size,
-    );
-    let y = set_operand(section, actions, temporaries, at, action::OUTPUT, size);
+    let x = set_two(section, actions, temporaries, at, INPUT_0, INPUT_1, size);
+    let y = set_operand(section, actions, temporaries, at, OUTPUT, size);
     sum_of_errors(x, y)
 }
 
@@ -236,52 +213,45 @@ pub fn set_three(
 pub fn falls_back(value: Value) -> bool
     ensures { result ≡ falls_back value }
 {
-    let kind = value.kind;
-    match kind {
-        value_kind::INST_START => true,
-        value_kind::INST_NEXT => true,
-        value_kind::FIELD => true,
-        value_kind::CONSTANT => true,
-        _ => false,
-    }
+    matches!(
+        value.kind,
+        value_kind::INST_START | value_kind::INST_NEXT | value_kind::FIELD | value_kind::CONSTANT
+    )
 }
 
+#[tactic(auto, using(crate::proofs::SizeLaws::share_laws))]
 fn pair_fallback(
     section: Section<'_>,
     fallback: bool,
     actions: &mut [u64],
     temporaries: &mut [u64],
     at: usize,
-    index: usize,
-    other: usize,
+    index: u8,
+    other: u8,
     pointer: u64,
 ) -> u64
-    requires { (index < 32) × (other < 32) }
     ensures { Counted result actions.new temporaries.new (pair_fallback section.entry.stream.now section.entry.table.now fallback actions.old temporaries.old at index other pointer) }
 {
-    if fallback {
-        if falls_back(value_at(actions, at, index)) {
-            return set_two(section, actions, temporaries, at, index, other, pointer);
-        }
-        if falls_back(value_at(actions, at, other)) {
-            return set_two(section, actions, temporaries, at, index, other, pointer);
-        }
+    if fallback
+        && (falls_back(value_at(actions, at, index)) || falls_back(value_at(actions, at, other)))
+    {
+        return set_two(section, actions, temporaries, at, index, other, pointer);
     }
     0
 }
 
 // Two operands have one size.
+#[tactic(auto, using(crate::proofs::SizeLaws::share_laws))]
 pub fn set_size_of_pair(
     section: Section<'_>,
     fallback: bool,
     actions: &mut [u64],
     temporaries: &mut [u64],
     at: usize,
-    index: usize,
-    other: usize,
+    index: u8,
+    other: u8,
     pointer: u64,
 ) -> u64
-    requires { (index < 32) × (other < 32) }
     ensures { Counted result actions.new temporaries.new (set_size_of_pair section.entry.stream.now section.entry.table.now fallback actions.old temporaries.old at index other pointer) }
 {
     let x = size_at(section, actions, temporaries, at, index);
@@ -311,15 +281,12 @@ pub fn set_size_of_pair(
 fn triple_falls_back(actions: &[u64], at: usize) -> bool
     ensures { result ≡ triple_falls_back actions.now at }
 {
-    if falls_back(value_at(actions, at, action::INPUT_0)) {
-        return true;
-    }
-    if falls_back(value_at(actions, at, action::INPUT_1)) {
-        return true;
-    }
-    falls_back(value_at(actions, at, action::OUTPUT))
+    falls_back(value_at(actions, at, INPUT_0))
+        || falls_back(value_at(actions, at, INPUT_1))
+        || falls_back(value_at(actions, at, OUTPUT))
 }
 
+#[tactic(auto, using(crate::proofs::SizeLaws::share_laws))]
 fn triple_fallback(
     section: Section<'_>,
     fallback: bool,
@@ -330,15 +297,14 @@ fn triple_fallback(
 ) -> u64
     ensures { Counted result actions.new temporaries.new (triple_fallback section.entry.stream.now section.entry.table.now fallback actions.old temporaries.old at pointer) }
 {
-    if fallback {
-        if triple_falls_back(actions, at) {
-            return set_three(section, actions, temporaries, at, pointer);
-        }
+    if fallback && triple_falls_back(actions, at) {
+        return set_three(section, actions, temporaries, at, pointer);
     }
     0
 }
 
 // The other two take the size of the first known one.
+#[tactic(auto, using(crate::proofs::SizeLaws::share_laws))]
 fn share_size(
     section: Section<'_>,
     actions: &mut [u64],
@@ -351,50 +317,23 @@ fn share_size(
     ensures { Counted result actions.new temporaries.new (share_size section.entry.stream.now section.entry.table.now actions.old temporaries.old at first second third) }
 {
     if first != NONE {
-        return set_two(
-            section,
-            actions,
-            temporaries,
-            at,
-            action::INPUT_1,
-            action::OUTPUT,
-            first,
-        );
+        return set_two(section, actions, temporaries, at, INPUT_1, OUTPUT, first);
     }
     if second != NONE {
-        return set_two(
-            section,
-            actions,
-            temporaries,
-            at,
-            action::INPUT_0,
-            action::OUTPUT,
-            second,
-        );
+        return set_two(section, actions, temporaries, at, INPUT_0, OUTPUT, second);
     }
-    set_two(
-        section,
-        actions,
-        temporaries,
-        at,
-        action::INPUT_0,
-        action::INPUT_1,
-        third,
-    )
+    set_two(section, actions, temporaries, at, INPUT_0, INPUT_1, third)
 }
 
 #[tactic(auto, unfolding(crate::specs::Sizes::all_equal))]
 fn all_equal(first: u64, second: u64, third: u64) -> bool
     ensures { result ≡ all_equal first second third }
 {
-    if first == second {
-        second == third
-    } else {
-        false
-    }
+    first == second && second == third
 }
 
 // Both inputs and the output have one size.
+#[tactic(auto, using(crate::proofs::SizeLaws::share_laws))]
 pub fn set_size_of_triple(
     section: Section<'_>,
     fallback: bool,
@@ -405,9 +344,9 @@ pub fn set_size_of_triple(
 ) -> u64
     ensures { Counted result actions.new temporaries.new (set_size_of_triple section.entry.stream.now section.entry.table.now fallback actions.old temporaries.old at pointer) }
 {
-    let x = size_at(section, actions, temporaries, at, action::INPUT_0);
-    let y = size_at(section, actions, temporaries, at, action::INPUT_1);
-    let w = size_at(section, actions, temporaries, at, action::OUTPUT);
+    let x = size_at(section, actions, temporaries, at, INPUT_0);
+    let y = size_at(section, actions, temporaries, at, INPUT_1);
+    let w = size_at(section, actions, temporaries, at, OUTPUT);
     if all_equal(x, y, w) {
         if x == NONE {
             return triple_fallback(section, fallback, actions, temporaries, at, pointer);
@@ -418,15 +357,15 @@ pub fn set_size_of_triple(
 }
 
 // An operand with no known size takes pointer size.
+#[tactic(auto, using(crate::proofs::SizeLaws::share_laws))]
 pub fn set_unsized(
     section: Section<'_>,
     actions: &mut [u64],
     temporaries: &mut [u64],
     at: usize,
-    index: usize,
+    index: u8,
     pointer: u64,
 ) -> u64
-    requires { index < 32 }
     ensures { Counted result actions.new temporaries.new (set_unsized section.entry.stream.now section.entry.table.now actions.old temporaries.old at index pointer) }
 {
     if size_at(section, actions, temporaries, at, index) == NONE {

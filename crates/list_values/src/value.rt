@@ -1,8 +1,8 @@
 // A value and its two words in a list: its number, and kind + 256 × offset + 2^24 × size. Reads past a list's end are 0, and
 // writes there change nothing.
-ghost use Rattle.std.specs.Prelude.{◌≡◌, ◌+◌, ◌<◌, get_or, set};
+ghost use Rattle.std.specs.Prelude.{◌≡◌, ◌+◌, get_or, set};
 ghost use Rattle.list_values.specs.Outcomes.{to_slice};
-ghost use Rattle.list_values.specs.Values.{local, with_size, absent, no_output, slice_bytes, word, value_at, put_value, put_size, place};
+ghost use Rattle.list_values.specs.Values.{local, with_size, absent, no_output, slice_bytes, word, value_at, put_value, put_size, zero_words, place};
 
 use codes::refusal::Refusal;
 use codes::{NONE, action};
@@ -10,13 +10,22 @@ use codes::{NONE, action};
 // The size stands in a value's second word from bit 24 on.
 pub const SIZE_PLACE: u64 = 16777216;
 
+// Where an action's output and first two inputs stand among its words. The index of a value is a byte, so that its second word
+// has an index too.
+pub const OUTPUT: u8 = action::OUTPUT as u8;
+
+pub const INPUT_0: u8 = action::INPUT_0 as u8;
+
+pub const INPUT_1: u8 = action::INPUT_1 as u8;
+
 // The second word of an output that is not there.
 pub const NO_OUTPUT: u64 = 255;
 
 // The greatest offset that a value's second word holds.
 const LAST_OFFSET: u64 = 65535;
 
-// Kinds are 0 to 7 in the order of `Local`; a size of 65,535 is none.
+// Kinds are 0 to 7 in the order of `Local`; a size of 65,535 is none. They stay numbers, since a value is read from the words of
+// a lent list, which may hold any, and written back to them.
 #[derive(Clone, Copy)]
 pub struct Value {
     pub kind: u64,
@@ -72,15 +81,12 @@ pub fn no_output() -> Value
 pub fn slice_bytes(value: Value, more: u64, size: u64) -> Result<Value, Refusal>
     ensures { to_slice result ≡ slice_bytes value more size }
 {
-    if value.offset <= LAST_OFFSET {
-        if more <= LAST_OFFSET - value.offset {
-            return Ok(Value {
-                kind: value.kind,
-                number: value.number,
-                offset: value.offset + more,
-                size,
-            });
-        }
+    if value.offset <= LAST_OFFSET && more <= LAST_OFFSET - value.offset {
+        return Ok(Value {
+            offset: value.offset + more,
+            size,
+            ..value
+        });
     }
     Err(Refusal::OffsetTooFar)
 }
@@ -97,10 +103,8 @@ pub fn word(value: Value) -> u64
 pub fn get(list: &[u64], at: usize, index: usize) -> u64
     ensures { result ≡ get_or list.now (at + index) 0 }
 {
-    if at < list.len() {
-        if index < list.len() - at {
-            return list[at + index];
-        }
+    if at < list.len() && index < list.len() - at {
+        return list[at + index];
     }
     0
 }
@@ -108,49 +112,54 @@ pub fn get(list: &[u64], at: usize, index: usize) -> u64
 pub fn put(list: &mut [u64], at: usize, index: usize, word: u64)
     ensures { list.new ≡ set list.old (at + index) word }
 {
-    if at < list.len() {
-        if index < list.len() - at {
-            list[at + index] = word;
-        }
+    if at < list.len() && index < list.len() - at {
+        list[at + index] = word;
     }
 }
 
 // The value whose first word is i after a position.
 #[tactic(auto, unfolding(crate::specs::Values::value_at, crate::specs::Values::value_of))]
-pub fn value_at(list: &[u64], at: usize, index: usize) -> Value
-    requires { index < 32 }
+pub fn value_at(list: &[u64], at: usize, index: u8) -> Value
     ensures { result ≡ value_at list.now at index }
 {
-    let w = get(list, at, index + 1);
+    let w = get(list, at, usize::from(index) + 1);
     Value {
         kind: w % 256,
-        number: get(list, at, index),
+        number: get(list, at, usize::from(index)),
         offset: w / 256 % 65536,
         size: w / SIZE_PLACE % 65536,
     }
 }
 
 #[tactic(auto, unfolding(crate::specs::Values::put_value))]
-pub fn put_value(list: &mut [u64], at: usize, index: usize, value: Value)
-    requires { index < 32 }
+pub fn put_value(list: &mut [u64], at: usize, index: u8, value: Value)
     ensures { list.new ≡ put_value list.old at index value }
 {
-    put(list, at, index, value.number);
-    put(list, at, index + 1, word(value));
+    put(list, at, usize::from(index), value.number);
+    put(list, at, usize::from(index) + 1, word(value));
 }
 
 #[tactic(auto, unfolding(crate::specs::Values::put_size))]
-pub fn put_size(list: &mut [u64], at: usize, index: usize, size: u64)
-    requires { index < 32 }
+pub fn put_size(list: &mut [u64], at: usize, index: u8, size: u64)
     ensures { list.new ≡ put_size list.old at index size }
 {
-    let w = get(list, at, index + 1);
+    let w = get(list, at, usize::from(index) + 1);
     put(
         list,
         at,
-        index + 1,
+        usize::from(index) + 1,
         w % SIZE_PLACE + size % 65536 * SIZE_PLACE,
     );
+}
+
+// The words of an action from one of them on are made 0.
+#[tactic(auto, using(access::proofs::LoopLaws::run_again, access::proofs::LoopLaws::run_end), unfolding(crate::specs::Values::zero_words))]
+pub fn zero_words(list: &mut [u64], at: usize, from: usize)
+    ensures { list.new ≡ zero_words list.old at from }
+{
+    for i in from..action::WORDS {
+        put(list, at, i, 0);
+    }
 }
 
 // Where action i stands in a list whose first is at a position.
@@ -158,10 +167,8 @@ pub fn put_size(list: &mut [u64], at: usize, index: usize, size: u64)
 pub fn place(base: usize, index: usize) -> usize
     ensures { result ≡ place base index }
 {
-    if base < 4096 {
-        if index < 700000000000000000 {
-            return base + index * action::WORDS;
-        }
+    if base < 4096 && index < 700000000000000000 {
+        return base + index * action::WORDS;
     }
     0
 }

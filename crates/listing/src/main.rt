@@ -71,7 +71,7 @@ impl Listing {
     }
 
     fn is_list_full(&self) -> bool {
-        self.checked.answer.refusal == u64::from(Refusal::ListFull)
+        self.checked.answer.is(Refusal::ListFull)
     }
 
     // A file that is refused before its section can be read has no statement to name.

@@ -42,7 +42,7 @@ impl Quote {
     }
 
     fn is_list_full(&self) -> bool {
-        self.answer.refusal == u64::from(Refusal::ListFull)
+        self.answer.is(Refusal::ListFull)
     }
 }
 

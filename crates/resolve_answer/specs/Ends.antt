@@ -1,5 +1,5 @@
 -- The end of a walk. In all of these s is the stream, t the section's table, a the actions, m the temporaries.
-use Rattle.std.specs.Prelude.{ℕ, ◌-◌, ◌/◌, List, eqb, ltb}
+use Rattle.std.specs.Prelude.{ℕ, ◌-◌, ◌/◌, Bool, true, false, List, eqb, ltb}
 use Rattle.access.specs.Le.{le16}
 use Rattle.list_values.specs.declared.sizes.Sizing.{Sizing}
 use Rattle.list_end.specs.declared.end.Fixed.{Fixed}
@@ -8,7 +8,7 @@ use Rattle.list_values.specs.Base.{then_l}
 use Rattle.prelude.specs.Base.{when◌then◌else◌}
 use Rattle.list_values.specs.Values.{place}
 use Rattle.list_values.specs.Sizes.{Sized, then_s}
-use Rattle.list_end.specs.Passes.{backward_pass, forward_pass}
+use Rattle.list_end.specs.Passes.{size_pass}
 use Rattle.list_end.specs.End.{fix_size, finish_actions}
 use Rattle.stmt_walk.specs.Outcomes.{Walk}
 use Rattle.stmt_walk.specs.Outcomes.{Export}
@@ -44,7 +44,7 @@ unfoldable pub actions_between : ℕ → ℕ → ℕ
 actions_between base end = when ltb end base then 0 else (end - base) / 24
 
 unfoldable pub both_passes : List ℕ → List ℕ → List ℕ → List ℕ → ℕ → ℕ → ℕ → Sizing → Sized
-both_passes s t a m base n ptr z = then_s (backward_pass s t a m base n ptr z) λ y b u. forward_pass s t b u base n ptr y
+both_passes s t a m base n ptr z = then_s (size_pass s t false a m base n ptr z) λ y b u. size_pass s t true b u base n ptr y
 
 -- n actions behind the room for the Builds
 unfoldable pub finish_all : List ℕ → List ℕ → List ℕ → List ℕ → ℕ → ℕ → ℕ → Walk → Resolved

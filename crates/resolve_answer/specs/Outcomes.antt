@@ -1,5 +1,5 @@
 -- What the end of a walk gives, as the words have it, with the lists that a refusal leaves zero.
-use Rattle.std.specs.Prelude.{ℕ, List, Result, Ok, Err}
+use Rattle.std.specs.Prelude.{ℕ, List, Result, Ok, Err, None, Some, unwrap_or}
 use Rattle.codes.specs.declared.refusal.Refusal.{Refusal}
 use Rattle.codes.specs.Refusals.{number}
 use Rattle.list_end.specs.declared.end.Unfinished.{Unfinished}
@@ -12,17 +12,17 @@ use Rattle.resolve_answer.specs.Answers.{Resolved, resolved_to, refused, export_
 
 abbrev pub to_resolved : Result Answer Rejected → List ℕ → List ℕ → Resolved
 to_resolved (Ok r) a m = resolved_to r a m
-to_resolved (Err e) a m = refused a m (number e.refusal) e.ordinal e.errors
+to_resolved (Err e) a m = refused a m (number e.refusal) (unwrap_or e.ordinal 65535) e.errors
 
 -- a refusal of the file, of a statement, and of an action at the end
 abbrev pub of_file : Refusal → Rejected
-of_file refusal = record { refusal = refusal; ordinal = 65535; errors = 0 }
+of_file refusal = record { refusal = refusal; ordinal = None; errors = 0 }
 
 abbrev pub of_statement : Stopped → Rejected
-of_statement s = record { refusal = s.refusal; ordinal = s.ordinal; errors = 0 }
+of_statement s = record { refusal = s.refusal; ordinal = Some s.ordinal; errors = 0 }
 
 abbrev pub of_end : Unfinished → Rejected
-of_end u = record { refusal = u.refusal; ordinal = u.sizing.begun; errors = 0 }
+of_end u = record { refusal = u.refusal; ordinal = Some u.sizing.begun; errors = 0 }
 
 -- the export's four numbers
 abbrev pub export_numbers : Export → ExportWords

@@ -1,6 +1,6 @@
 // The answer, its twelve numbers, and what the two lent lists hold with it: zeros after a refusal, else the actions in their
 // final order and the temporaries.
-ghost use Rattle.std.specs.Prelude.{◌≡◌};
+ghost use Rattle.std.specs.Prelude.{◌≡◌, ◌==◌, unwrap_or};
 ghost use Rattle.codes.specs.Refusals.{number};
 ghost use Rattle.stmt_walk.specs.Outcomes.{to_walk, to_export};
 ghost use Rattle.resolve_answer.specs.Answers.{resolved_to, refused, points_of, accepted};
@@ -12,9 +12,12 @@ use list_end::end::Unfinished;
 use list_values::value::word;
 use stmt_walk::walk::{Export, Stopped, Walk};
 
-// The twelve numbers of document 01, in its order, which a call from C is given word for word. The last four are the export's:
+const WORDS_BOUND: u64 = 1 << 62;
+
+// The twelve numbers of document 01, in its order, which a call from C is given word for word: so a refusal is a number here, 0
+// where there is none, and an ordinal is 65,535 where there is none. The last four are the export's:
 // 0 none, 1 value, 2 RAM, 3 register; its two value words; its access size.
-#[derive(Clone, Copy)]
+#[derive(Clone, Copy, Default)]
 pub struct Answer {
     pub refusal: u64,
     pub ordinal: u64,
@@ -30,11 +33,20 @@ pub struct Answer {
     pub size: u64,
 }
 
-// Why a section is refused, at which statement, 65,535 where it is none, and the size errors that were counted.
+impl Answer {
+    // Whether the section is refused for this reason.
+    pub fn is(&self, refusal: Refusal) -> bool
+        ensures { result ≡ (self.now.refusal == number refusal) }
+    {
+        self.refusal == u64::from(refusal)
+    }
+}
+
+// Why a section is refused, at which statement, and the size errors that were counted.
 #[derive(Clone, Copy)]
 pub struct Rejected {
     pub refusal: Refusal,
-    pub ordinal: u64,
+    pub ordinal: Option<u64>,
     pub errors: u64,
 }
 
@@ -44,7 +56,7 @@ impl From<Refusal> for Rejected {
     fn from(refusal: Refusal) -> Rejected {
         Rejected {
             refusal,
-            ordinal: NONE,
+            ordinal: None,
             errors: 0,
         }
     }
@@ -55,7 +67,7 @@ impl From<Stopped> for Rejected {
 
     fn from(stopped: Stopped) -> Rejected {
         Rejected {
-            ordinal: stopped.ordinal,
+            ordinal: Some(stopped.ordinal),
             ..Rejected::from(stopped.refusal)
         }
     }
@@ -66,48 +78,39 @@ impl From<Unfinished> for Rejected {
 
     fn from(unfinished: Unfinished) -> Rejected {
         Rejected {
-            ordinal: unfinished.sizing.begun,
+            ordinal: Some(unfinished.sizing.begun),
             ..Rejected::from(unfinished.refusal)
         }
     }
 }
 
-#[tactic(auto, using(crate::proofs::AnswerLaws::refused_law))]
+#[tactic(auto, unfolding(crate::specs::Answers::refused, list_end::specs::End::zero_from))]
 pub fn refused(actions: &mut [u64], temporaries: &mut [u64], why: Rejected) -> Answer
-    ensures { resolved_to result actions.new temporaries.new ≡ refused actions.old temporaries.old (number why.refusal) why.ordinal why.errors }
+    ensures { resolved_to result actions.new temporaries.new ≡ refused actions.old temporaries.old (number why.refusal) (unwrap_or why.ordinal 65535) why.errors }
 {
     access::zero_from(actions, 0);
     access::zero_from(temporaries, 0);
     Answer {
         refusal: u64::from(why.refusal),
-        ordinal: why.ordinal,
-        statements: 0,
-        actions: 0,
-        temporaries: 0,
-        labels: 0,
-        points: 0,
+        ordinal: why.ordinal.unwrap_or(NONE),
         errors: why.errors,
-        kind: 0,
-        number: 0,
-        word: 0,
-        size: 0,
+        ..Answer::default()
     }
 }
 
+// Two for an action and one for a temporary, in tens, rounded up. No list has as many words as the bound.
 #[tactic(auto, unfolding(crate::specs::Answers::points_of))]
 fn points(actions: u64, temporaries: u64) -> u64
     ensures { result ≡ points_of actions temporaries }
 {
-    if actions < 4611686018427387904 {
-        if temporaries < 4611686018427387904 {
-            return (2 * actions + temporaries + 5) / 10;
-        }
+    if actions < WORDS_BOUND && temporaries < WORDS_BOUND {
+        return (2 * actions + temporaries + 5) / 10;
     }
     0
 }
 
 // The export's four numbers, all 0 where there is none.
-#[derive(Clone, Copy)]
+#[derive(Clone, Copy, Default)]
 pub struct ExportWords {
     pub kind: u64,
     pub number: u64,
@@ -120,12 +123,7 @@ fn export_words(export: Option<Export>) -> ExportWords
     ensures { result ≡ export_numbers (to_export export) }
 {
     match export {
-        None => ExportWords {
-            kind: 0,
-            number: 0,
-            word: 0,
-            size: 0,
-        },
+        None => ExportWords::default(),
         Some(Export::Value(v)) => ExportWords {
             kind: export_kind::VALUE,
             number: v.number,
@@ -147,6 +145,7 @@ fn export_words(export: Option<Export>) -> ExportWords
     }
 }
 
+#[tactic(auto, unfolding(crate::specs::Answers::accepted, list_values::specs::Base::then_l, list_end::specs::End::zero_from))]
 pub fn accepted(
     actions: &mut [u64],
     temporaries: &mut [u64],

@@ -9,32 +9,46 @@ use crate::answer::{Answer, Rejected, accepted};
 use codes::refusal::Refusal;
 use codes::{action, header};
 use list_end::end::{Fixed, finish_actions, fix_size};
-use list_end::passes::{backward_pass, forward_pass};
+use list_end::passes::size_pass;
 use list_values::section::Section;
 use list_values::sizes::Sizing;
 use list_values::value::{Value, place};
 use stmt_walk::walk::{Export, Walk};
+
+// What is to be finished: how many subtables the section has, how many actions stand behind room for their Builds, the pointer
+// size, and the walk that pushed them.
+#[derive(Clone, Copy)]
+struct Ending {
+    subtables: usize,
+    count: usize,
+    pointer: u64,
+    walk: Walk,
+}
 
 // Size errors refuse the section.
 #[tactic(auto, unfolding(crate::specs::Ends::judged))]
 fn judged(
     actions: &mut [u64],
     temporaries: &mut [u64],
-    subtables: usize,
-    count: usize,
-    walk: Walk,
+    ending: Ending,
     export: Option<Export>,
     sizing: Sizing,
 ) -> Result<Answer, Rejected>
-    ensures { to_resolved result actions.new temporaries.new ≡ judged actions.old temporaries.old subtables count (to_walk walk) (to_export export) sizing }
+    ensures { to_resolved result actions.new temporaries.new ≡ judged actions.old temporaries.old ending.subtables ending.count (to_walk ending.walk) (to_export export) sizing }
 {
     if sizing.errors != 0 {
         return Err(Rejected {
             refusal: Refusal::ErrorsRecorded,
-            ordinal: sizing.first,
+            ordinal: Some(sizing.first),
             errors: sizing.errors,
         });
     }
+    let Ending {
+        subtables,
+        count,
+        walk,
+        ..
+    } = ending;
     Ok(accepted(actions, temporaries, subtables, count, walk, export))
 }
 
@@ -43,9 +57,9 @@ fn exported(export: Export) -> Value
     ensures { result ≡ (to_export (Some export)).v }
 {
     match export {
-        Export::Value(v) => v,
-        Export::RamRef { pointer, .. } => pointer,
-        Export::RegisterRef { pointer, .. } => pointer,
+        Export::Value(pointer)
+        | Export::RamRef { pointer, .. }
+        | Export::RegisterRef { pointer, .. } => pointer,
     }
 }
 
@@ -66,30 +80,23 @@ fn finish_export(
     section: Section<'_>,
     actions: &mut [u64],
     temporaries: &mut [u64],
-    subtables: usize,
-    count: usize,
-    pointer: u64,
-    walk: Walk,
+    ending: Ending,
     sizing: Sizing,
 ) -> Result<Answer, Rejected>
-    ensures { to_resolved result actions.new temporaries.new ≡ finish_export section.entry.stream.now section.entry.table.now actions.old temporaries.old subtables count pointer (to_walk walk) sizing }
+    ensures { to_resolved result actions.new temporaries.new ≡ finish_export section.entry.stream.now section.entry.table.now actions.old temporaries.old ending.subtables ending.count ending.pointer (to_walk ending.walk) sizing }
 {
-    match walk.export {
-        None => judged(actions, temporaries, subtables, count, walk, None, sizing),
-        Some(export) => {
-            let fixed = fix_size(section, temporaries, exported(export), pointer, sizing);
-            let export = Some(with_fixed(export, fixed));
-            judged(
-                actions,
-                temporaries,
-                subtables,
-                count,
-                walk,
-                export,
-                fixed.z,
-            )
-        }
-    }
+    let Some(export) = ending.walk.export else {
+        return judged(actions, temporaries, ending, None, sizing);
+    };
+    let fixed = fix_size(
+        section,
+        temporaries,
+        exported(export),
+        ending.pointer,
+        sizing,
+    );
+    let export = Some(with_fixed(export, fixed));
+    judged(actions, temporaries, ending, export, fixed.z)
 }
 
 // From the actions with the sizes that the passes found.
@@ -98,26 +105,22 @@ fn finish_sized(
     section: Section<'_>,
     actions: &mut [u64],
     temporaries: &mut [u64],
-    subtables: usize,
-    count: usize,
-    pointer: u64,
-    walk: Walk,
+    ending: Ending,
     sizing: Sizing,
 ) -> Result<Answer, Rejected>
-    ensures { to_resolved result actions.new temporaries.new ≡ finish_sized section.entry.stream.now section.entry.table.now actions.old temporaries.old subtables count pointer (to_walk walk) sizing }
+    ensures { to_resolved result actions.new temporaries.new ≡ finish_sized section.entry.stream.now section.entry.table.now actions.old temporaries.old ending.subtables ending.count ending.pointer (to_walk ending.walk) sizing }
 {
-    let base = place(0, subtables);
-    let sizing = finish_actions(section, actions, temporaries, base, count, pointer, sizing)?;
-    finish_export(
+    let base = place(0, ending.subtables);
+    let sizing = finish_actions(
         section,
         actions,
         temporaries,
-        subtables,
-        count,
-        pointer,
-        walk,
+        base,
+        ending.count,
+        ending.pointer,
         sizing,
-    )
+    )?;
+    finish_export(section, actions, temporaries, ending, sizing)
 }
 
 // How many actions stand between two positions.
@@ -143,8 +146,26 @@ fn both_passes(
 ) -> Sizing
     ensures { sized result actions.new temporaries.new ≡ both_passes section.entry.stream.now section.entry.table.now actions.old temporaries.old base count pointer sizing }
 {
-    let back = backward_pass(section, actions, temporaries, base, count, pointer, sizing);
-    forward_pass(section, actions, temporaries, base, count, pointer, back)
+    let back = size_pass(
+        section,
+        false,
+        actions,
+        temporaries,
+        base,
+        count,
+        pointer,
+        sizing,
+    );
+    size_pass(
+        section,
+        true,
+        actions,
+        temporaries,
+        base,
+        count,
+        pointer,
+        back,
+    )
 }
 
 #[tactic(auto, unfolding(crate::specs::Ends::finish, crate::specs::Ends::finish_all, list_values::specs::Sizes::then_s))]
@@ -169,14 +190,11 @@ pub fn finish(
         pointer,
         walk.st.sizing,
     );
-    finish_sized(
-        section,
-        actions,
-        temporaries,
+    let ending = Ending {
         subtables,
         count,
         pointer,
         walk,
-        sizing,
-    )
+    };
+    finish_sized(section, actions, temporaries, ending, sizing)
 }

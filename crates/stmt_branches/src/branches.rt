@@ -15,7 +15,7 @@ use expr_scope::scope::{ExprValue, resolve_ident};
 use expr_terms::answers::after;
 use list_pushes::push::{Env, Operation, State, push_op};
 use list_values::section::Section;
-use list_values::value::{Value, absent, no_output};
+use list_values::value::{Value, no_output};
 use stmt_walk::walk::{Stopped, Walk, stop};
 
 #[tactic(auto, unfolding(crate::specs::Branches::push_label, stmt_walk::specs::Walks::step_pushed, stmt_walk::specs::Walks::pushed_then))]
@@ -31,11 +31,8 @@ fn push_label(
     ensures { stepped (to_step walk result) actions.new temporaries.new ≡ push_label section.entry.stream.now section.entry.table.now actions.old temporaries.old env id next (to_walk walk) }
 {
     let label = Operation {
-        code: operation::PCODE_LABEL,
         number: id,
-        count: 0,
-        first: absent(),
-        second: absent(),
+        ..Operation::nullary(operation::PCODE_LABEL)
     };
     let state = push_op(
         section,

@@ -30,8 +30,8 @@ use Rattle.list_pushes.specs.declared.push.Env.{Env as WordEnv}
 use Rattle.list_pushes.specs.Outcomes.{Pushed}
 use Rattle.list_values.specs.Base.{Listed, listed, then_l}
 use Rattle.access.specs.Loops.{run}
-use Rattle.list_values.specs.Values.{absent, no_output, word, value_of, value_at, put_value}
-use Rattle.list_pushes.specs.Pushes.{on_push, with_end, write_operands, write_zeros, write_head, write, push}
+use Rattle.list_values.specs.Values.{absent, no_output, word, value_of, value_at, put_value, zero_words}
+use Rattle.list_pushes.specs.Pushes.{on_push, with_end, write_operands, write_head, write, push}
 use Rattle.list_refinement.proofs.Pushes.{push_test}
 use Rattle.list_refinement.specs.Encoding.{enc_v, packed, actions_in, Sound, Each}
 use Rattle.list_refinement.proofs.Operands.{word_is, value_back, out_number, out_word, words_of_lem}
@@ -96,7 +96,7 @@ abbrev unwritten : ℕ → ℕ → List ℕ
 unwritten id n = 0 ∷ 63 ∷ id ∷ n ∷ 0 ∷ word no_output ∷ 0 ∷ word absent ∷ 0 ∷ word absent ∷ 0 ∷ 0 ∷ 0 ∷ 0 ∷ 0 ∷ 0 ∷ 0 ∷ 0 ∷ 0 ∷ 0 ∷ 0 ∷ 0 ∷ 0 ∷ 0 ∷ []
 
 unwritten_is : (p rest : List ℕ) (at id n : ℕ) → length p ≡ at → 24 ≤ length rest → write (p ++ rest) at 0 63 id n no_output absent absent ≡ p ++ (unwritten id n ++ drop 24 rest)
-unfolding write write_zeros write_operands write_head put_value run fill
+unfolding write zero_words write_operands write_head put_value run fill
 unwritten_is p rest at id n e h = fill_is (unwritten id n) p rest at 0 (e ∙ omega arith) h
 
 module _ (sec : Section) (n : ℕ) (vs : List Value) (few : length vs ≤ 8) (sound : Each (Sound sec n) vs) (id : ℕ) where

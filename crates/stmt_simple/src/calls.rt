@@ -11,7 +11,7 @@ ghost use Rattle.stmt_simple.specs.Calls.{symbol_called, called_of, delay_slot, 
 
 use access::u16_in;
 use codes::refusal::Refusal;
-use codes::{action, action_kind, header, operation, table};
+use codes::{action_kind, header, operation, table};
 use expr_reading::read::read_operand;
 use expr_resolver::expr::{DEPTH, resolve_args};
 use expr_scope::args::arg_at;
@@ -21,7 +21,7 @@ use expr_terms::answers::after;
 use expr_terms::calls::only_integer;
 use list_pushes::push::{Env, Operation, State, push};
 use list_values::section::Section;
-use list_values::value::{absent, no_output, put, put_value, value_at};
+use list_values::value::{INPUT_0, absent, no_output, put, put_value, value_at};
 use stmt_walk::walk::Walk;
 
 // What a call statement calls: the delay slot, or a user op or a macro by its number.
@@ -70,13 +70,7 @@ pub fn delay_slot(
 {
     match only_integer(stream, pos, count) {
         Some(1) => {
-            let slot = Operation {
-                code: 0,
-                number: 0,
-                count: 0,
-                first: absent(),
-                second: absent(),
-            };
+            let slot = Operation::nullary(0);
             let st = push(actions, action_kind::DELAY_SLOT, slot, absent(), walk.st)?;
             Ok((after(pos, 13), Walk { st, ..walk }))
         }
@@ -112,7 +106,7 @@ fn write_inputs(actions: &mut [u64], at: usize, args: &[u64], count: u64)
 {
     for i in 0..count {
         let v = value_at(args, param_place(i as usize), SLOT_A);
-        put_value(actions, at, action::INPUT_0 + 2 * (i % 8) as usize, v);
+        put_value(actions, at, INPUT_0 + 2 * (i % 8) as u8, v);
     }
 }
 
@@ -127,11 +121,9 @@ fn push_user_op(
     ensures { listed (to_pushed result) actions.new ≡ push_user_op actions.old args.now id count state }
 {
     let operation = Operation {
-        code: operation::PCODE_OP,
         number: id,
         count,
-        first: absent(),
-        second: absent(),
+        ..Operation::nullary(operation::PCODE_OP)
     };
     let next = push(actions, action_kind::OP, operation, no_output(), state)?;
     write_inputs(actions, state.end, args, count);

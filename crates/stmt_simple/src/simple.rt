@@ -30,13 +30,7 @@ pub fn unimplemented(
 ) -> Result<(usize, Walk), Refusal>
     ensures { stepped (to_step walk result) actions.new temporaries.new ≡ unimplemented section.entry.stream.now section.entry.table.now actions.old temporaries.old env pos (to_walk walk) }
 {
-    let invalid = Operation {
-        code: operation::INVALID,
-        number: 0,
-        count: 0,
-        first: absent(),
-        second: absent(),
-    };
+    let invalid = Operation::nullary(operation::INVALID);
     let st = push_op(
         section,
         actions,
@@ -218,11 +212,8 @@ fn build_table(
         return Err(Refusal::AbsentTable);
     };
     let build = Operation {
-        code: 0,
         number,
-        count: 0,
-        first: absent(),
-        second: absent(),
+        ..Operation::nullary(0)
     };
     let st = push(actions, action_kind::BUILD, build, absent(), walk.st)?;
     Ok((after(pos, 3), Walk { st, ..walk }))
