@@ -8,15 +8,18 @@ use native.Mathlib.Omega.{arith}
 use lib.Dec.{lit<}
 use lib.Pow.{shl_exact}
 use lib.ListN.{length, get_or, get_or-eq_default}
+use lib.Seq.{set_out}
 use Rattle.access.specs.Le.{le16, le32, le64}
+
+-- no element past the end: a read is the 0, and a write changes nothing
+pub ruleset past_end = (get_or-eq_default, set_out)
+
+pub ruleset at_start = (add-zero)
 
 -- two bytes of which the second is past the end, or both
 pub last_law : (s : List ℕ) (p i a : ℕ) → (a ≡ get_or s (p + i) 0) × (a < 256) → length s ≤ p + i + 1 → (a ≡ le16 s (p + i)) × (a < 65536)
 unfolding le16
 last_law s p i a h l = let z = get_or-eq_default s 0 {n = p + i + 1} l in (omega arith, omega arith)
-
-pub none_law : (s : List ℕ) (p i : ℕ) → length s ≤ p → (0 ≡ le16 s (p + i)) × (0 < 65536)
-none_law s p i l = last_law s p i 0 (sym (get_or-eq_default s 0 {n = p + i} (omega arith)), lit< tt) (omega arith)
 
 pub quad_law : (s : List ℕ) (p i a b : ℕ) → (a ≡ le16 s (p + i)) × (a < 65536) → (b ≡ le16 s (p + (i + 2))) × (b < 65536) → (a + 65536 * b ≡ le32 s (p + i)) × (a + 65536 * b < 4294967296)
 unfolding le32
@@ -35,3 +38,5 @@ mask_low n h = let k : min n 64 ≡ n = min-eq_left (omega arith) in rw (k, one_
 
 pub mask_all : (n : ℕ) → 64 ≤ n → 18446744073709551615 ≡ 2 ^ min n 64 - 1
 mask_all n h = let k : min n 64 ≡ 64 = min-eq_right h in rw k
+
+pub ruleset mask_laws = (mask_low, mask_all)

@@ -1,4 +1,5 @@
-// Little-endian numbers that stand whole inside a slice: read with no test of the bounds, which the caller has made.
+// Little-endian numbers that stand whole inside a slice: read with no test of the bounds, which the caller has made. Three
+// functions and no generic one, since each size has a type of its own with its own from_le_bytes.
 ghost use Rattle.std.specs.Prelude.{◌≡◌, ◌+◌, ◌≤◌, ◌<◌, length};
 ghost use Rattle.access.specs.Le.{le16, le32, le64};
 

@@ -11,6 +11,14 @@ pub const INPUT_COUNT: usize = 3;
 
 pub const OUTPUT: usize = 4;
 
+// The second word of an output, and what stands there where an operation has none.
+pub const OUTPUT_WORD: usize = OUTPUT + 1;
+
+pub const NO_OUTPUT: u64 = 255;
+
 pub const INPUT_0: usize = 6;
 
 pub const INPUT_1: usize = 8;
+
+// The size stands in a value's second word from bit 24 on.
+pub const SIZE_PLACE: u64 = 16777216;

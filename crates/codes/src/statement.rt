@@ -23,6 +23,8 @@ pub const LABEL: u64 = 10;
 
 pub const DST_DIRECT: u64 = 0;
 
+pub const DST_INDIRECT: u64 = 1;
+
 pub const DST_LABEL: u64 = 2;
 
 pub const JUMP_IDENT: u64 = 0;

@@ -35,6 +35,11 @@ checks_law b n x y z p q r =
     let e : sum (take 510 b) ≡ x + y = ap sum (take-add 256 254 b) ∙ sum_append (take 256 b) (take 254 (drop 256 b)) ∙ rw (← p, ← q) in
     rw (e, r.0)
 
+pub front_length : (block : List ℕ) → length block ≡ 512 → length (take 256 block) ≡ 256
+front_length block h = length-take-le 256 block (omega arith)
+
+pub ruleset checks_laws = (checks_law, front_length)
+
 -- the length
 pub length_none : (file : List ℕ) → length file ≡ 0 → 1 ≡ refusal_of (stream_of file)
 unfolding stream_of whole_blocks require on refusal_of refusal_number
@@ -126,3 +131,5 @@ join-end file stream stream₀ k n h g d e =
     let m : 510 * k ≡ n * 510 = omega arith in
     let t : take (n * 510) stream ≡ joined n file = rw (z, append-nil, m) at e in
     sym (take-append-drop (n * 510) stream) ∙ rw (t, rw m at d)
+
+pub ruleset length_laws = (length_none, length_past, length_broken, blocks_start)

@@ -7,6 +7,19 @@ ghost use Rattle.file_blocks.specs.Blocks.{refusal_of, joined};
 
 use codes::refusal::Refusal;
 
+// The bytes of a block, and of its payload.
+pub const BLOCK: usize = 512;
+
+pub const PAYLOAD: usize = 510;
+
+// The bytes of the longest file, and of the longest stream.
+pub const LONGEST_FILE: usize = 65536;
+
+pub const LONGEST_STREAM: usize = 65280;
+
+// The sum of a payload is taken in two parts of which the first has so many bytes.
+const FRONT: usize = 256;
+
 // So few bytes that a u16 holds their sum.
 fn sum(bytes: &[u8]) -> u16
     requires { length bytes.now ≤ 256 }
@@ -16,24 +29,26 @@ fn sum(bytes: &[u8]) -> u16
 }
 
 // A block's payload and its number, as its last two bytes say.
+#[tactic(auto, using(crate::proofs::BlockLaws::checks_laws))]
 fn checks_out(block: &[u8], number: usize) -> bool
     requires { (length block.now ≡ 512) × (number ≤ 65536) }
     ensures { result ≡ checks_out number block.now }
 {
-    let front = sum(&block[..256]);
-    let back = sum(&block[256..510]);
+    let front = sum(&block[..FRONT]);
+    let back = sum(&block[FRONT..PAYLOAD]);
     let total = u64::from(front) + u64::from(back);
-    (total + number as u64) % 65536 == access::u16_at(block, 510)
+    (total + number as u64) % 65536 == access::u16_at(block, PAYLOAD)
 }
 
+#[tactic(auto, using(crate::proofs::BlockLaws::length_laws))]
 pub fn check_blocks(file: &[u8]) -> Result<(), Refusal>
     ensures { number_or_zero result ≡ refusal_of (stream_of file.now) }
 {
     let len = file.len();
-    if len == 0 || len > 65536 || len % 512 != 0 {
+    if len == 0 || len > LONGEST_FILE || len % BLOCK != 0 {
         return Err(Refusal::BadLength);
     }
-    for (k, block) in file.chunks_exact(512).enumerate() {
+    for (k, block) in file.chunks_exact(BLOCK).enumerate() {
         if !checks_out(block, k) {
             return Err(Refusal::BlockCheck);
         }
@@ -41,15 +56,16 @@ pub fn check_blocks(file: &[u8]) -> Result<(), Refusal>
     Ok(())
 }
 
-// The payloads of the whole blocks of a file, joined.
+// The payloads of the whole blocks of a file, joined. One number places a payload on both sides, and it says what stands behind
+// the last; pairs of chunks would leave that to be shown.
 pub fn join(file: &[u8], stream: &mut [u8])
     requires { length file.now / 512 * 510 ≤ length stream.old }
     ensures { stream.new ≡ joined (length file.now / 512) file.now ++ drop (length file.now / 512 * 510) stream.old }
 {
-    let n = file.len() / 512;
+    let n = file.len() / BLOCK;
     for k in 0..n {
-        let from = 512 * k;
-        let to = 510 * k;
-        stream[to..to + 510].copy_from_slice(&file[from..from + 510]);
+        let from = BLOCK * k;
+        let to = PAYLOAD * k;
+        stream[to..to + PAYLOAD].copy_from_slice(&file[from..from + PAYLOAD]);
     }
 }

@@ -13,7 +13,8 @@ use borrow.Author.Count.{below_more}
 use borrow.Author.Tests.{eqb-true, eqb-false, ltb-true, ltb-false}
 use Rattle.prelude.specs.Base.{when◌then◌else◌}
 use Rattle.access.specs.Le.{le16, le32}
-use Rattle.file_section.proofs.NameLaws.{known_miss}
+use Rattle.file_section.proofs.NameLaws.{known_hit, known_miss, known-end, name_turn}
+use Rattle.access.proofs.LoopLaws.{run_start, run_again, run_end}
 use Rattle.file_section.specs.Names.{agree, rest_alike, alike, known}
 use Rattle.file_section.specs.Chains.{last_four, key, spread, hash, Hashed, last, Linked, link}
 
@@ -229,3 +230,11 @@ linked_step s t t' k k' i l v q h c e f r d g =
 
 pub hashed_same : (s : List ℕ) (p q h : ℕ) → Hashed s p h → p ≡ q → Hashed s q h
 hashed_same s p q h d e = rw (← e) d
+
+pub ruleset key_laws = (key-short, key-long, key_within)
+
+pub ruleset name_laws = (name_turn, linked_step)
+
+pub ruleset known_laws = (known_hit, known-end)
+
+pub ruleset run_laws = (run_start, run_again, run_end)

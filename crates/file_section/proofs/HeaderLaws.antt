@@ -33,3 +33,5 @@ unfolding header
 header-few s h m e z p =
     let b : (header s).bad ≡ 0 = rw e at z in
     omega (arith, names-few s (counts_good s _ (roles_good s _ b)))
+
+pub ruleset few = (header-few)

@@ -9,7 +9,7 @@ use Rattle.access.specs.Loops.{run}
 use Rattle.file_syntax.specs.Statements.{body}
 use Rattle.file_section.specs.Names.{reading}
 use Rattle.file_section.specs.Lists.{macro_head, noted, macro, entry, list}
-use Rattle.access.proofs.LoopLaws.{run_end}
+use Rattle.access.proofs.LoopLaws.{run_start, run_again, run_end}
 
 pub macro_opened : (s : List ℕ) (m i : ℕ) (c : Cursor) (t : List ℕ) → macro s m i (reading c t) ≡ reading (body s m (macro_head s m c).val (macro_head s m c)) (noted i c.at (macro_head s m c).val t)
 unfolding macro
@@ -18,3 +18,5 @@ macro_opened s m i c t = refl
 pub list_law : (s : List ℕ) (k n i l : ℕ) (c₀ c : Cursor) (t₀ t1 t : List ℕ) → l ≡ c₀.at % 65536 → t1 ≡ set t₀ (3328 + k) l → (n ≡ le16 s (4 + 2 * k)) × (n < 65536) → n ≤ i → run (n - i) i (entry k s) (reading c t) ≡ run n 0 (entry k s) (reading c₀ t1) → reading c t ≡ list s k (reading c₀ t₀)
 unfolding list
 list_law s k n i l c₀ c t₀ t1 t p q hn h e = rw (← p, ← q, ← hn.0) (run_end n i (entry k s) _ _ h e)
+
+pub ruleset list_laws = (list_law, run_start, run_again)

@@ -52,3 +52,5 @@ known-end s t p i w h e = let z : i ≡ 0 = omega arith in rw z at e
 pub name_turn : (s t t' : List ℕ) (i l : ℕ) (c e : Cursor) → e ≡ spelling s t i c → l ≡ c.at % 65536 → t' ≡ set t i l → reading e t' ≡ name_at s i (reading c t)
 unfolding name_at
 name_turn s t t' i l c e p q h = rw (p, h, q)
+
+pub ruleset agree_laws = (agree_start, agree_differ, agree_same, agree-end)

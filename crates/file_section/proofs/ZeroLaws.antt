@@ -104,3 +104,5 @@ clear_is false s f = go (clear s) refl
     go : (b : Bool) → clear s ≡ b → false ≡ b
     go true e = absurd (f.2 0 (clear_at s f.0 e))
     go false e = refl
+
+pub ruleset zero_laws = (clear_past, clear_tail)

@@ -14,6 +14,7 @@ pub const CHAINS: usize = 1280;
 // What the hash of the name at p is made of: the four bytes up to its last letter (of three letters, with the length byte),
 // or of a name of fewer letters its length, first letter and last letter. A name whose last letter is 0, as that of one is
 // which the stream's end cuts, is taken like a short one, so that the four bytes always lie inside the stream.
+#[tactic(auto, using(crate::proofs::ChainLaws::key_laws))]
 fn key(stream: &[u8], at: usize) -> u64
     ensures { (result ≡ key stream.now at) × (result < 4294967296) × (get_or stream.now at 0 < 256) }
 {
@@ -25,6 +26,7 @@ fn key(stream: &[u8], at: usize) -> u64
     four(stream, at + (l - 3))
 }
 
+#[tactic(auto, unfolding(crate::specs::Chains::spread))]
 fn spread(word: u64) -> usize
     requires { word < 4294967296 }
     ensures { (result ≡ spread word) × (result < 256) }
@@ -32,6 +34,7 @@ fn spread(word: u64) -> usize
     (word * 2654435761 / 16777216 % 256) as usize
 }
 
+#[tactic(auto, using(crate::proofs::ChainLaws::hash_law))]
 pub fn hash(stream: &[u8], at: usize) -> usize
     ensures { Hashed stream.now at result }
 {
@@ -39,6 +42,7 @@ pub fn hash(stream: &[u8], at: usize) -> usize
 }
 
 // Name i put on the chain of the hash h.
+#[tactic(auto, using(crate::proofs::ChainLaws::link_law))]
 pub fn link(chain: usize, index: usize, chains: &mut [u16])
     requires { (chain < 256) × (index < 1024) }
     ensures { chains.new ≡ link chain index chains.old }

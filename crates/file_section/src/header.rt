@@ -4,8 +4,9 @@ ghost use Rattle.file_section.specs.Headers.{global_counts, counts, roles, heade
 ghost use Rattle.file_syntax.specs.Cursors.{u16};
 ghost use Rattle.file_syntax.specs.Reads.{good, to_cursor};
 
+use codes::limit::STATEMENTS;
 use codes::refusal::Refusal;
-use file_syntax::cursor::{Cursor, Refused, name, u16_below, u16_or};
+use file_syntax::cursor::{Cursor, Refused, below, name, u16_or};
 
 // The counts are below these: of names, as of registers, bit ranges and other symbols; of tables, as of user ops.
 const RULE_SETS: u64 = 1;
@@ -22,13 +23,11 @@ const FIELDS: u64 = 65;
 
 const SUBTABLES: u64 = 33;
 
-const STATEMENTS: u64 = 1025;
-
 // A count, which is below the limit.
 fn count(stream: &[u8], limit: u64, cursor: Cursor) -> Result<Cursor, Refused>
     ensures { to_cursor result ≡ u16 stream.now limit 4 (good cursor) }
 {
-    u16_below(stream, limit, Refusal::OutsideLimit, cursor)
+    below::<u16>(stream, limit, Refusal::OutsideLimit, cursor)
 }
 
 // Rule set, names and the counts of the globals.

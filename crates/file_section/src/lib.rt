@@ -50,7 +50,7 @@ fn own_statements(
 }
 
 // The refusal of a stream, if there is one, and the table.
-#[tactic(auto, using(crate::proofs::RefusedLaws::passing), unfolding(crate::specs::Stream::read_stream))]
+#[tactic(auto, using(crate::proofs::RefusedLaws::passing, crate::proofs::HeaderLaws::few), unfolding(crate::specs::Stream::read_stream))]
 pub fn read_stream(stream: &[u8], table: &mut [u16; table::LENGTH]) -> Result<(), Refusal>
     ensures { answer (number_or_zero result) table.new ≡ read_stream stream.now table.old }
 {

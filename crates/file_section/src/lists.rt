@@ -6,19 +6,17 @@ ghost use Rattle.file_section.specs.Lists.{slot, stamp, mark, named, after, para
 ghost use Rattle.file_syntax.specs.Reads.{good, to_cursor};
 
 use crate::names::low;
+use codes::limit::STATEMENTS;
 use codes::refusal::Refusal;
 use codes::{header, symbol_kind, table};
 use file_syntax::cursor::{
-    Cursor, Refused, bits, code, last_number, name, place_of, refuse, size, size_or, small_count,
-    u16_below,
+    Cursor, Refused, below, bits, code, last_number, name, place_of, refuse, size, size_or,
+    small_count,
 };
 use file_syntax::statements::body;
 
 // The number of the list of fields, behind those of the globals.
 const FIELDS: u64 = 7;
-
-// A macro has fewer statements than this.
-const STATEMENTS: u64 = 1025;
 
 // Where list k marks a name.
 #[tactic(auto, unfolding(crate::specs::Lists::slot))]
@@ -84,7 +82,7 @@ fn after(kind: u64, stream: &[u8], cursor: Cursor) -> Result<Cursor, Refused>
             let registers = access::u16_at(stream, header::REGISTERS);
             bits(
                 stream,
-                u16_below(stream, registers, Refusal::NamesNothing, cursor)?,
+                below::<u16>(stream, registers, Refusal::NamesNothing, cursor)?,
             )
         }
         symbol_kind::TABLE => size_or(stream, cursor),
@@ -94,12 +92,13 @@ fn after(kind: u64, stream: &[u8], cursor: Cursor) -> Result<Cursor, Refused>
         FIELDS => size_or(stream, cursor),
         _ => {
             let tables = access::u16_at(stream, header::TABLES);
-            u16_below(stream, tables, Refusal::NamesNothing, cursor)
+            below::<u16>(stream, tables, Refusal::NamesNothing, cursor)
         }
     }
 }
 
 // As many names as the cursor's number says.
+#[tactic(auto, using(crate::proofs::ChainLaws::run_laws), unfolding(crate::specs::Lists::params, file_syntax::specs::Expressions::counted))]
 fn params(stream: &[u8], names: u64, cursor: Cursor) -> Result<Cursor, Refused>
     ensures { to_cursor result ≡ params stream.now names (good cursor) }
 {
@@ -118,7 +117,7 @@ fn macro_head(stream: &[u8], names: u64, so_far: Result<Cursor, Refused>) -> Res
 {
     let counted = small_count(stream, so_far?)?;
     let named = params(stream, names, counted)?;
-    u16_below(stream, STATEMENTS, Refusal::OutsideLimit, named)
+    below::<u16>(stream, STATEMENTS, Refusal::OutsideLimit, named)
 }
 
 // Where macro i stands, its first ordinal, and the next free ordinal after its n statements.
@@ -175,6 +174,7 @@ fn entry(
 }
 
 // List k, whose count stands in the header.
+#[tactic(auto, using(crate::proofs::ListLaws::list_laws))]
 fn list(
     kind: usize,
     stream: &[u8],
@@ -194,6 +194,7 @@ fn list(
 }
 
 // The nine lists from spaces to subtables.
+#[tactic(auto, using(crate::proofs::ChainLaws::run_laws), unfolding(crate::specs::Lists::lists))]
 pub fn lists(
     stream: &[u8],
     so_far: Result<Cursor, Refused>,

@@ -7,12 +7,13 @@ ghost use Rattle.file_syntax.specs.Reads.{to_cursor};
 
 use crate::chains::{CHAINS, LAST, hash, link};
 use codes::refusal::Refusal;
-use file_syntax::cursor::{Cursor, Refused, place_of, refuse, skip, u8_below};
+use file_syntax::cursor::{Cursor, Refused, below, place_of, refuse, skip};
 
 // A name has fewer letters than this.
 const LETTERS: u64 = 25;
 
 // Bytes 2 up to n of two places.
+#[tactic(auto, using(crate::proofs::NameLaws::agree_laws))]
 fn rest_alike(stream: &[u8], place: usize, other: usize, count: u64) -> bool
     requires { count < 256 }
     ensures { result ≡ rest_alike stream.now place other count }
@@ -44,6 +45,7 @@ pub fn low(place: usize) -> u16
 }
 
 // Whether one of the first n names is spelled as the one at p, whose hash is h.
+#[tactic(auto, using(crate::proofs::ChainLaws::known_laws))]
 fn known(
     stream: &[u8],
     table: &[u16],
@@ -81,7 +83,7 @@ fn spelling(
     ensures { to_cursor result ≡ spelling stream.now table.now index (to_cursor so_far) }
 {
     let start = so_far?;
-    let l = u8_below(stream, LETTERS, Refusal::OutsideLimit, start)?;
+    let l = below::<u8>(stream, LETTERS, Refusal::OutsideLimit, start)?;
     if l.val == 0 {
         return refuse(Refusal::OutsideLimit, l);
     }
@@ -93,6 +95,7 @@ fn spelling(
 }
 
 // The hash of the name at q, given that of the name at p: the same place in a stream of fewer than 65,536 bytes.
+#[tactic(auto, using(crate::proofs::ChainLaws::hashed_same))]
 fn hash_at(stream: &[u8], at: usize, chain: usize, other: usize) -> usize
     requires { Hashed stream.now at chain }
     ensures { Hashed stream.now other result }
@@ -105,6 +108,7 @@ fn hash_at(stream: &[u8], at: usize, chain: usize, other: usize) -> usize
 }
 
 // Name i, and where it begins. Its chain goes by what the table then has there, so that nothing is asked of a table's length.
+#[tactic(auto, using(crate::proofs::ChainLaws::name_laws))]
 fn name_at(
     stream: &[u8],
     index: usize,
@@ -125,6 +129,7 @@ fn name_at(
 }
 
 // The names, by chains that are empty at first.
+#[tactic(auto, using(crate::proofs::ChainLaws::run_laws), unfolding(crate::specs::Names::names))]
 fn chained(
     stream: &[u8],
     count: usize,

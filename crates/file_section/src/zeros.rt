@@ -22,6 +22,7 @@ fn all_zeros(bytes: &[u8]) -> bool
 }
 
 // Whether the stream is zero from a place on.
+#[tactic(auto, using(crate::proofs::ZeroLaws::zero_laws))]
 fn only_zeros(stream: &[u8], from: usize) -> bool
     ensures { result ≡ zeros (length stream.now - from) from stream.now }
 {

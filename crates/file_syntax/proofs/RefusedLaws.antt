@@ -10,7 +10,7 @@ use Rattle.codes.specs.declared.refusal.Refusal.{Refusal}
 use Rattle.codes.specs.Refusals as refusals
 use Rattle.codes.proofs.Numbers.{number-positive}
 use Rattle.access.specs.Loops.{run}
-use Rattle.access.proofs.LoopLaws.{run_again}
+use Rattle.access.proofs.LoopLaws.{run_again, run_end}
 use Rattle.file_syntax.specs.Cursors.{Cursor, cursor, refuse, number, u8, u16, u16or, skip}
 use Rattle.file_syntax.specs.Expressions.{counted, kind_of, after_code, expr}
 use Rattle.file_syntax.specs.Statements.{jump_of, after_jump, jump_label, target_of, after_target, branch_dst, form_of, after_form, statement, body}
@@ -78,3 +78,5 @@ pub run_stops : {A : Type 0} (n i : ℕ) (f : A → A) (x y w : A) → i < n →
 run_stops n i f x y w h e p q = sym (run_passes (n - (i + 1)) (i + 1) f y q) ∙ run_again n i (λ _. f) x y w h e p
 
 pub ruleset passing = (u8_passes, u16_passes, u16or_passes, skip_passes, refuse_passes, counted_passes, expr_passes, jump_label_passes, branch_dst_passes, statement_passes, body_passes)
+
+pub ruleset body_laws = (run_end)

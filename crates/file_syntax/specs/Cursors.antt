@@ -1,7 +1,7 @@
 -- The stream read in order, by a cursor: where it is, the refusal (0 none), and the number read last. A refused cursor
 -- passes every read unchanged, so the first position wins. In all of these s is the stream, c the cursor, m the number of
 -- names.
-use Rattle.std.specs.Prelude.{ℕ, ◌+◌, List, length, get_or, ltb, leb, eqb}
+use Rattle.std.specs.Prelude.{ℕ, ◌+◌, ◌≡◌, refl, List, length, get_or, ltb, leb, eqb}
 use Rattle.prelude.specs.Base.{when◌then◌else◌}
 use Rattle.access.specs.Le.{le16}
 
@@ -31,6 +31,15 @@ u8 s lim k c = number (get_or s c.at 0) 1 (length s) lim k c
 
 unfoldable pub u16 : List ℕ → ℕ → ℕ → Cursor → Cursor
 u16 s lim k c = number (le16 s c.at) 2 (length s) lim k c
+
+-- what both are alike in
+pub u8_is_number : (s : List ℕ) (lim k : ℕ) (c : Cursor) → u8 s lim k c ≡ number (get_or s c.at 0) 1 (length s) lim k c
+unfolding u8
+u8_is_number s lim k c = refl
+
+pub u16_is_number : (s : List ℕ) (lim k : ℕ) (c : Cursor) → u16 s lim k c ≡ number (le16 s c.at) 2 (length s) lim k c
+unfolding u16
+u16_is_number s lim k c = refl
 
 -- the same, or 65,535, which stands for absent
 unfoldable pub u16or : List ℕ → ℕ → ℕ → Cursor → Cursor

@@ -1,16 +1,16 @@
 // A cursor over the stream, and the fields that it reads. Each reader gives the cursor behind its field or says where and why
 // the stream is refused, so that the first position that is wrong gives the refusal.
-ghost use Rattle.std.specs.Prelude.{◌≡◌};
+ghost use Rattle.std.specs.Prelude.{◌≡◌, ◌+◌, ◌≤◌, ℕ, List, length, get_or};
+ghost use Rattle.access.specs.Le.{le16};
 ghost use Rattle.codes.specs.Refusals.{number};
-ghost use Rattle.file_syntax.specs.Cursors.{refuse, u8, u16, u16or, skip, code, small_count, name, name_or, size, size_or, bits};
+ghost use Rattle.file_syntax.specs.Cursors.{refuse, u8, u16, u16or, u8_is_number, u16_is_number, skip, code, small_count, name, name_or, size, size_or, bits};
+ghost use Rattle.file_syntax.specs.Cursors as words;
 ghost use Rattle.file_syntax.specs.Reads.{good, to_cursor};
 
 use access::inside::two;
 use codes::NONE;
+use codes::limit::SIZES;
 use codes::refusal::Refusal;
-
-// Sizes, in bytes, are below this.
-const SIZES: u64 = 1025;
 
 // First bits and bit counts are below this.
 const BITS: u64 = 8193;
@@ -59,53 +59,81 @@ pub fn refuse(refusal: Refusal, cursor: Cursor) -> Result<Cursor, Refused>
     })
 }
 
-// A byte below the limit.
-#[tactic(auto, unfolding(crate::specs::Cursors::u8, crate::specs::Cursors::number, crate::specs::Cursors::refuse))]
-pub fn u8_below(
-    stream: &[u8],
-    limit: u64,
-    refusal: Refusal,
-    cursor: Cursor,
-) -> Result<Cursor, Refused>
-    ensures { to_cursor result ≡ u8 stream.now limit (number refusal) (good cursor) }
-{
-    let at = cursor.at;
-    if at >= stream.len() {
-        return refuse(Refusal::Malformed, cursor);
-    }
-    let byte = u64::from(stream[at]);
-    if byte >= limit {
-        return refuse(refusal, cursor);
-    }
-    Ok(Cursor {
-        at: at + 1,
-        val: byte,
-    })
+// A number of one byte or of two, as the stream has it.
+pub trait Field {
+    // The reader of the words, how many bytes it takes, and what they say.
+    ghost word: { List ℕ → ℕ → ℕ → words.Cursor → words.Cursor };
+
+    ghost bytes: { ℕ };
+
+    ghost value: { List ℕ → ℕ → ℕ };
+
+    ghost is_number: { (s : List ℕ) (lim k : ℕ) (c : words.Cursor) → word s lim k c ≡ words.number (value s c.at) bytes (length s) lim k c };
+
+    fn bytes() -> usize
+        ensures { result ≡ bytes };
+
+    fn value(stream: &[u8], at: usize) -> u64
+        requires { at + bytes ≤ length stream.now }
+        ensures { result ≡ value stream.now at };
 }
 
-// A number of two bytes below the limit.
-#[tactic(auto, unfolding(crate::specs::Cursors::u16, crate::specs::Cursors::number, crate::specs::Cursors::refuse))]
-pub fn u16_below(
+impl Field for u8 {
+    ghost word = { u8 };
+
+    ghost bytes = { 1 };
+
+    ghost value = { λ s p. get_or s p 0 };
+
+    ghost is_number = { u8_is_number };
+
+    fn bytes() -> usize {
+        1
+    }
+
+    fn value(stream: &[u8], at: usize) -> u64 {
+        u64::from(stream[at])
+    }
+}
+
+impl Field for u16 {
+    ghost word = { u16 };
+
+    ghost bytes = { 2 };
+
+    ghost value = { le16 };
+
+    ghost is_number = { u16_is_number };
+
+    fn bytes() -> usize {
+        2
+    }
+
+    fn value(stream: &[u8], at: usize) -> u64 {
+        two(stream, at)
+    }
+}
+
+// A number below the limit, of as many bytes as its type has.
+#[tactic(auto, unfolding(crate::specs::Cursors::number, crate::specs::Cursors::refuse))]
+pub fn below<N: Field>(
     stream: &[u8],
     limit: u64,
     refusal: Refusal,
     cursor: Cursor,
 ) -> Result<Cursor, Refused>
-    ensures { to_cursor result ≡ u16 stream.now limit (number refusal) (good cursor) }
+    ensures { to_cursor result ≡ N.word stream.now limit (number refusal) (good cursor) }
 {
     let at = cursor.at;
-    if at >= stream.len() {
+    if at > stream.len() || stream.len() - at < N::bytes() {
         return refuse(Refusal::Malformed, cursor);
     }
-    if stream.len() - at < 2 {
-        return refuse(Refusal::Malformed, cursor);
-    }
-    let value = two(stream, at);
+    let value = N::value(stream, at);
     if value >= limit {
         return refuse(refusal, cursor);
     }
     Ok(Cursor {
-        at: at + 2,
+        at: at + N::bytes(),
         val: value,
     })
 }
@@ -121,9 +149,9 @@ pub fn u16_or(
     ensures { to_cursor result ≡ u16or stream.now limit (number refusal) (good cursor) }
 {
     if access::u16_at(stream, cursor.at) == NONE {
-        return u16_below(stream, 65536, refusal, cursor);
+        return below::<u16>(stream, 65536, refusal, cursor);
     }
-    u16_below(stream, limit, refusal, cursor)
+    below::<u16>(stream, limit, refusal, cursor)
 }
 
 #[tactic(auto, unfolding(crate::specs::Cursors::skip, crate::specs::Cursors::number, crate::specs::Cursors::refuse))]
@@ -147,21 +175,21 @@ pub fn skip(stream: &[u8], count: usize, cursor: Cursor) -> Result<Cursor, Refus
 pub fn code(stream: &[u8], count: u64, cursor: Cursor) -> Result<Cursor, Refused>
     ensures { to_cursor result ≡ code stream.now count (good cursor) }
 {
-    u8_below(stream, count, Refusal::Malformed, cursor)
+    below::<u8>(stream, count, Refusal::Malformed, cursor)
 }
 
 // A count of arguments or parameters.
 pub fn small_count(stream: &[u8], cursor: Cursor) -> Result<Cursor, Refused>
     ensures { to_cursor result ≡ small_count stream.now (good cursor) }
 {
-    u8_below(stream, 9, Refusal::OutsideLimit, cursor)
+    below::<u8>(stream, 9, Refusal::OutsideLimit, cursor)
 }
 
 // One of m names.
 pub fn name(stream: &[u8], names: u64, cursor: Cursor) -> Result<Cursor, Refused>
     ensures { to_cursor result ≡ name stream.now names (good cursor) }
 {
-    u16_below(stream, names, Refusal::NamesNothing, cursor)
+    below::<u16>(stream, names, Refusal::NamesNothing, cursor)
 }
 
 pub fn name_or(stream: &[u8], names: u64, cursor: Cursor) -> Result<Cursor, Refused>
@@ -173,7 +201,7 @@ pub fn name_or(stream: &[u8], names: u64, cursor: Cursor) -> Result<Cursor, Refu
 pub fn size(stream: &[u8], cursor: Cursor) -> Result<Cursor, Refused>
     ensures { to_cursor result ≡ size stream.now (good cursor) }
 {
-    u16_below(stream, SIZES, Refusal::OutsideLimit, cursor)
+    below::<u16>(stream, SIZES, Refusal::OutsideLimit, cursor)
 }
 
 pub fn size_or(stream: &[u8], cursor: Cursor) -> Result<Cursor, Refused>
@@ -187,8 +215,8 @@ pub fn size_or(stream: &[u8], cursor: Cursor) -> Result<Cursor, Refused>
 pub fn bits(stream: &[u8], cursor: Cursor) -> Result<Cursor, Refused>
     ensures { to_cursor result ≡ bits stream.now (good cursor) }
 {
-    let first = u16_below(stream, BITS, Refusal::OutsideLimit, cursor)?;
-    u16_below(stream, BITS, Refusal::OutsideLimit, first)
+    let first = below::<u16>(stream, BITS, Refusal::OutsideLimit, cursor)?;
+    below::<u16>(stream, BITS, Refusal::OutsideLimit, first)
 }
 
 impl From<Refused> for Refusal {

@@ -10,11 +10,6 @@ use crate::cursor::{
 use codes::expression;
 use codes::refusal::Refusal;
 
-// Two of the codes, as bytes.
-const IDENT: u8 = 0;
-
-const INTEGER: u8 = 1;
-
 #[tactic(auto, using(crate::proofs::RefusedLaws::passing))]
 fn address_of(stream: &[u8], names: u64, cursor: Cursor) -> Result<Cursor, Refused>
     ensures { to_cursor result ≡ address_of stream.now names (good cursor) }
@@ -45,13 +40,13 @@ pub fn expr(depth: u64, stream: &[u8], names: u64, cursor: Cursor) -> Result<Cur
     ensures { to_cursor result ≡ expr depth stream.now names (good cursor) }
 {
     let at = cursor.at;
-    if (at < stream.len()) & (depth != 0) {
-        let kind = stream[at];
-        if kind == IDENT {
+    if at < stream.len() && depth != 0 {
+        let kind = u64::from(stream[at]);
+        if kind == expression::IDENT {
             let named = Cursor { at: at + 1, val: 0 };
             return name(stream, names, named);
         }
-        if kind == INTEGER {
+        if kind == expression::INTEGER {
             let number = Cursor { at: at + 1, val: 1 };
             return skip(stream, 8, number);
         }
@@ -86,8 +81,8 @@ fn longer(depth: u64, stream: &[u8], names: u64, cursor: Cursor) -> Result<Curso
     }
 }
 
-// As many expressions as the cursor's number says.
-#[tactic(auto, using(crate::proofs::CodeLaws::expr_laws), unfolding(crate::specs::Expressions::after_code, crate::specs::Expressions::kind_of))]
+// As many expressions as the cursor's number says; nothing is indexed by it.
+#[tactic(auto, using(crate::proofs::RefusedLaws::body_laws), unfolding(crate::specs::Expressions::counted))]
 #[cycle(expr_exprs_longer)]
 pub fn exprs(depth: u64, stream: &[u8], names: u64, cursor: Cursor) -> Result<Cursor, Refused>
     ensures { to_cursor result ≡ exprs depth stream.now names (good cursor) }

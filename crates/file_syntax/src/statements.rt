@@ -5,10 +5,8 @@ ghost use Rattle.file_syntax.specs.Statements.{jump_label, branch_dst, statement
 
 use crate::cursor::{Cursor, Refused, code, name, size, size_or, skip};
 use crate::expressions::{call, expr, exprs, space};
+use codes::limit::DEPTH;
 use codes::statement;
-
-// How deep expressions are nested at most.
-const DEPTH: u64 = 32;
 
 #[tactic(auto, using(crate::proofs::RefusedLaws::passing), unfolding(crate::specs::Statements::jump_label, crate::specs::Statements::after_jump, crate::specs::Statements::jump_of))]
 fn jump_label(stream: &[u8], names: u64, cursor: Cursor) -> Result<Cursor, Refused>
@@ -27,7 +25,7 @@ fn branch_dst(stream: &[u8], names: u64, cursor: Cursor) -> Result<Cursor, Refus
 {
     let k = code(stream, 3, cursor)?;
     match k.val {
-        statement::DST_DIRECT | 1 => jump_label(stream, names, k),
+        statement::DST_DIRECT..=statement::DST_INDIRECT => jump_label(stream, names, k),
         _ => name(stream, names, k),
     }
 }
@@ -61,7 +59,8 @@ pub fn statement(stream: &[u8], names: u64, cursor: Cursor) -> Result<Cursor, Re
     }
 }
 
-// n statements.
+// As many statements as the count says; nothing is indexed by it.
+#[tactic(auto, using(crate::proofs::RefusedLaws::body_laws), unfolding(crate::specs::Statements::body))]
 pub fn body(stream: &[u8], names: u64, count: u64, cursor: Cursor) -> Result<Cursor, Refused>
     ensures { to_cursor result ≡ body stream.now names count (good cursor) }
 {

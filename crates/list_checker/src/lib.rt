@@ -11,29 +11,22 @@ ghost use Rattle.definition.specs.Checker.{check};
 ghost use Rattle.list_checker.specs.Action.{zeros, fits, inputs_fit, has_output, operation_fit, head_fit, action_fit};
 ghost use Rattle.list_checker.specs.Sweep.{noted, note_label, note_build, all_marked, sweep};
 
+use codes::action::{NO_OUTPUT, OUTPUT_WORD, SIZE_PLACE};
+use codes::limit::SIZES;
 use codes::{NONE, action, action_kind, operation, value_kind};
 
-// The second words of values.
-const OUTPUT_WORD: usize = action::OUTPUT + 1;
-
+// The second words of inputs.
 const INPUT_0_WORD: usize = action::INPUT_0 + 1;
 
 const INPUT_1_WORD: usize = action::INPUT_1 + 1;
 
-// The size stands in a second word from bit 24 on, and second words are below the bound.
-const SIZE_PLACE: u64 = 0x1000000;
-
+// Second words are below this.
 const WORD_BOUND: u64 = 0x10000000000;
 
 // A second word but for its kind, with no size and at offset 0.
 const UNSIZED: u64 = 0xffff0000;
 
-// The second word of an operation's output that is not there.
-const NO_OUTPUT: u64 = 255;
-
-// The bounds of access sizes, hints, labels, user ops and arguments behind the second, and the most inputs of an action.
-const SIZES: u64 = 1025;
-
+// The bounds of hints, labels, user ops and arguments behind the second, and the most inputs of an action.
 const HINTS: u64 = 3;
 
 const LABELS: u64 = 256;

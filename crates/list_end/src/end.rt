@@ -6,10 +6,12 @@ ghost use Rattle.list_values.specs.Base.{listed};
 ghost use Rattle.list_end.specs.Outcomes.{to_finished};
 ghost use Rattle.list_end.specs.End.{fix_size, fix_operand, fix_inputs, fix_output, fix_operands, write_copy, subpiece_copy, finish_op, finish_actions, mark_build, mark_built, write_build, implicit_builds, implicit_build, move_action, move_down, assemble};
 
+use codes::action::{NO_OUTPUT, OUTPUT_WORD, SIZE_PLACE};
 use codes::refusal::Refusal;
 use codes::{NONE, action, action_kind, operation};
 use list_values::section::Section;
 use list_values::sizes::{Sizing, falls_back, record_errors, size_of};
+<<<<<<< HEAD
 use list_values::value::{
     INPUT_0, NO_OUTPUT, OUTPUT, SIZE_PLACE, Value, get, place, put, put_value, slice_bytes,
     value_at, with_size, zero_words,
@@ -17,6 +19,9 @@ use list_values::value::{
 
 // The second word of an output.
 const OUTPUT_WORD: usize = action::OUTPUT + 1;
+=======
+use list_values::value::{Value, get, place, put, put_value, slice_bytes, value_at, with_size};
+>>>>>>> 23477730b0fbbd1c29200dd8b9e11b40eaba735b
 
 // How many subtables can be marked as built.
 const MARKS: usize = 32;

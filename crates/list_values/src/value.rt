@@ -4,11 +4,9 @@ ghost use Rattle.std.specs.Prelude.{◌≡◌, ◌+◌, get_or, set};
 ghost use Rattle.list_values.specs.Outcomes.{to_slice};
 ghost use Rattle.list_values.specs.Values.{local, with_size, absent, no_output, slice_bytes, word, value_at, put_value, put_size, zero_words, place};
 
+use codes::action::{NO_OUTPUT, SIZE_PLACE};
 use codes::refusal::Refusal;
 use codes::{NONE, action};
-
-// The size stands in a value's second word from bit 24 on.
-pub const SIZE_PLACE: u64 = 16777216;
 
 // Where an action's output and first two inputs stand among its words. The index of a value is a byte, so that its second word
 // has an index too.
@@ -17,9 +15,6 @@ pub const OUTPUT: u8 = action::OUTPUT as u8;
 pub const INPUT_0: u8 = action::INPUT_0 as u8;
 
 pub const INPUT_1: u8 = action::INPUT_1 as u8;
-
-// The second word of an output that is not there.
-pub const NO_OUTPUT: u64 = 255;
 
 // The greatest offset that a value's second word holds.
 const LAST_OFFSET: u64 = 65535;

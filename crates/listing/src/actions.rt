@@ -3,13 +3,11 @@ ghost use Rattle.std.specs.Prelude.{◌<◌};
 
 use crate::names::{Name, Names};
 use crate::values::{Size, Value};
+use codes::action::NO_OUTPUT;
 use codes::{NONE, action, action_kind, operation, value_kind};
 use listing_names::names::Symbol;
 use listing_names::operations::operation as operation_name;
 use std::fmt;
-
-// The second word of an output that is not there.
-const NO_OUTPUT: u64 = 255;
 
 // What a pointer points into.
 #[derive(Clone, Copy)]

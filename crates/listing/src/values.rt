@@ -1,11 +1,9 @@
 // A value: what it is by the file's name, its byte offset after a plus, its size after a colon: `r1+2:4`.
 use crate::names::{Name, Names, Temporary};
+use codes::action::SIZE_PLACE;
 use codes::{NONE, header, value_kind};
 use listing_names::names::Symbol;
 use std::fmt;
-
-// The size stands in a value's second word from bit 24 on.
-const SIZE_PLACE: u64 = 16777216;
 
 // A size in bytes, if it is known.
 #[derive(Clone, Copy)]

@@ -1,6 +1,6 @@
 use native.Mathlib.Omega.{arith}
 use Rattle.std.proofs.lemmas.Result.{err_from_is_err_and}
-use Rattle.access.proofs.LoopLaws.{run_again, run_end}
+use Rattle.access.proofs.LoopLaws.{run_again}
 use Rattle.file_syntax.specs.Expressions.{counted}
 use Rattle.file_syntax.proofs.RefusedLaws.{run_stops, u16_passes}
 use Rattle.file_section.specs.Lists as words
@@ -14,7 +14,3 @@ unfolding words.params counted
 returns-in_err-cursor c =
     let p = err_from_is_err_and c.from_residual.result c.from_residual.ensures.1 in
     rw (p.1, p.2) (run_stops _ c.loop-i.i _ _ _ _ (omega arith) c.loop-i.invariant.2 c.in_err-cursor.ensures (u16_passes _ _ _ _ _))
-
-pub returns : goal.returns
-unfolding words.params counted
-returns c = run_end _ c.loop-i.i _ _ _ (omega arith) c.loop-i.invariant.2

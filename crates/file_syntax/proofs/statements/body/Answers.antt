@@ -1,6 +1,6 @@
 use native.Mathlib.Omega.{arith}
 use Rattle.std.proofs.lemmas.Result.{err_from_is_err_and}
-use Rattle.access.proofs.LoopLaws.{run_again, run_end}
+use Rattle.access.proofs.LoopLaws.{run_again}
 use Rattle.file_syntax.specs.Statements as words
 use Rattle.file_syntax.proofs.RefusedLaws.{run_stops, statement_passes}
 use Rattle.file_syntax.proofs.statements.body.Goals as goal
@@ -13,7 +13,3 @@ unfolding words.body
 returns-in_err-cursor c =
     let p = err_from_is_err_and c.from_residual.result c.from_residual.ensures.1 in
     rw (p.1, p.2) (run_stops _ c.loop-i.i _ _ _ _ (omega arith) c.loop-i.invariant.1 c.in_err-cursor.ensures (statement_passes _ _ _ _))
-
-pub returns : goal.returns
-unfolding words.body
-returns c = run_end _ c.loop-i.i _ _ _ (omega arith) c.loop-i.invariant.1
