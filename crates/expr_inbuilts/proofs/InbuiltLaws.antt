@@ -2,7 +2,10 @@
 use mathlib.Core.Path.{◌≡◌, refl, ap, ◌∙◌}
 use mathlib.Core.Bool.{Bool, true, false, cond, ◌&&◌}
 use lib.Pointwise.{pointwise}
-use Rattle.std.specs.Prelude.{nat_eq}
+use Rattle.std.specs.Prelude.{nat_eq, Option, Some, None, map}
+use Rattle.std.specs.Borrow.{Bor}
+use Rattle.std.specs.List.{find}
+use Rattle.std.specs.Option.{option_map}
 use mathlib.Core.List.{List, [], ◌∷◌}
 use Prim.Native.Nat.{ℕ, ◌+◌, ◌-◌, ◌≤◌, ◌<◌}
 use native.Mathlib.Omega.{arith}
@@ -10,8 +13,9 @@ use lib.ListN.{length, get_or, take, drop, length-drop, get_or-eq_default}
 use lib.Seq.{take_all}
 use lib.Dec.{eqb}
 use Rattle.prelude.specs.Base.{same_numbers}
-use Rattle.expr_inbuilts.specs.Outcomes.{Inbuilt}
-use Rattle.expr_inbuilts.specs.Inbuilts.{attempt, inbuilt_of, inbuilt_at}
+use Rattle.expr_inbuilts.specs.Outcomes.{Inbuilt, to_inbuilt}
+use Rattle.expr_inbuilts.specs.declared.function.Inbuilt as function
+use Rattle.expr_inbuilts.specs.Inbuilts.{among, inbuilt_of, inbuilt_at}
 
 and_cond : (a b : Bool) → (a && b) ≡ cond a b false
 and_cond true b = refl
@@ -25,9 +29,22 @@ same_pointwise [] (y ∷ ys) = refl
 same_pointwise (x ∷ xs) [] = refl
 same_pointwise (x ∷ xs) (y ∷ ys) = and_cond (eqb x y) (pointwise nat_eq xs ys) ∙ ap (λ b. cond (eqb x y) b false) (same_pointwise xs ys)
 
-pub attempt_law : (w x : List ℕ) (o n : ℕ) (r : Inbuilt) → cond (pointwise nat_eq w x) (record { op = o; arguments = n }) r ≡ attempt w x o n r
-unfolding attempt
-attempt_law w x o n r = ap (λ b. cond b (record { op = o; arguments = n }) r) (same_pointwise w x)
+-- what a search among rows found is the word's
+module _ (w : List ℕ) where
+  row_or : (b : Bool) (row : Bor (List ℕ) × function.Inbuilt) (rest : Option (Bor (List ℕ) × function.Inbuilt)) (r : Inbuilt)
+      → to_inbuilt (option_map (λ x. x.1) rest) ≡ r
+      → to_inbuilt (option_map (λ x. x.1) (cond b (Some row) rest)) ≡ cond b (to_inbuilt (Some row.1)) r
+  row_or true row rest r e = refl
+  row_or false row rest r e = e
+
+  found_law : (rows : List (Bor (List ℕ) × function.Inbuilt)) → to_inbuilt (option_map (λ row. row.1) (find (λ row. pointwise nat_eq w row.0.now) rows)) ≡ among (map (λ row. (row.0.now, row.1)) rows) w
+  unfolding among
+  found_law [] = refl
+  found_law (row ∷ rows) = rw (← same_pointwise w row.0.now) (row_or (pointwise nat_eq w row.0.now) row (find (λ row. pointwise nat_eq w row.0.now) rows) (among (map (λ row. (row.0.now, row.1)) rows) w) (found_law rows))
+
+  pub row_law : (rows : List (Bor (List ℕ) × function.Inbuilt)) (r : Option (Bor (Bor (List ℕ) × function.Inbuilt))) → option_map (λ row. row.now) r ≡ find (λ row. pointwise nat_eq w row.0.now) rows → to_inbuilt (option_map (λ row. row.now.1) r) ≡ among (map (λ row. (row.0.now, row.1)) rows) w
+  row_law rows (Some row) e = ap (λ o. to_inbuilt (option_map (λ row. row.1) o)) e ∙ found_law rows
+  row_law rows None e = ap (λ o. to_inbuilt (option_map (λ row. row.1) o)) e ∙ found_law rows
 
 pub at_whole : (s : List ℕ) (at n : ℕ) (r : Inbuilt) → n ≡ get_or s at 0 → r ≡ inbuilt_of (take (at + 1 + n - (at + 1)) (drop (at + 1) s)) → r ≡ inbuilt_at s at
 unfolding inbuilt_at

@@ -1,10 +1,16 @@
 -- The built-in functions by the bytes of their names: an operation's number and its count of arguments, both 0 for other names.
-use Rattle.std.specs.Prelude.{ℕ, ◌+◌, List, [], ◌∷◌, get_or, take, drop}
+use Rattle.std.specs.Prelude.{ℕ, ◌+◌, List, [], ◌∷◌, get_or, take, drop, Some}
 use Rattle.prelude.specs.Base.{when◌then◌else◌, same_numbers}
-use Rattle.expr_inbuilts.specs.Outcomes.{Inbuilt}
+use Rattle.expr_inbuilts.specs.Outcomes.{Inbuilt, to_inbuilt}
+use Rattle.expr_inbuilts.specs.declared.function.Inbuilt as function
 
 unfoldable pub attempt : List ℕ → List ℕ → ℕ → ℕ → Inbuilt → Inbuilt
 attempt w spelling op arguments other = when same_numbers w spelling then record { op = op; arguments = arguments } else other
+
+-- the first of some rows, each a spelling and its function
+unfoldable pub among : List (List ℕ × function.Inbuilt) → List ℕ → Inbuilt
+among [] w = record { op = 0; arguments = 0 }
+among (row ∷ rows) w = when same_numbers w row.0 then to_inbuilt (Some row.1) else among rows w
 
 unfoldable pub logical : List ℕ → Inbuilt → Inbuilt
 logical w r =

@@ -1,10 +1,8 @@
 // What a built-in function is.
-ghost use Rattle.std.specs.Prelude.{◌<◌};
 
-// An operation's number, and its count of arguments.
+// An operation's number, by its count of arguments.
 #[derive(Clone, Copy)]
-pub struct Inbuilt {
-    pub op: u64,
-    pub arguments: u64,
-    pub ghost some: { 0 < arguments },
+pub enum Inbuilt {
+    Unary(u64),
+    Binary(u64),
 }

@@ -6,6 +6,7 @@ use Rattle.list_values.specs.declared.value.Value.{Value}
 use Rattle.list_values.specs.Outcomes.{Slice}
 use Rattle.list_pushes.specs.declared.push.State.{State}
 use Rattle.list_pushes.specs.declared.push.Env.{Env}
+use Rattle.list_pushes.specs.declared.push.Operation.{Operation}
 use Rattle.list_pushes.specs.Outcomes.{Read}
 use Rattle.list_pushes.specs.Outcomes.{Pushed}
 use Rattle.list_values.specs.Base.{Listed, listed, then_l}
@@ -54,6 +55,13 @@ slice_read (Slice.No n) st = Read.No n
 -- the slice, unless its offset passes 65,535
 unfoldable pub sliced : Value → ℕ → ℕ → State → Read
 sliced v more size st = slice_read (slice_bytes v more size) st
+
+-- an operation into a temporary, of which so many low bits stay
+unfoldable pub masked : List ℕ → List ℕ → List ℕ → List ℕ → Env → Operation → Value → ℕ → State → ReadOut
+masked s t a m e o tmp bits st =
+    on_read (op_to s t a m e o.code o.number o.count tmp o.first o.second st)
+    (λ _ st1 b w. op_to s t b w e 24 0 2 tmp tmp (constant (mask_of bits)) st1)
+    (λ n b w. read (Read.No n) b w)
 
 -- a value shifted into a temporary, which is then masked
 unfoldable pub shift_to : List ℕ → List ℕ → List ℕ → List ℕ → Env → Value → Value → ℕ → ℕ → State → ReadOut
@@ -119,11 +127,11 @@ unfoldable pub read_value : List ℕ → List ℕ → List ℕ → List ℕ → 
 read_value s t a m e (ExprValue.Local v) given to st = copy_to s t a m e given to v st
 read_value s t a m e (ExprValue.Unbound v) given to st = copy_to s t a m e given to v st
 read_value s t a m e (ExprValue.Const n size) given to st = copy_to s t a m e given to (with_size size (constant n)) st
-read_value s t a m e (ExprValue.Apply code number count x y) given to st = op s t a m e code number count given to x y st
+read_value s t a m e (ExprValue.Apply o) given to st = op s t a m e o.code o.number o.count given to o.first o.second st
 read_value s t a m e (ExprValue.RamRef pointer size) given to st = load s t a m e pointer size given to st
 read_value s t a m e (ExprValue.RegisterRef pointer size) given to st = load_register s t a m pointer size given to st
 read_value s t a m e (ExprValue.AddressOf base size) given to st = read_address a m base size given to st
-read_value s t a m e (ExprValue.BitRange v from bits) given to st = read_slice s t a m e v from bits given to st
+read_value s t a m e (ExprValue.BitRange v bits) given to st = read_slice s t a m e v bits.from bits.count given to st
 
 -- as an operand, with no output given
 unfoldable pub read_operand : List ℕ → List ℕ → List ℕ → List ℕ → Env → ExprValue → State → ReadOut

@@ -4,11 +4,11 @@ ghost use Rattle.list_values.specs.Base.{listed};
 ghost use Rattle.list_values.specs.Values.{local, absent};
 ghost use Rattle.list_pushes.specs.Outcomes.{to_read};
 ghost use Rattle.list_pushes.specs.Pushes.{read};
-ghost use Rattle.expr_reading.specs.Reading.{needed_bytes, constant, set_size, set_stated, take_stated, copy_to, byte_aligned, sliced, shift_to, shift_and_mask, part_of, read_slice, read_address, load, load_register, read_value, read_operand};
+ghost use Rattle.expr_reading.specs.Reading.{needed_bytes, constant, set_size, set_stated, take_stated, copy_to, byte_aligned, sliced, masked, shift_and_mask, part_of, read_slice, read_address, load, load_register, read_value, read_operand};
 
 use codes::refusal::Refusal;
 use codes::{NONE, action_kind, operation, value_kind};
-use expr_scope::scope::ExprValue;
+use expr_scope::scope::{Bits, ExprValue};
 use list_pushes::push::{Env, Operation, State, add_tmp, op, op_to, output_or, push};
 use list_values::section::Section;
 use list_values::sizes::{record_errors, settle, size_of};
@@ -122,10 +122,10 @@ fn copy_to(
 }
 
 #[tactic(auto, unfolding(crate::specs::Reading::byte_aligned))]
-pub fn byte_aligned(from: u64, bits: u64) -> bool
-    ensures { result ≡ byte_aligned from bits }
+pub fn byte_aligned(bits: Bits) -> bool
+    ensures { result ≡ byte_aligned bits.from bits.count }
 {
-    from % 8 == 0 && bits % 8 == 0
+    bits.from % 8 == 0 && bits.count % 8 == 0
 }
 
 // The slice, unless its offset passes 65,535.
@@ -137,53 +137,51 @@ pub fn sliced(value: Value, more: u64, size: u64, state: State) -> Result<(Value
     Ok((slice, state))
 }
 
-#[tactic(auto, unfolding(crate::specs::Reading::shift_to, list_pushes::specs::Pushes::on_read))]
-fn shift_to(
+// An operation into a temporary, and then so many of its low bits.
+#[tactic(auto, unfolding(crate::specs::Reading::masked, list_pushes::specs::Pushes::on_read))]
+pub fn masked(
     section: Section<'_>,
     actions: &mut [u64],
     temporaries: &mut [u64],
     env: Env,
-    value: Value,
+    operation: Operation,
     tmp: Value,
-    from: u64,
     bits: u64,
     state: State,
 ) -> Result<(Value, State), Refusal>
-    ensures { read (to_read result) actions.new temporaries.new ≡ shift_to section.entry.stream.now section.entry.table.now actions.old temporaries.old env value tmp from bits state }
+    ensures { read (to_read result) actions.new temporaries.new ≡ masked section.entry.stream.now section.entry.table.now actions.old temporaries.old env operation tmp bits state }
 {
-    let shift = Operation::binary(operation::INT_RIGHT, value, constant(from));
-    let (_, next) = op_to(section, actions, temporaries, env, shift, tmp, state)?;
-    let masked = Operation::binary(operation::INT_AND, tmp, constant(access::mask(bits)));
-    op_to(section, actions, temporaries, env, masked, tmp, next)
+    let (_, state) = op_to(section, actions, temporaries, env, operation, tmp, state)?;
+    let low = Operation::binary(operation::INT_AND, tmp, constant(access::mask(bits)));
+    op_to(section, actions, temporaries, env, low, tmp, state)
 }
 
-#[tactic(auto, unfolding(crate::specs::Reading::shift_and_mask, list_pushes::specs::Pushes::on_tmp, list_pushes::specs::Pushes::on_read))]
+#[tactic(auto, unfolding(crate::specs::Reading::shift_and_mask, crate::specs::Reading::shift_to, crate::specs::Reading::masked, list_pushes::specs::Pushes::on_tmp, list_pushes::specs::Pushes::on_read))]
 fn shift_and_mask(
     section: Section<'_>,
     actions: &mut [u64],
     temporaries: &mut [u64],
     env: Env,
     value: Value,
-    from: u64,
-    bits: u64,
+    bits: Bits,
     state: State,
 ) -> Result<(Value, State), Refusal>
-    ensures { read (to_read result) actions.new temporaries.new ≡ shift_and_mask section.entry.stream.now section.entry.table.now actions.old temporaries.old env value from bits state }
+    ensures { read (to_read result) actions.new temporaries.new ≡ shift_and_mask section.entry.stream.now section.entry.table.now actions.old temporaries.old env value bits.from bits.count state }
 {
     let size = size_of(section, temporaries, value);
-    let (tmp, next) = add_tmp(temporaries, NONE, size, state)?;
-    let (_, last) = shift_to(
+    let (tmp, state) = add_tmp(temporaries, NONE, size, state)?;
+    let shift = Operation::binary(operation::INT_RIGHT, value, constant(bits.from));
+    let (_, state) = masked(
         section,
         actions,
         temporaries,
         env,
-        value,
+        shift,
         tmp,
-        from,
-        bits,
-        next,
+        bits.count,
+        state,
     )?;
-    Ok((with_size(tmp, needed_bytes(bits)), last))
+    Ok((with_size(tmp, needed_bytes(bits.count)), state))
 }
 
 #[tactic(auto, unfolding(crate::specs::Reading::part_of))]
@@ -193,16 +191,15 @@ fn part_of(
     temporaries: &mut [u64],
     env: Env,
     value: Value,
-    from: u64,
-    bits: u64,
+    bits: Bits,
     state: State,
 ) -> Result<(Value, State), Refusal>
-    ensures { read (to_read result) actions.new temporaries.new ≡ part_of section.entry.stream.now section.entry.table.now actions.old temporaries.old env value from bits state }
+    ensures { read (to_read result) actions.new temporaries.new ≡ part_of section.entry.stream.now section.entry.table.now actions.old temporaries.old env value bits.from bits.count state }
 {
-    if byte_aligned(from, bits) {
-        return sliced(value, from / 8, bits / 8, state);
+    if byte_aligned(bits) {
+        return sliced(value, bits.from / 8, bits.count / 8, state);
     }
-    shift_and_mask(section, actions, temporaries, env, value, from, bits, state)
+    shift_and_mask(section, actions, temporaries, env, value, bits, state)
 }
 
 #[tactic(auto, unfolding(crate::specs::Reading::read_slice, list_pushes::specs::Pushes::on_read))]
@@ -212,14 +209,13 @@ pub fn read_slice(
     temporaries: &mut [u64],
     env: Env,
     value: Value,
-    from: u64,
-    bits: u64,
+    bits: Bits,
     to: Option<Value>,
     state: State,
 ) -> Result<(Value, State), Refusal>
-    ensures { read (to_read result) actions.new temporaries.new ≡ read_slice section.entry.stream.now section.entry.table.now actions.old temporaries.old env value from bits (is_some to) (unwrap_or to absent) state }
+    ensures { read (to_read result) actions.new temporaries.new ≡ read_slice section.entry.stream.now section.entry.table.now actions.old temporaries.old env value bits.from bits.count (is_some to) (unwrap_or to absent) state }
 {
-    let (part, next) = part_of(section, actions, temporaries, env, value, from, bits, state)?;
+    let (part, next) = part_of(section, actions, temporaries, env, value, bits, state)?;
     copy_to(section, actions, temporaries, env, to, part, next)
 }
 
@@ -303,20 +299,7 @@ pub fn read_value(
             let v = with_size(constant(value), size);
             copy_to(section, actions, temporaries, env, to, v, state)
         }
-        ExprValue::Apply {
-            op: code,
-            number,
-            count,
-            a: first,
-            b: second,
-        } => {
-            let operation = Operation {
-                code,
-                number,
-                count,
-                first,
-                second,
-            };
+        ExprValue::Apply(operation) => {
             op(section, actions, temporaries, env, operation, to, state)
         }
         ExprValue::RamRef { pointer, size } => {
@@ -328,9 +311,9 @@ pub fn read_value(
         ExprValue::AddressOf { base, size } => {
             read_address(actions, temporaries, base, size, to, state)
         }
-        ExprValue::BitRange { v, from, bits } => {
+        ExprValue::BitRange { v, bits } => {
             // By a name of its own, so that the answers of the other arms need not go through memory.
-            let r = read_slice(section, actions, temporaries, env, v, from, bits, to, state);
+            let r = read_slice(section, actions, temporaries, env, v, bits, to, state);
             r
         }
     }

@@ -25,11 +25,11 @@ unfoldable pub enc_x : ExprValue → WordExpr
 enc_x (ExprValue.Local v) = WordExpr.Local (enc_v v)
 enc_x (ExprValue.Unbound v) = WordExpr.Unbound (enc_v v)
 enc_x (ExprValue.Const n size) = WordExpr.Const n (or_none size)
-enc_x (ExprValue.Apply op n vs) = WordExpr.Apply (operation_number op) n (length vs) (first_of vs) (second_of vs)
+enc_x (ExprValue.Apply op n vs) = WordExpr.Apply (record { code = operation_number op; number = n; count = length vs; first = first_of vs; second = second_of vs })
 enc_x (ExprValue.RamRef v size) = WordExpr.RamRef (enc_v v) size
 enc_x (ExprValue.RegisterRef v size) = WordExpr.RegisterRef (enc_v v) size
 enc_x (ExprValue.AddressOf v size) = WordExpr.AddressOf (enc_v v) (or_none size)
-enc_x (ExprValue.BitRange v from bits) = WordExpr.BitRange (enc_v v) from bits
+enc_x (ExprValue.BitRange v from bits) = WordExpr.BitRange (enc_v v) (record { from = from; count = bits })
 
 -- an action that an operation makes
 abbrev pub op_action : Operation → ℕ → List Value → Option Value → SemanticAction

@@ -42,6 +42,8 @@ pub args_done : (walk : Walk) (n i pos : ℕ) (a m args : List ℕ) (st : State)
 unfolding resolve_args
 args_done walk n i pos a m args st w h inv = let z : n - i ≡ 0 = omega arith in rw z at inv
 
+pub ruleset args_laws = (args_start, args_no, args_more, args_done)
+
 pub expr_deep : (d : ℕ) (s t p : List ℕ) (e : Env) (pos : ℕ) (a m : List ℕ) (st : State) → d ≡ 0 → resolved (Expr.No 4) a m ≡ resolve_expr d s t p e pos a m st
 unfolding resolve_expr
 expr_deep d s t p e pos a m st z = rw z

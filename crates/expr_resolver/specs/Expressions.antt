@@ -39,11 +39,11 @@ unfoldable pub local_address : ExprValue → ℕ → ℕ → State → Expr
 local_address (ExprValue.Local v) size next st = Expr.Value next (ExprValue.AddressOf v size) st
 local_address (ExprValue.Unbound v) size next st = Expr.No 30
 local_address (ExprValue.Const n z) size next st = Expr.No 30
-local_address (ExprValue.Apply op number count x y) size next st = Expr.No 30
+local_address (ExprValue.Apply operation) size next st = Expr.No 30
 local_address (ExprValue.RamRef v z) size next st = Expr.No 30
 local_address (ExprValue.RegisterRef v z) size next st = Expr.No 30
 local_address (ExprValue.AddressOf v z) size next st = Expr.No 30
-local_address (ExprValue.BitRange v from bits) size next st = Expr.No 30
+local_address (ExprValue.BitRange v bits) size next st = Expr.No 30
 
 unfoldable pub address_meant : Meaning → ℕ → ℕ → State → Expr
 address_meant (Meaning.Means x) size next st = local_address x size next st

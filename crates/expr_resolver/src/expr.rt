@@ -12,7 +12,7 @@ use codes::refusal::Refusal;
 use codes::{NONE, expression, header, operation};
 use expr_reading::read::{constant, read_operand};
 use expr_scope::args::put_arg;
-use expr_scope::scope::{ExprValue, plain_local, resolve_ident};
+use expr_scope::scope::{Bits, ExprValue, plain_local, resolve_ident};
 use expr_terms::address::resolve_address;
 use expr_terms::answers::{Operand, Resolved, after};
 use expr_terms::calls::{Callee, applied, call_user_op, callee_of, subpiece};
@@ -44,7 +44,7 @@ fn local_address(expr: ExprValue, size: u64, next: usize, state: State) -> Resul
         }),
         ExprValue::Unbound(_)
         | ExprValue::Const { .. }
-        | ExprValue::Apply { .. }
+        | ExprValue::Apply(_)
         | ExprValue::RamRef { .. }
         | ExprValue::RegisterRef { .. }
         | ExprValue::AddressOf { .. }
@@ -67,7 +67,7 @@ fn address_of(
 }
 
 // The name at a position.
-#[tactic(auto, unfolding(crate::specs::Expressions::means_at))]
+#[tactic(auto, using(expr_scope::proofs::ScopeLaws::plain_means), unfolding(crate::specs::Expressions::means_at))]
 fn name_at(
     section: Section<'_>,
     scope: &[u64],
@@ -185,63 +185,52 @@ fn with_part(
     temporaries: &mut [u64],
     pos: usize,
     env: Env,
-    expr: ExprValue,
-    next: usize,
-    state: State,
+    part: Resolved,
 ) -> Result<Resolved, Refusal>
-    ensures { resolved (to_expr result) actions.new temporaries.new ≡ with_part code section.entry.stream.now section.entry.table.now actions.old temporaries.old pos env expr next state }
+    ensures { resolved (to_expr result) actions.new temporaries.new ≡ with_part code section.entry.stream.now section.entry.table.now actions.old temporaries.old pos env part.value part.next part.state }
 {
+    let next = part.next;
     match code {
         expression::TRUNCATE => {
-            let bits = 8 * u16_in(section.stream, next, 0);
-            let end = after(next, 2);
+            let bits = Bits {
+                from: 0,
+                count: 8 * u16_in(section.stream, next, 0),
+            };
+            let next = after(next, 2);
             slice_bits(
                 section,
                 actions,
                 temporaries,
                 env,
-                expr,
-                0,
+                Resolved { next, ..part },
                 bits,
-                end,
-                state,
             )
         }
         expression::SLICE_BITS => {
-            let from = u16_in(section.stream, next, 0);
-            let bits = u16_in(section.stream, next, 2);
-            let end = after(next, 4);
+            let bits = Bits {
+                from: u16_in(section.stream, next, 0),
+                count: u16_in(section.stream, next, 2),
+            };
+            let next = after(next, 4);
             slice_bits(
                 section,
                 actions,
                 temporaries,
                 env,
-                expr,
-                from,
+                Resolved { next, ..part },
                 bits,
-                end,
-                state,
             )
         }
         _ => {
             let space = u16_in(section.stream, pos, 1);
             let size = u16_in(section.stream, pos, 3);
-            resolve_address(
-                section,
-                actions,
-                temporaries,
-                env,
-                space,
-                size,
-                expr,
-                next,
-                state,
-            )
+            resolve_address(section, actions, temporaries, env, space, size, part)
         }
     }
 }
 
 // What stands at a position, where it is a plain local or an integer: reading it pushes nothing.
+#[tactic(auto, using(crate::proofs::ExprLaws::plain_read, crate::proofs::ExprLaws::integer_read))]
 fn plain_operand(
     deep: u64,
     section: Section<'_>,
@@ -318,17 +307,7 @@ fn part(
 {
     let at = after(pos, part_at(code));
     let part = resolve_expr(deep, section, scope, at, env, actions, temporaries, state)?;
-    with_part(
-        code,
-        section,
-        actions,
-        temporaries,
-        pos,
-        env,
-        part.value,
-        part.next,
-        part.state,
-    )
+    with_part(code, section, actions, temporaries, pos, env, part)
 }
 
 #[cycle(call_inbuilt_expr_value_part_resolve_args_resolve_call_resolve_expr_resolve_op_user_op)]
@@ -409,6 +388,7 @@ fn call_inbuilt(
 
 // n arguments, resolved only, into the slots of `args`.
 #[cycle(call_inbuilt_expr_value_part_resolve_args_resolve_call_resolve_expr_resolve_op_user_op)]
+#[tactic(auto, using(crate::proofs::ExprLaws::args_laws))]
 pub fn resolve_args(
     deep: u64,
     section: Section<'_>,
@@ -536,6 +516,7 @@ fn resolve_call(
 }
 
 #[cycle(call_inbuilt_expr_value_part_resolve_args_resolve_call_resolve_expr_resolve_op_user_op)]
+#[tactic(auto, using(crate::proofs::ExprLaws::deep_laws))]
 pub fn resolve_expr(
     deep: u64,
     section: Section<'_>,

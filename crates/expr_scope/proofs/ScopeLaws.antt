@@ -1,41 +1,69 @@
 -- The search for a parameter, from the last one down; and what a plain local is.
-use mathlib.Core.Path.{◌≡◌, ap, sym}
-use mathlib.Core.Bool.{true, false}
-use mathlib.Core.List.{List}
-use Prim.Native.Nat.{ℕ, zero, suc, ◌+◌, ◌-◌, ◌≤◌, ◌<◌}
+use mathlib.Core.Path.{◌≡◌, refl, ap, sym, subst, ◌∙◌}
+use mathlib.Core.Bool.{Bool, true, false, cond}
+use mathlib.Core.List.{List, [], ◌∷◌}
+use Prim.Native.Nat.{ℕ, zero, suc, ◌+◌, ◌-◌, ◌<◌}
 use native.Mathlib.Omega.{arith}
-use lib.ListN.{get_or}
+use lib.ListN.{length, get_or}
 use lib.Dec.{eqb}
-use borrow.Author.Tests.{eq-eqb, ne_eqb}
+use borrow.Author.Tests.{ne_eqb}
+use Rattle.std.specs.Prelude.{Option, Some, None}
+use Rattle.std.specs.Option.{MatchOption, option_map}
+use Rattle.std.specs.declared.ops.Range.{Range}
+use Rattle.std.specs.declared.iter.Rev.{Rev}
+use Rattle.std.specs.List.{find}
+use Rattle.std.proofs.lemmas.Iterator.{YieldsList}
+use Rattle.std.proofs.lemmas.Iterator.Splits.{YieldsList-from_shown_while}
+use Rattle.std.specs.Iterator.Adapters.{rev_steps}
 use Rattle.expr_scope.specs.Slots.{param_place}
 use Rattle.prelude.specs.Base.{when◌then◌else◌}
 use Rattle.list_values.specs.declared.value.Value.{Value}
 use Rattle.list_pushes.specs.declared.push.Env.{Env}
 use Rattle.expr_scope.specs.declared.scope.ExprValue.{ExprValue}
-use Rattle.expr_scope.specs.Outcomes.{Meaning, Found}
+use Rattle.expr_scope.specs.Outcomes.{Meaning, Found, one_more}
 use Rattle.expr_scope.specs.Scopes.{find_param, inner_meaning, param_or, resolve_ident, local_of, plain_local}
 
+-- the numbers below one, from the greatest on
+abbrev pub down_from : ℕ → List ℕ
+down_from zero = []
+down_from (suc n) = n ∷ down_from n
+
+abbrev pub back_steps : Range ℕ → Option ℕ → Range ℕ → Type 0
+back_steps s r t = (t.start ≡ s.start) × MatchOption r ((s.end - s.start ≡ 0) × (t.end ≡ s.end)) (λ x. (0 < s.end - s.start) × (x ≡ t.end) × (s.end ≡ t.end + 1))
+
+down_empty : (n m : ℕ) → m ≡ 0 → n - m ≡ 0 → length (down_from n) ≡ 0
+down_empty zero m z e = refl
+down_empty (suc n) m z e = absurd (omega arith)
+
+down_next : (n m x t : ℕ) → m ≡ 0 → x ≡ t → n ≡ t + 1 → down_from n ≡ x ∷ down_from t
+down_next zero m x t z e h = absurd (omega arith)
+down_next (suc n) m x t z e h = let j : n ≡ t = omega arith in rw (e, j) refl
+
+-- a range from 0 on gives them, run backwards
+pub yields_down : (s : Rev (Range ℕ)) (n : ℕ) → s.iter ≡ record { start = 0; end = n } → YieldsList (rev_steps back_steps) (λ x. x) s (down_from n)
+yields_down s n e = subst (λ k. YieldsList (rev_steps back_steps) (λ x. x) s (down_from k)) (ap (λ r. r.end) e)
+    (YieldsList-from_shown_while (rev_steps back_steps) (λ x. x) (λ u. down_from u.iter.end) (λ u. u.iter.start ≡ 0)
+    (λ u t z p. down_empty u.iter.end u.iter.start z p.1.0)
+    (λ u x t z p. (p.0 ∙ z, down_next u.iter.end u.iter.start x t.iter.end z p.1.1 p.1.2))
+    s (ap (λ r. r.start) e))
+
+-- the last of some parameters that has the name
 module _ (p : List ℕ) (name : ℕ) where
-  pub param_hit : (i at w r : ℕ) → 0 < i → at ≡ param_place (i - 1) → w ≡ get_or p (at + 0) 0 → w ≡ name → find_param i p name ≡ r → suc (i - 1) ≡ r
-  unfolding find_param
-  param_hit zero at w r h a g q e = absurd (omega arith)
-  param_hit (suc i) at w r h a g q e =
-      let d : suc i - 1 ≡ i = omega arith in
-      let f : eqb (get_or p (param_place i + 0) 0) name ≡ true = rw (← d, ← a, ← g) (eq-eqb w name q) in
-      rw d (rw f at e)
+  mapped : (r : Option ℕ) → one_more r ≡ one_more (option_map (λ x. x) r)
+  mapped (Some i) = refl
+  mapped None = refl
 
-  pub param_miss : (i at w r : ℕ) → 0 < i → at ≡ param_place (i - 1) → w ≡ get_or p (at + 0) 0 → (w ≡ name → ⊥) → find_param i p name ≡ r → find_param (i - 1) p name ≡ r
-  unfolding find_param
-  param_miss zero at w r h a g q e = absurd (omega arith)
-  param_miss (suc i) at w r h a g q e =
-      let d : suc i - 1 ≡ i = omega arith in
-      let f : eqb (get_or p (param_place i + 0) 0) name ≡ false = rw (← d, ← a, ← g) (ne_eqb w name q) in
-      rw d (rw f at e)
+  step : (b : Bool) (k : ℕ) (rest : Option ℕ) (m : ℕ) → one_more rest ≡ m → one_more (cond b (Some k) rest) ≡ cond b (suc k) m
+  step true k rest m e = refl
+  step false k rest m e = e
 
-  pub param_end : (i r : ℕ) → i ≤ 0 → find_param i p name ≡ r → 0 ≡ r
+  found : (k : ℕ) → one_more (find (λ i. eqb (get_or p (param_place i + 0) 0) name) (down_from k)) ≡ find_param k p name
   unfolding find_param
-  param_end zero r h e = e
-  param_end (suc i) r h e = absurd (omega arith)
+  found zero = refl
+  found (suc k) = step (eqb (get_or p (param_place k + 0) 0) name) k (find (λ i. eqb (get_or p (param_place i + 0) 0) name) (down_from k)) (find_param k p name) (found k)
+
+  pub last_law : (n : ℕ) (r : Option ℕ) → option_map (λ x. x) r ≡ find (λ i. eqb (get_or p (param_place i + 0) 0) name) (down_from n) → one_more r ≡ find_param n p name
+  last_law n r e = mapped r ∙ (ap one_more e ∙ found n)
 
 value_in : Value → Found → Value
 value_in d (Found.Is v) = v
@@ -54,11 +82,11 @@ unfolding local_of value_in
 local_means (Meaning.Means (ExprValue.Local u)) v h = ap (λ w. Meaning.Means (ExprValue.Local w)) (ap (value_in u) h)
 local_means (Meaning.Means (ExprValue.Unbound u)) v h = absurd (nothing_is v h)
 local_means (Meaning.Means (ExprValue.Const n z)) v h = absurd (nothing_is v h)
-local_means (Meaning.Means (ExprValue.Apply op number count a b)) v h = absurd (nothing_is v h)
+local_means (Meaning.Means (ExprValue.Apply operation)) v h = absurd (nothing_is v h)
 local_means (Meaning.Means (ExprValue.RamRef u z)) v h = absurd (nothing_is v h)
 local_means (Meaning.Means (ExprValue.RegisterRef u z)) v h = absurd (nothing_is v h)
 local_means (Meaning.Means (ExprValue.AddressOf u z)) v h = absurd (nothing_is v h)
-local_means (Meaning.Means (ExprValue.BitRange u from bits)) v h = absurd (nothing_is v h)
+local_means (Meaning.Means (ExprValue.BitRange u bits)) v h = absurd (nothing_is v h)
 local_means (Meaning.Wrong n) v h = absurd (nothing_is v h)
 
 plain_param : (k : ℕ) (p : List ℕ) (x : Meaning) (v : Value) → (when eqb k 0 then local_of x else Found.Nothing) ≡ Found.Is v → param_or k p x ≡ Meaning.Means (ExprValue.Local v)

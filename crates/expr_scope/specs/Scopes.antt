@@ -50,7 +50,7 @@ lookup_local t p own name = when own then or_tmp (own_local t name) p name else 
 
 -- what stands at an entry of the list of bit ranges
 unfoldable pub bits_at : List ℕ → ℕ → ExprValue
-bits_at s at = ExprValue.BitRange (local 2 (le16 s (at + 2))) (le16 s (at + 4)) (le16 s (at + 6))
+bits_at s at = ExprValue.BitRange (local 2 (le16 s (at + 2))) (record { from = le16 s (at + 4); count = le16 s (at + 6) })
 
 unfoldable pub bit_range : List ℕ → List ℕ → ℕ → ExprValue
 bit_range s t i = bits_at s (entry t 2 (i % 65536 * 8))
@@ -87,11 +87,11 @@ unfoldable pub local_of : Meaning → Found
 local_of (Meaning.Means (ExprValue.Local v)) = Found.Is v
 local_of (Meaning.Means (ExprValue.Unbound v)) = Found.Nothing
 local_of (Meaning.Means (ExprValue.Const n z)) = Found.Nothing
-local_of (Meaning.Means (ExprValue.Apply op number count x y)) = Found.Nothing
+local_of (Meaning.Means (ExprValue.Apply operation)) = Found.Nothing
 local_of (Meaning.Means (ExprValue.RamRef v z)) = Found.Nothing
 local_of (Meaning.Means (ExprValue.RegisterRef v z)) = Found.Nothing
 local_of (Meaning.Means (ExprValue.AddressOf v z)) = Found.Nothing
-local_of (Meaning.Means (ExprValue.BitRange v from bits)) = Found.Nothing
+local_of (Meaning.Means (ExprValue.BitRange v bits)) = Found.Nothing
 local_of (Meaning.Wrong n) = Found.Nothing
 
 -- the local that a name means which is no parameter's

@@ -16,22 +16,22 @@ unfoldable pub slot_of : ExprValue → Slot
 slot_of (ExprValue.Local v) = one_value 0 0 0 v
 slot_of (ExprValue.Unbound v) = one_value 1 0 0 v
 slot_of (ExprValue.Const value size) = one_value 2 value size absent
-slot_of (ExprValue.Apply op number count a b) = slot 3 (op % 256 + count % 256 * 256) number a b
+slot_of (ExprValue.Apply o) = slot 3 (o.code % 256 + o.count % 256 * 256) o.number o.first o.second
 slot_of (ExprValue.RamRef pointer size) = one_value 4 size 0 pointer
 slot_of (ExprValue.RegisterRef pointer size) = one_value 5 size 0 pointer
 slot_of (ExprValue.AddressOf base size) = one_value 6 size 0 base
-slot_of (ExprValue.BitRange v from bits) = one_value 7 from bits v
+slot_of (ExprValue.BitRange v bits) = one_value 7 bits.from bits.count v
 
 unfoldable pub of_parts : ℕ → ℕ → ℕ → Value → Value → ExprValue
 of_parts tag x y a b =
     when eqb tag 0 then ExprValue.Local a
     else when eqb tag 1 then ExprValue.Unbound a
     else when eqb tag 2 then ExprValue.Const x y
-    else when eqb tag 3 then ExprValue.Apply (x % 256) y (x / 256) a b
+    else when eqb tag 3 then ExprValue.Apply (record { code = x % 256; number = y; count = x / 256; first = a; second = b })
     else when eqb tag 4 then ExprValue.RamRef a x
     else when eqb tag 5 then ExprValue.RegisterRef a x
     else when eqb tag 6 then ExprValue.AddressOf a x
-    else ExprValue.BitRange a x y
+    else ExprValue.BitRange a (record { from = x; count = y })
 
 unfoldable pub of_slot : Slot → ExprValue
 of_slot k = of_parts k.tag k.x k.y k.a k.b

@@ -2,18 +2,18 @@
 ghost use Rattle.std.specs.Prelude.{◌≡◌};
 ghost use Rattle.expr_scope.specs.Slots.{arg_at, put_arg};
 
-use crate::scope::{ExprValue, of_slot, param_place, put_slot, slot_at, slot_of};
+use crate::scope::{ExprValue, Slot, param_place, put_slot, slot_at};
 
 #[tactic(auto, unfolding(crate::specs::Slots::put_arg))]
 pub fn put_arg(args: &mut [u64], index: u64, expr: ExprValue)
     ensures { args.new ≡ put_arg args.old index expr }
 {
-    put_slot(args, param_place(index as usize), slot_of(expr));
+    put_slot(args, param_place(index as usize), Slot::from(expr));
 }
 
 #[tactic(auto, unfolding(crate::specs::Slots::arg_at))]
 pub fn arg_at(args: &[u64], index: u64) -> ExprValue
     ensures { result ≡ arg_at args.now index }
 {
-    of_slot(slot_at(args, param_place(index as usize)))
+    ExprValue::from(slot_at(args, param_place(index as usize)))
 }

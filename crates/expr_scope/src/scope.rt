@@ -11,7 +11,7 @@ use crate::smalls::{put_small, small};
 use crate::symbols::{Symbol, lookup};
 use codes::refusal::Refusal;
 use codes::{header, table, value_kind};
-use list_pushes::push::{Env, State, add_tmp};
+use list_pushes::push::{Env, Operation, State, add_tmp};
 use list_values::section::Section;
 use list_values::sizes::entry;
 use list_values::value::{Value, absent, get, local, put, put_value, value_at};
@@ -47,39 +47,24 @@ const ADDRESS_OF: u64 = 6;
 
 const BIT_RANGE: u64 = 7;
 
+// A range of bits: so many from a bit on.
+#[derive(Clone, Copy)]
+pub struct Bits {
+    pub from: u64,
+    pub count: u64,
+}
+
 // What an expression means before it is read.
 #[derive(Clone, Copy)]
 pub enum ExprValue {
     Local(Value),
     Unbound(Value),
-    Const {
-        value: u64,
-        size: u64,
-    },
-    Apply {
-        op: u64,
-        number: u64,
-        count: u64,
-        a: Value,
-        b: Value,
-    },
-    RamRef {
-        pointer: Value,
-        size: u64,
-    },
-    RegisterRef {
-        pointer: Value,
-        size: u64,
-    },
-    AddressOf {
-        base: Value,
-        size: u64,
-    },
-    BitRange {
-        v: Value,
-        from: u64,
-        bits: u64,
-    },
+    Const { value: u64, size: u64 },
+    Apply(Operation),
+    RamRef { pointer: Value, size: u64 },
+    RegisterRef { pointer: Value, size: u64 },
+    AddressOf { base: Value, size: u64 },
+    BitRange { v: Value, bits: Bits },
 }
 
 // An expression's value as a parameter's slot of eight words keeps it: its name, which constructor, two numbers, two
@@ -105,68 +90,61 @@ fn one_value(tag: u64, first: u64, second: u64, value: Value) -> Slot
     }
 }
 
-#[tactic(auto, unfolding(crate::specs::Slots::slot_of))]
-pub fn slot_of(expr: ExprValue) -> Slot
-    ensures { result ≡ slot_of expr }
-{
-    match expr {
-        ExprValue::Local(v) => one_value(LOCAL, 0, 0, v),
-        ExprValue::Unbound(v) => one_value(UNBOUND, 0, 0, v),
-        ExprValue::Const { value, size } => one_value(CONST, value, size, absent()),
-        ExprValue::Apply {
-            op,
-            number,
-            count,
-            a,
-            b,
-        } => Slot {
-            tag: APPLY,
-            x: op % 256 + count % 256 * 256,
-            y: number,
-            a,
-            b,
-        },
-        ExprValue::RamRef { pointer, size } => one_value(RAM_REF, size, 0, pointer),
-        ExprValue::RegisterRef { pointer, size } => one_value(REGISTER_REF, size, 0, pointer),
-        ExprValue::AddressOf { base, size } => one_value(ADDRESS_OF, size, 0, base),
-        ExprValue::BitRange { v, from, bits } => one_value(BIT_RANGE, from, bits, v),
+impl From<ExprValue> for Slot {
+    ghost from_gives = { λ expr slot. slot ≡ slot_of expr };
+
+    #[tactic(auto, unfolding(crate::specs::Slots::slot_of))]
+    fn from(expr: ExprValue) -> Slot {
+        match expr {
+            ExprValue::Local(v) => one_value(LOCAL, 0, 0, v),
+            ExprValue::Unbound(v) => one_value(UNBOUND, 0, 0, v),
+            ExprValue::Const { value, size } => one_value(CONST, value, size, absent()),
+            ExprValue::Apply(operation) => Slot {
+                tag: APPLY,
+                x: operation.code % 256 + operation.count % 256 * 256,
+                y: operation.number,
+                a: operation.first,
+                b: operation.second,
+            },
+            ExprValue::RamRef { pointer, size } => one_value(RAM_REF, size, 0, pointer),
+            ExprValue::RegisterRef { pointer, size } => one_value(REGISTER_REF, size, 0, pointer),
+            ExprValue::AddressOf { base, size } => one_value(ADDRESS_OF, size, 0, base),
+            ExprValue::BitRange { v, bits } => one_value(BIT_RANGE, bits.from, bits.count, v),
+        }
     }
 }
 
-#[tactic(auto, unfolding(crate::specs::Slots::of_slot, crate::specs::Slots::of_parts))]
-pub fn of_slot(slot: Slot) -> ExprValue
-    ensures { result ≡ of_slot slot }
-{
-    let tag = slot.tag;
-    let x = slot.x;
-    let y = slot.y;
-    let a = slot.a;
-    let b = slot.b;
-    match tag {
-        LOCAL => ExprValue::Local(a),
-        UNBOUND => ExprValue::Unbound(a),
-        CONST => ExprValue::Const { value: x, size: y },
-        APPLY => ExprValue::Apply {
-            op: x % 256,
-            number: y,
-            count: x / 256,
-            a,
-            b,
-        },
-        RAM_REF => ExprValue::RamRef {
-            pointer: a,
-            size: x,
-        },
-        REGISTER_REF => ExprValue::RegisterRef {
-            pointer: a,
-            size: x,
-        },
-        ADDRESS_OF => ExprValue::AddressOf { base: a, size: x },
-        _ => ExprValue::BitRange {
-            v: a,
-            from: x,
-            bits: y,
-        },
+impl From<Slot> for ExprValue {
+    ghost from_gives = { λ slot expr. expr ≡ of_slot slot };
+
+    #[tactic(auto, unfolding(crate::specs::Slots::of_slot, crate::specs::Slots::of_parts))]
+    fn from(slot: Slot) -> ExprValue {
+        let Slot { tag, x, y, a, b } = slot;
+        match tag {
+            LOCAL => ExprValue::Local(a),
+            UNBOUND => ExprValue::Unbound(a),
+            CONST => ExprValue::Const { value: x, size: y },
+            APPLY => ExprValue::Apply(Operation {
+                code: x % 256,
+                number: y,
+                count: x / 256,
+                first: a,
+                second: b,
+            }),
+            RAM_REF => ExprValue::RamRef {
+                pointer: a,
+                size: x,
+            },
+            REGISTER_REF => ExprValue::RegisterRef {
+                pointer: a,
+                size: x,
+            },
+            ADDRESS_OF => ExprValue::AddressOf { base: a, size: x },
+            _ => ExprValue::BitRange {
+                v: a,
+                bits: Bits { from: x, count: y },
+            },
+        }
     }
 }
 
@@ -206,12 +184,9 @@ pub fn param_place(index: usize) -> usize
 fn find_param(scope: &[u64], count: usize, name: u64) -> Option<usize>
     ensures { one_more result ≡ find_param count scope.now name }
 {
-    for i in (0..count).rev() {
-        if get(scope, param_place(i), SLOT_NAME) == name {
-            return Some(i);
-        }
-    }
-    None
+    (0..count)
+        .rev()
+        .find(|&i| get(scope, param_place(i), SLOT_NAME) == name)
 }
 
 // A field or a subtable.
@@ -260,8 +235,10 @@ fn bit_range(section: Section<'_>, index: u64) -> ExprValue
     let at = entry(section.table, table::BIT_RANGES, index % 65536 * 8);
     ExprValue::BitRange {
         v: local(value_kind::REGISTER, access::u16_in(section.stream, at, 2)),
-        from: access::u16_in(section.stream, at, 4),
-        bits: access::u16_in(section.stream, at, 6),
+        bits: Bits {
+            from: access::u16_in(section.stream, at, 4),
+            count: access::u16_in(section.stream, at, 6),
+        },
     }
 }
 
@@ -313,7 +290,7 @@ pub fn resolve_ident(
     ensures { to_meaning result ≡ resolve_ident section.entry.stream.now section.entry.table.now scope.now env name }
 {
     match find_param(scope, env.count, name) {
-        Some(i) => Ok(of_slot(slot_at(scope, param_place(i)))),
+        Some(i) => Ok(ExprValue::from(slot_at(scope, param_place(i)))),
         None => inner_meaning(section, scope, env, name),
     }
 }

@@ -21,6 +21,7 @@ pub fn small(scope: &[u64], index: usize) -> u64
 }
 
 // The word with another number at the place of an index.
+#[tactic(auto, using(crate::proofs::SmallLaws::small_laws))]
 fn with_small(word: u64, index: usize, number: u64) -> u64
     ensures { result ≡ with_small word (index % 6) number }
 {
@@ -29,6 +30,7 @@ fn with_small(word: u64, index: usize, number: u64) -> u64
     word - (old << place) + (number % 1024 << place)
 }
 
+#[tactic(auto, using(crate::proofs::SmallLaws::small_laws))]
 pub fn put_small(scope: &mut [u64], index: usize, number: u64)
     ensures { scope.new ≡ put_small scope.old index number }
 {

@@ -18,6 +18,7 @@ pub enum Symbol {
 }
 
 // The table has 0 for a name that is no global's, else 1 + kind + 8 × its place.
+#[tactic(auto, using(crate::proofs::SymbolLaws::symbol_laws))]
 pub fn lookup(table: &[u16; table::LENGTH], name: u64) -> Symbol
     ensures { (result ≡ lookup table.now name) × (place_of result < 8192) }
 {

@@ -24,11 +24,11 @@ unfoldable pub in_const_space : ExprValue → ℕ → ℕ → State → Expr
 in_const_space (ExprValue.Local v) size next st = Expr.Value next (ExprValue.Local (with_size (or_size size v.size) v)) st
 in_const_space (ExprValue.Const value old) size next st = Expr.Value next (ExprValue.Const value (or_size size old)) st
 in_const_space (ExprValue.Unbound v) size next st = Expr.No 38
-in_const_space (ExprValue.Apply op number count x y) size next st = Expr.No 38
+in_const_space (ExprValue.Apply operation) size next st = Expr.No 38
 in_const_space (ExprValue.RamRef v z) size next st = Expr.No 38
 in_const_space (ExprValue.RegisterRef v z) size next st = Expr.No 38
 in_const_space (ExprValue.AddressOf v z) size next st = Expr.No 38
-in_const_space (ExprValue.BitRange v from bits) size next st = Expr.No 38
+in_const_space (ExprValue.BitRange v bits) size next st = Expr.No 38
 
 -- the kind of entry i of the list of spaces
 unfoldable pub kind_of_space : List ℕ → List ℕ → ℕ → Space

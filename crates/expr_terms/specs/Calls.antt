@@ -65,7 +65,7 @@ unfoldable pub pass_args : List ℕ → List ℕ → List ℕ → List ℕ → L
 pass_args s t a m args n e st = pass_from (n - 2) 2 s t a m args e st
 
 abbrev pub applied : ℕ → ℕ → ℕ → Value → Value → ℕ → State → Expr
-applied op number count a b next st = Expr.Value next (ExprValue.Apply op number count a b) st
+applied op number count a b next st = Expr.Value next (ExprValue.Apply (record { code = op; number = number; count = count; first = a; second = b })) st
 
 unfoldable pub user_op_two : List ℕ → List ℕ → List ℕ → List ℕ → List ℕ → ℕ → ℕ → Value → Env → State → ExprOut
 user_op_two s t a m args id next v e st =

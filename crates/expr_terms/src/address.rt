@@ -4,16 +4,16 @@ ghost use Rattle.expr_terms.specs.Outcomes.{to_expr, to_space};
 ghost use Rattle.expr_terms.specs.Answers.{resolved};
 ghost use Rattle.expr_terms.specs.Addresses.{or_size, in_const_space, kind_of_space, named_space, resolve_space, reference_to, address_in, resolve_address};
 
-use crate::answers::Resolved;
+use crate::answers::{Operand, Resolved};
 use codes::refusal::Refusal;
 use codes::{NONE, header, table};
 use expr_reading::read::read_operand;
 use expr_scope::scope::ExprValue;
 use expr_scope::symbols::{Symbol, lookup};
-use list_pushes::push::{Env, State};
+use list_pushes::push::Env;
 use list_values::section::Section;
 use list_values::sizes::entry;
-use list_values::value::{Value, with_size};
+use list_values::value::with_size;
 
 // Two of the three kinds of a space.
 const RAM: u64 = 0;
@@ -28,28 +28,23 @@ fn or_size(size: u64, other: u64) -> u64
 }
 
 #[tactic(auto, unfolding(crate::specs::Addresses::in_const_space))]
-fn in_const_space(
-    expr: ExprValue,
-    size: u64,
-    next: usize,
-    state: State,
-) -> Result<Resolved, Refusal>
-    ensures { to_expr result ≡ in_const_space expr size next state }
+fn in_const_space(part: Resolved, size: u64) -> Result<Resolved, Refusal>
+    ensures { to_expr result ≡ in_const_space part.value size part.next part.state }
 {
-    let value = match expr {
+    let value = match part.value {
         ExprValue::Local(v) => ExprValue::Local(with_size(v, or_size(size, v.size))),
         ExprValue::Const { value, size: own } => ExprValue::Const {
             value,
             size: or_size(size, own),
         },
         ExprValue::Unbound(_)
-        | ExprValue::Apply { .. }
+        | ExprValue::Apply(_)
         | ExprValue::RamRef { .. }
         | ExprValue::RegisterRef { .. }
         | ExprValue::AddressOf { .. }
         | ExprValue::BitRange { .. } => return Err(Refusal::ConstSpace),
     };
-    Ok(Resolved { next, value, state })
+    Ok(Resolved { value, ..part })
 }
 
 #[tactic(auto, unfolding(crate::specs::Addresses::kind_of_space))]
@@ -92,15 +87,14 @@ fn resolve_space(section: Section<'_>, name: u64) -> Result<u64, Refusal>
 }
 
 #[tactic(auto, unfolding(crate::specs::Addresses::reference_to))]
-fn reference_to(
-    kind: u64,
-    size: u64,
-    next: usize,
-    pointer: Value,
-    state: State,
-) -> Result<Resolved, Refusal>
-    ensures { to_expr result ≡ reference_to kind size next pointer state }
+fn reference_to(kind: u64, size: u64, pointer: Operand) -> Result<Resolved, Refusal>
+    ensures { to_expr result ≡ reference_to kind size pointer.next pointer.value pointer.state }
 {
+    let Operand {
+        value: pointer,
+        next,
+        state,
+    } = pointer;
     let size = or_size(size, 0);
     let value = match kind {
         RAM => ExprValue::RamRef { pointer, size },
@@ -118,15 +112,14 @@ fn address_in(
     env: Env,
     space: u64,
     size: u64,
-    expr: ExprValue,
-    next: usize,
-    state: State,
+    part: Resolved,
 ) -> Result<Resolved, Refusal>
-    ensures { resolved (to_expr result) actions.new temporaries.new ≡ address_in section.entry.stream.now section.entry.table.now actions.old temporaries.old env space size expr next state }
+    ensures { resolved (to_expr result) actions.new temporaries.new ≡ address_in section.entry.stream.now section.entry.table.now actions.old temporaries.old env space size part.value part.next part.state }
 {
     let kind = resolve_space(section, space)?;
-    let (pointer, state) = read_operand(section, actions, temporaries, env, expr, state)?;
-    reference_to(kind, size, next, pointer, state)
+    let (value, state) = read_operand(section, actions, temporaries, env, part.value, part.state)?;
+    let next = part.next;
+    reference_to(kind, size, Operand { value, next, state })
 }
 
 // In the const space a local or a constant is itself.
@@ -138,24 +131,12 @@ pub fn resolve_address(
     env: Env,
     space: u64,
     size: u64,
-    expr: ExprValue,
-    next: usize,
-    state: State,
+    part: Resolved,
 ) -> Result<Resolved, Refusal>
-    ensures { resolved (to_expr result) actions.new temporaries.new ≡ resolve_address section.entry.stream.now section.entry.table.now actions.old temporaries.old env space size expr next state }
+    ensures { resolved (to_expr result) actions.new temporaries.new ≡ resolve_address section.entry.stream.now section.entry.table.now actions.old temporaries.old env space size part.value part.next part.state }
 {
     if space == access::u16_at(section.stream, header::CONST) {
-        return in_const_space(expr, size, next, state);
+        return in_const_space(part, size);
     }
-    address_in(
-        section,
-        actions,
-        temporaries,
-        env,
-        space,
-        size,
-        expr,
-        next,
-        state,
-    )
+    address_in(section, actions, temporaries, env, space, size, part)
 }

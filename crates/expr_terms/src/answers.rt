@@ -28,10 +28,8 @@ pub struct Operand {
 pub fn after(pos: usize, count: usize) -> usize
     ensures { result ≡ after pos count }
 {
-    if pos < 65536 {
-        if count < 65536 {
-            return pos + count;
-        }
+    if pos < 65536 && count < 65536 {
+        return pos + count;
     }
     pos
 }

@@ -5,7 +5,7 @@ ghost use Rattle.list_pushes.specs.Pushes.{pushed};
 ghost use Rattle.expr_inbuilts.specs.Outcomes.{to_inbuilt};
 ghost use Rattle.expr_terms.specs.Outcomes.{to_expr, to_callee};
 ghost use Rattle.expr_terms.specs.Answers.{resolved};
-ghost use Rattle.expr_terms.specs.Calls.{symbol_called, inbuilt_or, callee_of, pass_arg, pass_args, applied, user_op_two, user_op_some, call_user_op, only_integer, subpiece};
+ghost use Rattle.expr_terms.specs.Calls.{symbol_called, inbuilt_or, callee_of, pass_arg, pass_args, applied, call_user_op, only_integer, subpiece};
 ghost use Rattle.expr_scope.specs.Symbols.{lookup};
 
 use crate::answers::{Resolved, after};
@@ -58,13 +58,15 @@ fn inbuilt_or(
 ) -> Result<Callee, Refusal>
     ensures { to_callee result ≡ inbuilt_or (to_inbuilt inbuilt) (lookup table.now name) count }
 {
-    let Some(found) = inbuilt else {
-        return symbol_called(lookup(table, name));
+    let (op, arguments) = match inbuilt {
+        Some(Inbuilt::Unary(op)) => (op, 1),
+        Some(Inbuilt::Binary(op)) => (op, 2),
+        None => return symbol_called(lookup(table, name)),
     };
-    if found.arguments != count {
+    if arguments != count {
         return Err(Refusal::ArgumentCount);
     }
-    Ok(Callee::Inbuilt(found.op))
+    Ok(Callee::Inbuilt(op))
 }
 
 #[tactic(auto, unfolding(crate::specs::Calls::callee_of))]
@@ -130,78 +132,13 @@ pub fn applied(operation: Operation, next: usize, state: State) -> Resolved
 {
     Resolved {
         next,
-        value: ExprValue::Apply {
-            op: operation.code,
-            number: operation.number,
-            count: operation.count,
-            a: operation.first,
-            b: operation.second,
-        },
+        value: ExprValue::Apply(operation),
         state,
     }
 }
 
-#[tactic(auto, unfolding(crate::specs::Calls::user_op_two, list_pushes::specs::Pushes::on_read))]
-fn user_op_two(
-    section: Section<'_>,
-    actions: &mut [u64],
-    temporaries: &mut [u64],
-    args: &[u64],
-    id: u64,
-    next: usize,
-    first: Value,
-    env: Env,
-    state: State,
-) -> Result<Resolved, Refusal>
-    ensures { resolved (to_expr result) actions.new temporaries.new ≡ user_op_two section.entry.stream.now section.entry.table.now actions.old temporaries.old args.now id next first env state }
-{
-    let argument = arg_at(args, 1);
-    let (second, state) = read_operand(section, actions, temporaries, env, argument, state)?;
-    let operation = Operation {
-        number: id,
-        ..Operation::binary(operation::PCODE_OP, first, second)
-    };
-    Ok(applied(operation, next, state))
-}
-
-#[tactic(auto, unfolding(crate::specs::Calls::user_op_some, list_pushes::specs::Pushes::on_read))]
-fn user_op_some(
-    section: Section<'_>,
-    actions: &mut [u64],
-    temporaries: &mut [u64],
-    args: &[u64],
-    count: u64,
-    id: u64,
-    next: usize,
-    env: Env,
-    state: State,
-) -> Result<Resolved, Refusal>
-    ensures { resolved (to_expr result) actions.new temporaries.new ≡ user_op_some section.entry.stream.now section.entry.table.now actions.old temporaries.old args.now count id next env state }
-{
-    let argument = arg_at(args, 0);
-    let (first, state) = read_operand(section, actions, temporaries, env, argument, state)?;
-    if 1 < count {
-        return user_op_two(
-            section,
-            actions,
-            temporaries,
-            args,
-            id,
-            next,
-            first,
-            env,
-            state,
-        );
-    }
-    let operation = Operation {
-        number: id,
-        ..Operation::unary(operation::PCODE_OP, first)
-    };
-    Ok(applied(operation, next, state))
-}
-
-// A user op of n arguments that are resolved.
-#[tactic(auto, unfolding(crate::specs::Calls::call_user_op, list_pushes::specs::Pushes::on_pushed))]
+// A user op of n arguments that are resolved: it has the first two as its inputs.
+#[tactic(auto, unfolding(crate::specs::Calls::call_user_op, crate::specs::Calls::user_op_some, crate::specs::Calls::user_op_two, list_pushes::specs::Pushes::on_pushed, list_pushes::specs::Pushes::on_read))]
 pub fn call_user_op(
     section: Section<'_>,
     actions: &mut [u64],
@@ -216,24 +153,31 @@ pub fn call_user_op(
     ensures { resolved (to_expr result) actions.new temporaries.new ≡ call_user_op section.entry.stream.now section.entry.table.now actions.old temporaries.old args.now count id next env state }
 {
     let state = pass_args(section, actions, temporaries, args, count, env, state)?;
+    let call = Operation {
+        number: id,
+        ..Operation::nullary(operation::PCODE_OP)
+    };
     if count == 0 {
-        let operation = Operation {
-            number: id,
-            ..Operation::nullary(operation::PCODE_OP)
-        };
-        return Ok(applied(operation, next, state));
+        return Ok(applied(call, next, state));
     }
-    user_op_some(
-        section,
-        actions,
-        temporaries,
-        args,
-        count,
-        id,
-        next,
-        env,
-        state,
-    )
+    let argument = arg_at(args, 0);
+    let (first, state) = read_operand(section, actions, temporaries, env, argument, state)?;
+    let call = Operation {
+        count: 1,
+        first,
+        ..call
+    };
+    if count == 1 {
+        return Ok(applied(call, next, state));
+    }
+    let argument = arg_at(args, 1);
+    let (second, state) = read_operand(section, actions, temporaries, env, argument, state)?;
+    let call = Operation {
+        count: 2,
+        second,
+        ..call
+    };
+    Ok(applied(call, next, state))
 }
 
 // The one argument, where it is an integer.
@@ -241,10 +185,7 @@ pub fn call_user_op(
 pub fn only_integer(stream: &[u8], pos: usize, count: u64) -> Option<u64>
     ensures { unwrap_or result 18446744073709551615 ≡ only_integer stream.now pos count }
 {
-    if count != 1 {
-        return None;
-    }
-    if access::byte(stream, pos, 4) != expression::INTEGER {
+    if count != 1 || access::byte(stream, pos, 4) != expression::INTEGER {
         return None;
     }
     Some(access::u64_at(stream, after(pos, 5)))

@@ -8,18 +8,18 @@ use crate::answers::Resolved;
 use codes::NONE;
 use codes::refusal::Refusal;
 use expr_reading::read::{needed_bytes, read_operand, read_slice};
-use expr_scope::scope::ExprValue;
-use list_pushes::push::{Env, State};
+use expr_scope::scope::{Bits, ExprValue};
+use list_pushes::push::Env;
 use list_values::section::Section;
 use list_values::value::Value;
 
 // So many bits of a number, from a bit on.
 #[tactic(auto, using(crate::proofs::SliceLaws::low_bits_law))]
-fn low_bits(number: u64, from: u64, bits: u64) -> u64
-    requires { from < 64 }
-    ensures { result ≡ low_bits number from bits }
+fn low_bits(number: u64, bits: Bits) -> u64
+    requires { bits.from < 64 }
+    ensures { result ≡ low_bits number bits.from bits.count }
 {
-    number >> from & access::mask(bits)
+    number >> bits.from & access::mask(bits.count)
 }
 
 #[tactic(auto, unfolding(crate::specs::Slices::slice_read, crate::specs::Slices::unbound_then, crate::specs::Answers::expr_of, list_pushes::specs::Pushes::on_read))]
@@ -28,30 +28,17 @@ fn slice_read(
     actions: &mut [u64],
     temporaries: &mut [u64],
     env: Env,
-    expr: ExprValue,
-    from: u64,
-    bits: u64,
-    next: usize,
-    state: State,
+    part: Resolved,
+    bits: Bits,
 ) -> Result<Resolved, Refusal>
-    ensures { resolved (to_expr result) actions.new temporaries.new ≡ slice_read section.entry.stream.now section.entry.table.now actions.old temporaries.old env expr from bits next state }
+    ensures { resolved (to_expr result) actions.new temporaries.new ≡ slice_read section.entry.stream.now section.entry.table.now actions.old temporaries.old env part.value bits.from bits.count part.next part.state }
 {
-    let (whole, state) = read_operand(section, actions, temporaries, env, expr, state)?;
-    let (part, state) = read_slice(
-        section,
-        actions,
-        temporaries,
-        env,
-        whole,
-        from,
-        bits,
-        None,
-        state,
-    )?;
+    let (whole, state) = read_operand(section, actions, temporaries, env, part.value, part.state)?;
+    let (slice, state) = read_slice(section, actions, temporaries, env, whole, bits, None, state)?;
     Ok(Resolved {
-        next,
-        value: ExprValue::Unbound(part),
+        value: ExprValue::Unbound(slice),
         state,
+        ..part
     })
 }
 
@@ -64,100 +51,65 @@ fn const_bytes(size: u64) -> u64
 }
 
 #[tactic(auto, unfolding(crate::specs::Slices::slice_const, crate::specs::Slices::const_bytes))]
-fn slice_const(
-    number: u64,
-    size: u64,
-    from: u64,
-    bits: u64,
-    next: usize,
-    state: State,
-) -> Result<Resolved, Refusal>
-    ensures { to_expr result ≡ slice_const number size from bits next state }
+fn slice_const(number: u64, size: u64, bits: Bits, part: Resolved) -> Result<Resolved, Refusal>
+    ensures { to_expr result ≡ slice_const number size bits.from bits.count part.next part.state }
 {
-    if 8 * const_bytes(size) < from % 65536 + bits % 65536 {
+    if 8 * const_bytes(size) < bits.from % 65536 + bits.count % 65536 {
         return Err(Refusal::SlicePastEnd);
     }
-    if 64 <= from {
+    if 64 <= bits.from {
         return Err(Refusal::ShiftTooFar);
     }
+    let value = low_bits(number, bits);
+    let size = needed_bytes(bits.count);
     Ok(Resolved {
-        next,
-        value: ExprValue::Const {
-            value: low_bits(number, from, bits),
-            size: needed_bytes(bits),
-        },
-        state,
+        value: ExprValue::Const { value, size },
+        ..part
     })
 }
 
 #[tactic(auto, unfolding(crate::specs::Slices::slice_range))]
-fn slice_range(
-    value: Value,
-    before: u64,
-    whole: u64,
-    from: u64,
-    bits: u64,
-    next: usize,
-    state: State,
-) -> Result<Resolved, Refusal>
-    ensures { to_expr result ≡ slice_range value before whole from bits next state }
+fn slice_range(value: Value, whole: Bits, bits: Bits, part: Resolved) -> Result<Resolved, Refusal>
+    ensures { to_expr result ≡ slice_range value whole.from whole.count bits.from bits.count part.next part.state }
 {
-    if whole < from % 65536 + bits % 65536 {
+    if whole.count < bits.from % 65536 + bits.count % 65536 {
         return Err(Refusal::SlicePastEnd);
     }
+    let from = whole.from % 65536 + bits.from % 65536;
     Ok(Resolved {
-        next,
         value: ExprValue::BitRange {
             v: value,
-            from: before % 65536 + from % 65536,
-            bits,
+            bits: Bits { from, ..bits },
         },
-        state,
+        ..part
     })
 }
 
+// Bits of a part that is resolved.
 #[tactic(auto, unfolding(crate::specs::Slices::slice_bits))]
 pub fn slice_bits(
     section: Section<'_>,
     actions: &mut [u64],
     temporaries: &mut [u64],
     env: Env,
-    expr: ExprValue,
-    from: u64,
-    bits: u64,
-    next: usize,
-    state: State,
+    part: Resolved,
+    bits: Bits,
 ) -> Result<Resolved, Refusal>
-    ensures { resolved (to_expr result) actions.new temporaries.new ≡ slice_bits section.entry.stream.now section.entry.table.now actions.old temporaries.old env expr from bits next state }
+    ensures { resolved (to_expr result) actions.new temporaries.new ≡ slice_bits section.entry.stream.now section.entry.table.now actions.old temporaries.old env part.value bits.from bits.count part.next part.state }
 {
-    match expr {
+    match part.value {
         ExprValue::Local(v) => Ok(Resolved {
-            next,
-            value: ExprValue::BitRange { v, from, bits },
-            state,
+            value: ExprValue::BitRange { v, bits },
+            ..part
         }),
-        ExprValue::Const { value, size } => slice_const(value, size, from, bits, next, state),
-        ExprValue::BitRange {
-            v,
-            from: before,
-            bits: whole,
-        } => slice_range(v, before, whole, from, bits, next, state),
+        ExprValue::Const { value, size } => slice_const(value, size, bits, part),
+        ExprValue::BitRange { v, bits: whole } => slice_range(v, whole, bits, part),
         ExprValue::Unbound(_)
-        | ExprValue::Apply { .. }
+        | ExprValue::Apply(_)
         | ExprValue::RamRef { .. }
         | ExprValue::RegisterRef { .. }
         | ExprValue::AddressOf { .. } => {
-            slice_read(
-                section,
-                actions,
-                temporaries,
-                env,
-                expr,
-                from,
-                bits,
-                next,
-                state,
-            )
+            slice_read(section, actions, temporaries, env, part, bits)
         }
     }
 }

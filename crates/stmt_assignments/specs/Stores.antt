@@ -37,9 +37,9 @@ store_at s t a m e (ExprValue.RegisterRef pointer size) v next st w = store_regi
 store_at s t a m e (ExprValue.Local x) v next st w = stepped (stop 28 w) a m
 store_at s t a m e (ExprValue.Unbound x) v next st w = stepped (stop 28 w) a m
 store_at s t a m e (ExprValue.Const n z) v next st w = stepped (stop 28 w) a m
-store_at s t a m e (ExprValue.Apply op number count x y) v next st w = stepped (stop 28 w) a m
+store_at s t a m e (ExprValue.Apply operation) v next st w = stepped (stop 28 w) a m
 store_at s t a m e (ExprValue.AddressOf x z) v next st w = stepped (stop 28 w) a m
-store_at s t a m e (ExprValue.BitRange x from bits) v next st w = stepped (stop 28 w) a m
+store_at s t a m e (ExprValue.BitRange x bits) v next st w = stepped (stop 28 w) a m
 
 -- in the space and of the size that stand at a position
 unfoldable pub store_in : List ℕ → List ℕ → List ℕ → List ℕ → Env → ℕ → ExprValue → Value → ℕ → State → Walk → Stepped

@@ -362,7 +362,7 @@ fn copy_into(
         }
         ExprValue::Unbound(_)
         | ExprValue::Const { .. }
-        | ExprValue::Apply { .. }
+        | ExprValue::Apply(_)
         | ExprValue::RegisterRef { .. }
         | ExprValue::AddressOf { .. } => Err(Refusal::NotAssignable),
     }

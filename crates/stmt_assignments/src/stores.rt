@@ -116,7 +116,7 @@ fn store_at(
         ExprValue::Local(_)
         | ExprValue::Unbound(_)
         | ExprValue::Const { .. }
-        | ExprValue::Apply { .. }
+        | ExprValue::Apply(_)
         | ExprValue::AddressOf { .. }
         | ExprValue::BitRange { .. } => Err(Refusal::StoreToNoAddress),
     }

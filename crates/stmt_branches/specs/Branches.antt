@@ -62,11 +62,11 @@ unfoldable pub direct : List ℕ → List ℕ → List ℕ → List ℕ → Env 
 direct s t a m e (ExprValue.Local v) cond hint st w = branch_to s t a m e cond (direct_address e.pointer v) hint st w
 direct s t a m e (ExprValue.Unbound v) cond hint st w = stepped (stop 29 w) a m
 direct s t a m e (ExprValue.Const n z) cond hint st w = stepped (stop 29 w) a m
-direct s t a m e (ExprValue.Apply op number count x y) cond hint st w = stepped (stop 29 w) a m
+direct s t a m e (ExprValue.Apply operation) cond hint st w = stepped (stop 29 w) a m
 direct s t a m e (ExprValue.RamRef v z) cond hint st w = stepped (stop 29 w) a m
 direct s t a m e (ExprValue.RegisterRef v z) cond hint st w = stepped (stop 29 w) a m
 direct s t a m e (ExprValue.AddressOf v z) cond hint st w = stepped (stop 29 w) a m
-direct s t a m e (ExprValue.BitRange v from bits) cond hint st w = stepped (stop 29 w) a m
+direct s t a m e (ExprValue.BitRange v bits) cond hint st w = stepped (stop 29 w) a m
 
 unfoldable pub indirect : List ℕ → List ℕ → List ℕ → List ℕ → Env → ExprValue → Value → ℕ → State → Walk → Stepped
 indirect s t a m e x cond hint st w =

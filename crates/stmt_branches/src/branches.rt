@@ -236,7 +236,7 @@ fn direct(
         }
         ExprValue::Unbound(_)
         | ExprValue::Const { .. }
-        | ExprValue::Apply { .. }
+        | ExprValue::Apply(_)
         | ExprValue::RamRef { .. }
         | ExprValue::RegisterRef { .. }
         | ExprValue::AddressOf { .. }

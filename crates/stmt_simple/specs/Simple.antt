@@ -49,9 +49,9 @@ export_of s t a m e (ExprValue.RegisterRef pointer size) next st w = stepped (ex
 export_of s t a m e (ExprValue.Local v) next st w = export_read s t a m e (ExprValue.Local v) next st w
 export_of s t a m e (ExprValue.Unbound v) next st w = export_read s t a m e (ExprValue.Unbound v) next st w
 export_of s t a m e (ExprValue.Const n z) next st w = export_read s t a m e (ExprValue.Const n z) next st w
-export_of s t a m e (ExprValue.Apply op number count x y) next st w = export_read s t a m e (ExprValue.Apply op number count x y) next st w
+export_of s t a m e (ExprValue.Apply operation) next st w = export_read s t a m e (ExprValue.Apply operation) next st w
 export_of s t a m e (ExprValue.AddressOf v z) next st w = export_read s t a m e (ExprValue.AddressOf v z) next st w
-export_of s t a m e (ExprValue.BitRange v from bits) next st w = export_read s t a m e (ExprValue.BitRange v from bits) next st w
+export_of s t a m e (ExprValue.BitRange v bits) next st w = export_read s t a m e (ExprValue.BitRange v bits) next st w
 
 unfoldable pub export_statement : List ℕ → List ℕ → List ℕ → List ℕ → List ℕ → Env → ℕ → Walk → Stepped
 export_statement s t p a m e pos w =

@@ -63,7 +63,7 @@ fn export_of(
         ExprValue::Local(_)
         | ExprValue::Unbound(_)
         | ExprValue::Const { .. }
-        | ExprValue::Apply { .. }
+        | ExprValue::Apply(_)
         | ExprValue::AddressOf { .. }
         | ExprValue::BitRange { .. } => {
             let (value, st) = read_operand(section, actions, temporaries, env, expr, state)?;
