@@ -11,17 +11,10 @@ use codes::refusal::Refusal;
 use codes::{NONE, action, action_kind, operation};
 use list_values::section::Section;
 use list_values::sizes::{Sizing, falls_back, record_errors, size_of};
-<<<<<<< HEAD
 use list_values::value::{
-    INPUT_0, NO_OUTPUT, OUTPUT, SIZE_PLACE, Value, get, place, put, put_value, slice_bytes,
-    value_at, with_size, zero_words,
+    INPUT_0, OUTPUT, Value, get, place, put, put_value, slice_bytes, value_at, with_size,
+    zero_words,
 };
-
-// The second word of an output.
-const OUTPUT_WORD: usize = action::OUTPUT + 1;
-=======
-use list_values::value::{Value, get, place, put, put_value, slice_bytes, value_at, with_size};
->>>>>>> 23477730b0fbbd1c29200dd8b9e11b40eaba735b
 
 // How many subtables can be marked as built.
 const MARKS: usize = 32;

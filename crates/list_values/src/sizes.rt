@@ -4,17 +4,9 @@ ghost use Rattle.std.specs.Prelude.{◌≡◌};
 ghost use Rattle.list_values.specs.Sizes.{Settles, Counted, entry, list_size, export_size_of, tmp_size, listed_size, size_of, size_at, sum_of_errors, recorded, size_temporary, settled, set_operand, set_two, set_three, falls_back, pair_fallback, set_size_of_pair, triple_falls_back, triple_fallback, share_size, all_equal, set_size_of_triple, set_unsized};
 
 use crate::section::Section;
-<<<<<<< HEAD
-use crate::value::{INPUT_0, INPUT_1, OUTPUT, SIZE_PLACE, Value, get, put_size, value_at};
-use codes::{NONE, table, value_kind};
-=======
-use crate::value::{Value, get, put_size, value_at};
+use crate::value::{INPUT_0, INPUT_1, OUTPUT, Value, get, put_size, value_at};
 use codes::action::SIZE_PLACE;
-use codes::{NONE, action, table, value_kind};
-
-// The greatest number of a word.
-const MOST: u64 = 18446744073709551615;
->>>>>>> 23477730b0fbbd1c29200dd8b9e11b40eaba735b
+use codes::{NONE, table, value_kind};
 
 // The ordinal of the statement begun last, the errors recorded and the first one's ordinal.
 #[derive(Clone, Copy)]
