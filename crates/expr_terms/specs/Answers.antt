@@ -1,6 +1,6 @@
 -- An answer with the two lists that a function was lent, and how a step goes on from it. In all of these a is the actions, m
 -- the temporaries, st the state.
-use Rattle.std.specs.Prelude.{ℕ, ◌+◌, List, ltb}
+use Rattle.std.specs.Prelude.{ℕ, ◌+◌, List, eqb, ltb, Option, Some, None}
 use Rattle.list_values.specs.declared.value.Value.{Value}
 use Rattle.list_pushes.specs.declared.push.State.{State}
 use Rattle.list_pushes.specs.Outcomes.{Read}
@@ -45,6 +45,10 @@ operand_of (read r a m) f = operand (f r) a m
 -- and of an operand
 unfoldable pub applied_to : OperandOut → (Operand → Expr) → ExprOut
 applied_to (operand r a m) f = resolved (f r) a m
+
+-- a number of two bytes, which may be missing
+unfoldable pub given : ℕ → Option ℕ
+given n = when eqb n 65535 then None else Some n
 
 -- a position so many bytes on
 unfoldable pub after : ℕ → ℕ → ℕ

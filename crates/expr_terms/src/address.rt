@@ -4,9 +4,9 @@ ghost use Rattle.expr_terms.specs.Outcomes.{to_expr, to_space};
 ghost use Rattle.expr_terms.specs.Answers.{resolved};
 ghost use Rattle.expr_terms.specs.Addresses.{or_size, in_const_space, kind_of_space, named_space, resolve_space, reference_to, address_in, resolve_address};
 
-use crate::answers::{Operand, Resolved};
+use crate::answers::{Operand, Resolved, given};
 use codes::refusal::Refusal;
-use codes::{NONE, header, table};
+use codes::{header, table};
 use expr_reading::read::read_operand;
 use expr_scope::scope::ExprValue;
 use expr_scope::symbols::{Symbol, lookup};
@@ -15,16 +15,17 @@ use list_values::section::Section;
 use list_values::sizes::entry;
 use list_values::value::with_size;
 
-// Two of the three kinds of a space.
+// Two of the three kinds of a space, which stay the bytes that the file has: what an address is by its kind is told in one
+// place.
 const RAM: u64 = 0;
 
 const REGISTERS: u64 = 1;
 
-#[tactic(auto, unfolding(crate::specs::Addresses::or_size))]
+#[tactic(auto, unfolding(crate::specs::Addresses::or_size, crate::specs::Answers::given))]
 fn or_size(size: u64, other: u64) -> u64
     ensures { result ≡ or_size size other }
 {
-    if size == NONE { other } else { size }
+    given(size).unwrap_or(other)
 }
 
 #[tactic(auto, unfolding(crate::specs::Addresses::in_const_space))]
@@ -72,18 +73,15 @@ fn named_space(section: Section<'_>, name: u64) -> Result<u64, Refusal>
 }
 
 // The kind of the named space, else of the default one.
-#[tactic(auto, unfolding(crate::specs::Addresses::resolve_space, crate::specs::Addresses::default_space))]
+#[tactic(auto, unfolding(crate::specs::Addresses::resolve_space, crate::specs::Addresses::default_space, crate::specs::Answers::given))]
 fn resolve_space(section: Section<'_>, name: u64) -> Result<u64, Refusal>
     ensures { to_space result ≡ resolve_space section.entry.stream.now section.entry.table.now name }
 {
-    if name != NONE {
+    if let Some(name) = given(name) {
         return named_space(section, name);
     }
-    let i = access::u16_at(section.stream, header::DEFAULT_SPACE);
-    if i == NONE {
-        return Err(Refusal::NoDefaultSpace);
-    }
-    kind_of_space(section, i)
+    let default = given(access::u16_at(section.stream, header::DEFAULT_SPACE));
+    kind_of_space(section, default.ok_or(Refusal::NoDefaultSpace)?)
 }
 
 #[tactic(auto, unfolding(crate::specs::Addresses::reference_to))]

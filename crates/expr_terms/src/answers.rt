@@ -1,7 +1,8 @@
 // What resolving an expression, or an operand, gives, and a position further on.
 ghost use Rattle.std.specs.Prelude.{◌≡◌};
-ghost use Rattle.expr_terms.specs.Answers.{after};
+ghost use Rattle.expr_terms.specs.Answers.{given, after};
 
+use codes::NONE;
 use expr_scope::scope::ExprValue;
 use list_pushes::push::State;
 use list_values::value::Value;
@@ -21,6 +22,14 @@ pub struct Operand {
     pub value: Value,
     pub next: usize,
     pub state: State,
+}
+
+// A number of two bytes that may be missing, as the file has it.
+#[tactic(auto, unfolding(crate::specs::Answers::given))]
+pub fn given(number: u64) -> Option<u64>
+    ensures { result ≡ given number }
+{
+    if number == NONE { None } else { Some(number) }
 }
 
 // A position so many bytes on; a stream has fewer than 65,536.

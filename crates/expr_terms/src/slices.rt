@@ -4,8 +4,7 @@ ghost use Rattle.expr_terms.specs.Outcomes.{to_expr};
 ghost use Rattle.expr_terms.specs.Answers.{resolved};
 ghost use Rattle.expr_terms.specs.Slices.{low_bits, slice_read, const_bytes, slice_const, slice_range, slice_bits};
 
-use crate::answers::Resolved;
-use codes::NONE;
+use crate::answers::{Resolved, given};
 use codes::refusal::Refusal;
 use expr_reading::read::{needed_bytes, read_operand, read_slice};
 use expr_scope::scope::{Bits, ExprValue};
@@ -43,11 +42,11 @@ fn slice_read(
 }
 
 // A constant with no size has eight bytes.
-#[tactic(auto, unfolding(crate::specs::Slices::const_bytes))]
+#[tactic(auto, unfolding(crate::specs::Slices::const_bytes, crate::specs::Answers::given))]
 fn const_bytes(size: u64) -> u64
     ensures { result ≡ const_bytes size }
 {
-    if size == NONE { 8 } else { size % 65536 }
+    given(size).map_or(8, |bytes| bytes % 65536)
 }
 
 #[tactic(auto, unfolding(crate::specs::Slices::slice_const, crate::specs::Slices::const_bytes))]

@@ -12,8 +12,8 @@ use codes::{operation, statement, value_kind};
 use expr_reading::read::{constant, read_operand};
 use expr_resolver::expr::{DEPTH, expr_value};
 use expr_scope::scope::{ExprValue, resolve_ident};
-use expr_terms::answers::after;
-use list_pushes::push::{Env, Operation, State, push_op};
+use expr_terms::answers::{Operand, after};
+use list_pushes::push::{Env, Operation, push_op};
 use list_values::section::Section;
 use list_values::value::{Value, no_output};
 use stmt_walk::walk::{Stopped, Walk, stop};
@@ -68,27 +68,18 @@ fn branch_to(
     actions: &mut [u64],
     temporaries: &mut [u64],
     env: Env,
-    cond: Value,
+    cond: Operand,
     address: Value,
-    hint: usize,
-    state: State,
     walk: Walk,
 ) -> Result<(usize, Walk), Refusal>
-    ensures { stepped (to_step walk result) actions.new temporaries.new ≡ branch_to section.entry.stream.now section.entry.table.now actions.old temporaries.old env cond address hint state (to_walk walk) }
+    ensures { stepped (to_step walk result) actions.new temporaries.new ≡ branch_to section.entry.stream.now section.entry.table.now actions.old temporaries.old env cond.value address cond.next cond.state (to_walk walk) }
 {
+    let hint = cond.next;
     let branch = Operation {
         number: access::byte(section.stream, hint, 0),
-        ..Operation::binary(operation::BRANCH, cond, address)
+        ..Operation::binary(operation::BRANCH, cond.value, address)
     };
-    let st = push_op(
-        section,
-        actions,
-        temporaries,
-        env,
-        branch,
-        no_output(),
-        state,
-    )?;
+    let st = push_op(section, actions, temporaries, env, branch, no_output(), cond.state)?;
     Ok((after(hint, 1), Walk { st, ..walk }))
 }
 
@@ -99,35 +90,22 @@ fn branch_label(
     temporaries: &mut [u64],
     env: Env,
     id: u64,
-    cond: Value,
-    next: usize,
-    state: State,
+    cond: Operand,
     walk: Walk,
 ) -> Result<(usize, Walk), Stopped>
-    ensures { stepped (to_steps result) actions.new temporaries.new ≡ branch_label section.entry.stream.now section.entry.table.now actions.old temporaries.old env id cond next state (to_walk walk) }
+    ensures { stepped (to_steps result) actions.new temporaries.new ≡ branch_label section.entry.stream.now section.entry.table.now actions.old temporaries.old env id cond.value cond.next cond.state (to_walk walk) }
 {
-    let here = labelled(walk, state, id, 0);
+    let here = labelled(walk, cond.state, id, 0);
     let branch = Operation {
-        code: operation::PCODE_BRANCH,
         number: id,
-        count: 2,
-        first: cond,
-        second: constant(0),
+        ..Operation::binary(operation::PCODE_BRANCH, cond.value, constant(0))
     };
-    match push_op(
-        section,
-        actions,
-        temporaries,
-        env,
-        branch,
-        no_output(),
-        state,
-    ) {
-        Ok(st) => Ok((next, Walk { st, ..here })),
-        Err(refusal) => Err(stop(here, refusal)),
-    }
+    let st = push_op(section, actions, temporaries, env, branch, no_output(), cond.state)
+        .map_err(|refusal| stop(here, refusal))?;
+    Ok((cond.next, Walk { st, ..here }))
 }
 
+// The label's name stands where the condition ends.
 #[tactic(auto, unfolding(crate::specs::Branches::label_branch, crate::specs::Labels::on_label, stmt_walk::specs::Walks::beside_p))]
 fn label_branch(
     section: Section<'_>,
@@ -135,30 +113,15 @@ fn label_branch(
     actions: &mut [u64],
     temporaries: &mut [u64],
     env: Env,
-    pos: usize,
-    cond: Value,
-    state: State,
+    cond: Operand,
     walk: Walk,
 ) -> Result<(usize, Walk), Stopped>
-    ensures { walked (to_steps result) scope.new actions.new temporaries.new ≡ label_branch section.entry.stream.now section.entry.table.now scope.old actions.old temporaries.old env pos cond state (to_walk walk) }
+    ensures { walked (to_steps result) scope.new actions.new temporaries.new ≡ label_branch section.entry.stream.now section.entry.table.now scope.old actions.old temporaries.old env cond.next cond.value cond.state (to_walk walk) }
 {
-    match get_or_insert_label(scope, u16_in(section.stream, pos, 1), walk.labels) {
-        Ok(id) => {
-            let next = after(pos, 4);
-            branch_label(
-                section,
-                actions,
-                temporaries,
-                env,
-                id,
-                cond,
-                next,
-                state,
-                walk,
-            )
-        }
-        Err(refusal) => Err(stop(walk, refusal)),
-    }
+    let name = u16_in(section.stream, cond.next, 1);
+    let id = get_or_insert_label(scope, name, walk.labels).map_err(|refusal| stop(walk, refusal))?;
+    let next = after(cond.next, 4);
+    branch_label(section, actions, temporaries, env, id, Operand { next, ..cond }, walk)
 }
 
 // What a jump goes to: a name, or an integer with a size.
@@ -212,27 +175,15 @@ fn direct(
     temporaries: &mut [u64],
     env: Env,
     expr: ExprValue,
-    cond: Value,
-    hint: usize,
-    state: State,
+    cond: Operand,
     walk: Walk,
 ) -> Result<(usize, Walk), Refusal>
-    ensures { stepped (to_step walk result) actions.new temporaries.new ≡ direct section.entry.stream.now section.entry.table.now actions.old temporaries.old env expr cond hint state (to_walk walk) }
+    ensures { stepped (to_step walk result) actions.new temporaries.new ≡ direct section.entry.stream.now section.entry.table.now actions.old temporaries.old env expr cond.value cond.next cond.state (to_walk walk) }
 {
     match expr {
         ExprValue::Local(v) => {
             let address = direct_address(v, env.pointer);
-            branch_to(
-                section,
-                actions,
-                temporaries,
-                env,
-                cond,
-                address,
-                hint,
-                state,
-                walk,
-            )
+            branch_to(section, actions, temporaries, env, cond, address, walk)
         }
         ExprValue::Unbound(_)
         | ExprValue::Const { .. }
@@ -251,25 +202,13 @@ fn indirect(
     temporaries: &mut [u64],
     env: Env,
     expr: ExprValue,
-    cond: Value,
-    hint: usize,
-    state: State,
+    cond: Operand,
     walk: Walk,
 ) -> Result<(usize, Walk), Refusal>
-    ensures { stepped (to_step walk result) actions.new temporaries.new ≡ indirect section.entry.stream.now section.entry.table.now actions.old temporaries.old env expr cond hint state (to_walk walk) }
+    ensures { stepped (to_step walk result) actions.new temporaries.new ≡ indirect section.entry.stream.now section.entry.table.now actions.old temporaries.old env expr cond.value cond.next cond.state (to_walk walk) }
 {
-    let (address, state) = read_operand(section, actions, temporaries, env, expr, state)?;
-    branch_to(
-        section,
-        actions,
-        temporaries,
-        env,
-        cond,
-        address,
-        hint,
-        state,
-        walk,
-    )
+    let (address, state) = read_operand(section, actions, temporaries, env, expr, cond.state)?;
+    branch_to(section, actions, temporaries, env, Operand { state, ..cond }, address, walk)
 }
 
 #[tactic(auto, unfolding(crate::specs::Branches::jump_to))]
@@ -280,39 +219,18 @@ fn jump_to(
     temporaries: &mut [u64],
     env: Env,
     expr: ExprValue,
-    cond: Value,
-    hint: usize,
-    state: State,
+    cond: Operand,
     walk: Walk,
 ) -> Result<(usize, Walk), Refusal>
-    ensures { stepped (to_step walk result) actions.new temporaries.new ≡ jump_to code section.entry.stream.now section.entry.table.now actions.old temporaries.old env expr cond hint state (to_walk walk) }
+    ensures { stepped (to_step walk result) actions.new temporaries.new ≡ jump_to code section.entry.stream.now section.entry.table.now actions.old temporaries.old env expr cond.value cond.next cond.state (to_walk walk) }
 {
     if code == statement::DST_DIRECT {
-        return direct(
-            section,
-            actions,
-            temporaries,
-            env,
-            expr,
-            cond,
-            hint,
-            state,
-            walk,
-        );
+        return direct(section, actions, temporaries, env, expr, cond, walk);
     }
-    indirect(
-        section,
-        actions,
-        temporaries,
-        env,
-        expr,
-        cond,
-        hint,
-        state,
-        walk,
-    )
+    indirect(section, actions, temporaries, env, expr, cond, walk)
 }
 
+// Where a jump goes stands where the condition ends.
 #[tactic(auto, unfolding(crate::specs::Branches::jump, crate::specs::Branches::jump_meant))]
 fn jump(
     section: Section<'_>,
@@ -320,29 +238,16 @@ fn jump(
     actions: &mut [u64],
     temporaries: &mut [u64],
     env: Env,
-    pos: usize,
-    cond: Value,
-    state: State,
+    cond: Operand,
     walk: Walk,
 ) -> Result<(usize, Walk), Refusal>
-    ensures { stepped (to_step walk result) actions.new temporaries.new ≡ jump section.entry.stream.now section.entry.table.now scope.now actions.old temporaries.old env pos cond state (to_walk walk) }
+    ensures { stepped (to_step walk result) actions.new temporaries.new ≡ jump section.entry.stream.now section.entry.table.now scope.now actions.old temporaries.old env cond.next cond.value cond.state (to_walk walk) }
 {
-    let target = after(pos, 1);
-    let code = access::byte(section.stream, pos, 0);
+    let target = after(cond.next, 1);
+    let code = access::byte(section.stream, cond.next, 0);
     let expr = jump_value(section, scope, target, env)?;
-    let hint = after_jump(section.stream, target);
-    jump_to(
-        code,
-        section,
-        actions,
-        temporaries,
-        env,
-        expr,
-        cond,
-        hint,
-        state,
-        walk,
-    )
+    let next = after_jump(section.stream, target);
+    jump_to(code, section, actions, temporaries, env, expr, Operand { next, ..cond }, walk)
 }
 
 #[tactic(auto, unfolding(crate::specs::Branches::resolve_branch, stmt_walk::specs::Walks::beside_p))]
@@ -352,38 +257,16 @@ fn resolve_branch(
     actions: &mut [u64],
     temporaries: &mut [u64],
     env: Env,
-    pos: usize,
-    cond: Value,
-    state: State,
+    cond: Operand,
     walk: Walk,
 ) -> Result<(usize, Walk), Stopped>
-    ensures { walked (to_steps result) scope.new actions.new temporaries.new ≡ resolve_branch section.entry.stream.now section.entry.table.now scope.old actions.old temporaries.old env pos cond state (to_walk walk) }
+    ensures { walked (to_steps result) scope.new actions.new temporaries.new ≡ resolve_branch section.entry.stream.now section.entry.table.now scope.old actions.old temporaries.old env cond.next cond.value cond.state (to_walk walk) }
 {
-    if access::byte(section.stream, pos, 0) == statement::DST_LABEL {
-        return label_branch(
-            section,
-            scope,
-            actions,
-            temporaries,
-            env,
-            pos,
-            cond,
-            state,
-            walk,
-        );
+    if access::byte(section.stream, cond.next, 0) == statement::DST_LABEL {
+        return label_branch(section, scope, actions, temporaries, env, cond, walk);
     }
-    jump(
-        section,
-        scope,
-        actions,
-        temporaries,
-        env,
-        pos,
-        cond,
-        state,
-        walk,
-    )
-    .map_err(|refusal| stop(walk, refusal))
+    jump(section, scope, actions, temporaries, env, cond, walk)
+        .map_err(|refusal| stop(walk, refusal))
 }
 
 #[tactic(auto, unfolding(crate::specs::Branches::branch))]
@@ -398,17 +281,12 @@ pub fn branch(
 ) -> Result<(usize, Walk), Stopped>
     ensures { walked (to_steps result) scope.new actions.new temporaries.new ≡ branch section.entry.stream.now section.entry.table.now scope.old actions.old temporaries.old env pos (to_walk walk) }
 {
-    resolve_branch(
-        section,
-        scope,
-        actions,
-        temporaries,
-        env,
-        after(pos, 1),
-        constant(1),
-        walk.st,
-        walk,
-    )
+    let always = Operand {
+        value: constant(1),
+        next: after(pos, 1),
+        state: walk.st,
+    };
+    resolve_branch(section, scope, actions, temporaries, env, always, walk)
 }
 
 #[tactic(auto, unfolding(crate::specs::Branches::cond_branch, expr_terms::specs::Answers::on_operand))]
@@ -435,15 +313,5 @@ pub fn cond_branch(
         walk.st,
     )
     .map_err(|refusal| stop(walk, refusal))?;
-    resolve_branch(
-        section,
-        scope,
-        actions,
-        temporaries,
-        env,
-        cond.next,
-        cond.value,
-        cond.state,
-        walk,
-    )
+    resolve_branch(section, scope, actions, temporaries, env, cond, walk)
 }
