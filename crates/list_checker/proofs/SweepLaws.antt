@@ -185,27 +185,30 @@ module _ (t s p base n : ℕ) (ws : List ℕ) (rows : List (List ℕ)) (r : Bool
 
 -- a turn of the loop over the actions, and its end
 
-module _ (t s p base i : ℕ) (rows : List (List ℕ)) (seen built : List Bool) (whole : Bool) (inv : sweep t s p base (drop i rows) seen built ≡ whole) where
-  module _ (a b : Bool) (next : List Bool) (h : i < length rows) (ea : a ≡ action_fit t s p (get_or rows i [])) where
-    turn : (a && when_new (note_label (get_or rows i []) seen) λ later. sweep t s p base (drop (i + 1) rows) later (note_build base (get_or rows i []) built)) ≡ whole
-    unfolding sweep
-    turn = rw (ea, add-one) (rw (drop-cons rows i [] h) at inv)
-
-    pub sweep_unfit : a ≡ false → false ≡ whole
-    sweep_unfit fa = rw fa at turn
-
-    pub sweep_again : a ≡ true → noted b next ≡ note_label (get_or rows i []) seen → b ≡ false → false ≡ whole
-    unfolding when_new
-    sweep_again fa eb fb = rw (fa, ← eb, fb) at turn
-
-    pub sweep_more : a ≡ true → noted b next ≡ note_label (get_or rows i []) seen → b ≡ true → (marked : List Bool) → marked ≡ note_build base (get_or rows i []) built →
-        sweep t s p base (drop (i + 1) rows) next marked ≡ whole
-    unfolding when_new
-    sweep_more fa eb fb marked em = rw em (rw (fa, ← eb, fb) at turn)
-
-  pub sweep-end : (r : Bool) → length rows ≤ i → r ≡ all_marked (s - base) built → r ≡ whole
+module _ (t s p base i : ℕ) (rows : List (List ℕ)) (seen built : List Bool) where
+  turn : i < length rows → (action_fit t s p (get_or rows i []) && when_new (note_label (get_or rows i []) seen) λ later. sweep t s p base (drop (i + 1) rows) later (note_build base (get_or rows i []) built)) ≡ sweep t s p base (drop i rows) seen built
   unfolding sweep
-  sweep-end r h e = e ∙ rw (drop_of_length-le rows h) at inv
+  turn h = rw (add-one, drop-cons rows i [] h)
+
+  pub sweep_unfit : i < length rows → false ≡ action_fit t s p (get_or rows i []) → sweep t s p base (drop i rows) seen built ≡ false
+  sweep_unfit h e = sym (rw (← e) at (turn h))
+
+  pub sweep_again : (next : List Bool) → i < length rows → noted false next ≡ note_label (get_or rows i []) seen → sweep t s p base (drop i rows) seen built ≡ false
+  unfolding when_new
+  sweep_again next h e = sym (rw (← e) at (turn h)) ∙ no (action_fit t s p (get_or rows i []))
+    where
+      no : (a : Bool) → (a && false) ≡ false
+      no true = refl
+      no false = refl
+
+  pub sweep_more : (next marked : List Bool) → i < length rows → true ≡ action_fit t s p (get_or rows i []) → noted true next ≡ note_label (get_or rows i []) seen → marked ≡ note_build base (get_or rows i []) built →
+      sweep t s p base (drop i rows) seen built ≡ sweep t s p base (drop (i + 1) rows) next marked
+  unfolding when_new
+  sweep_more next marked h e f g = rw g (sym (rw (← e, ← f) at (turn h)))
+
+  pub sweep-end : length rows ≤ i → sweep t s p base (drop i rows) seen built ≡ all_marked (s - base) built
+  unfolding sweep
+  sweep-end h = rw (drop_of_length-le rows h)
 
 pub ruleset sweep_laws = (sweep_unfit, sweep_again, sweep_more, sweep-end)
 
