@@ -69,8 +69,27 @@ fn insert_in(
     ensures { read (to_read result) actions.new temporaries.new ≡ insert_in section.entry.stream.now section.entry.table.now actions.old temporaries.old env value to prev tmp bits.from bits.count state }
 {
     let extend = Operation::unary(operation::ZERO_EXTEND, value);
-    let (_, state) = masked(section, actions, temporaries, env, extend, tmp, bits.count, state)?;
-    merge_bits(section, actions, temporaries, env, to, prev, tmp, bits.from, state)
+    let (_, state) = masked(
+        section,
+        actions,
+        temporaries,
+        env,
+        extend,
+        tmp,
+        bits.count,
+        state,
+    )?;
+    merge_bits(
+        section,
+        actions,
+        temporaries,
+        env,
+        to,
+        prev,
+        tmp,
+        bits.from,
+        state,
+    )
 }
 
 #[tactic(auto, unfolding(crate::specs::Copies::insert_bits, list_pushes::specs::Pushes::on_tmp))]
@@ -179,16 +198,7 @@ fn copy_bits(
     ensures { read (to_read result) actions.new temporaries.new ≡ copy_bits section.entry.stream.now section.entry.table.now actions.old temporaries.old env expr to bits.from bits.count state }
 {
     let (value, state) = read_operand(section, actions, temporaries, env, expr, state)?;
-    write_bits(
-        section,
-        actions,
-        temporaries,
-        env,
-        value,
-        to,
-        bits,
-        state,
-    )
+    write_bits(section, actions, temporaries, env, value, to, bits, state)
 }
 
 // A range of whole bytes is a slice of the target.
@@ -223,27 +233,9 @@ fn copy_range(
     ensures { read (to_read result) actions.new temporaries.new ≡ copy_range section.entry.stream.now section.entry.table.now actions.old temporaries.old env expr to bits.from bits.count state }
 {
     if byte_aligned(bits) {
-        return copy_bytes(
-            section,
-            actions,
-            temporaries,
-            env,
-            expr,
-            to,
-            bits,
-            state,
-        );
+        return copy_bytes(section, actions, temporaries, env, expr, to, bits, state);
     }
-    copy_bits(
-        section,
-        actions,
-        temporaries,
-        env,
-        expr,
-        to,
-        bits,
-        state,
-    )
+    copy_bits(section, actions, temporaries, env, expr, to, bits, state)
 }
 
 // The source is read into a local, or into a place in RAM or a range of bits of one.
@@ -271,7 +263,16 @@ fn copy_into(
         ExprValue::RamRef { pointer, size } => {
             let (value, state) = read_operand(section, actions, temporaries, env, source, state)?;
             let stored = Operand { value, next, state };
-            return store(section, actions, temporaries, env, pointer, size, stored, walk);
+            return store(
+                section,
+                actions,
+                temporaries,
+                env,
+                pointer,
+                size,
+                stored,
+                walk,
+            );
         }
         ExprValue::Unbound(_)
         | ExprValue::Const { .. }
@@ -340,6 +341,7 @@ fn new_target(
 }
 
 // A bare name that is a plain local's, the usual target.
+#[tactic(auto, using(crate::proofs::CopyLaws::plain_given))]
 fn plain_target(
     section: Section<'_>,
     scope: &[u64],
@@ -397,8 +399,24 @@ fn copy_target(
 ) -> Result<(usize, Walk), Refusal>
     ensures { walked (to_step walk result) scope.new actions.new temporaries.new ≡ copy_target section.entry.stream.now section.entry.table.now scope.old actions.old temporaries.old env source.value source.next source.state (to_walk walk) }
 {
-    let target = resolve_dst(section, scope, actions, temporaries, env, source.next, source.state)?;
-    copy_into(section, actions, temporaries, env, source.value, target, walk)
+    let target = resolve_dst(
+        section,
+        scope,
+        actions,
+        temporaries,
+        env,
+        source.next,
+        source.state,
+    )?;
+    copy_into(
+        section,
+        actions,
+        temporaries,
+        env,
+        source.value,
+        target,
+        walk,
+    )
 }
 
 #[tactic(auto, unfolding(crate::specs::Copies::copy_statement, expr_terms::specs::Answers::on_expr))]

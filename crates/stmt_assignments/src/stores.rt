@@ -32,7 +32,15 @@ pub fn store(
 {
     let stated = take_stated(section, temporaries, stored.value, size, stored.state);
     let store = Operation::binary(operation::STORE, pointer, stated.v);
-    let st = push_op(section, actions, temporaries, env, store, no_output(), stated.st)?;
+    let st = push_op(
+        section,
+        actions,
+        temporaries,
+        env,
+        store,
+        no_output(),
+        stated.st,
+    )?;
     Ok((stored.next, Walk { st, ..walk }))
 }
 
@@ -53,7 +61,13 @@ fn store_register(
         number: size,
         ..Operation::binary(0, pointer, stated.v)
     };
-    let st = push(actions, action_kind::STORE_REGISTER, store, absent(), stated.st)?;
+    let st = push(
+        actions,
+        action_kind::STORE_REGISTER,
+        store,
+        absent(),
+        stated.st,
+    )?;
     Ok((stored.next, Walk { st, ..walk }))
 }
 
@@ -71,7 +85,16 @@ fn store_at(
 {
     match expr {
         ExprValue::RamRef { pointer, size } => {
-            store(section, actions, temporaries, env, pointer, size, stored, walk)
+            store(
+                section,
+                actions,
+                temporaries,
+                env,
+                pointer,
+                size,
+                stored,
+                walk,
+            )
         }
         ExprValue::RegisterRef { pointer, size } => {
             store_register(section, actions, temporaries, pointer, size, stored, walk)
@@ -133,7 +156,16 @@ fn store_pointer(
     let pointer = resolve_expr(DEPTH, section, scope, at, env, actions, temporaries, state)?;
     let state = pointer.state;
     let stored = Operand { state, ..stored };
-    store_in(section, actions, temporaries, env, pos, pointer.value, stored, walk)
+    store_in(
+        section,
+        actions,
+        temporaries,
+        env,
+        pos,
+        pointer.value,
+        stored,
+        walk,
+    )
 }
 
 // The value stands behind the pointer.
