@@ -31,3 +31,5 @@ module _ (s t a m args : List ℕ) (n i : ℕ) (e : Env) (st : State) (w : Pushe
 pub args_done : (s t a m args : List ℕ) (n i : ℕ) (e : Env) (st : State) (w : PushedOut) → n ≤ i → pass_from (n - i) i s t a m args e st ≡ w → pushed (Pushed.Done st) a m ≡ w
 unfolding pass_from
 args_done s t a m args n i e st w h inv = let z : n - i ≡ 0 = omega arith in rw z at inv
+
+pub ruleset args_laws = (args_start, args_no, args_more, args_done)

@@ -100,6 +100,7 @@ fn pass_arg(
 }
 
 // The arguments from the third on, each followed by its Arg.
+#[tactic(auto, using(crate::proofs::CallLaws::args_laws))]
 fn pass_args(
     section: Section<'_>,
     actions: &mut [u64],

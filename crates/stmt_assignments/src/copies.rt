@@ -3,19 +3,19 @@ ghost use Rattle.std.specs.Prelude.{◌≡◌, ◌<◌, ℕ, List, Ok, IfSome};
 ghost use Rattle.list_pushes.specs.Outcomes.{to_read};
 ghost use Rattle.list_pushes.specs.Pushes.{read};
 ghost use Rattle.expr_terms.specs.Outcomes.{to_expr};
-ghost use Rattle.expr_terms.specs.Answers.{resolved};
+ghost use Rattle.expr_terms.specs.Answers.{resolved, given};
 ghost use Rattle.stmt_walk.specs.Outcomes.{to_walk, to_step};
 ghost use Rattle.stmt_walk.specs.Walks.{stepped, walked};
-ghost use Rattle.stmt_assignments.specs.Copies.{targeted, mask_but, merge_bits, extend_bits, insert_in, insert_bits, keep_bits, write_bits, copy_bits, copy_bytes, copy_range, copy_ram, copy_into, target_name, target_size, after_target, new_target, is_new, resolve_dst, copy_target, copy_statement};
+ghost use Rattle.stmt_assignments.specs.Copies.{targeted, mask_but, merge_bits, insert_in, insert_bits, keep_bits, write_bits, copy_bits, copy_bytes, copy_range, copy_into, target_name, target_size, after_target, new_target, resolve_dst, copy_target, copy_statement};
 
 use crate::stores::store;
 use access::u16_in;
 use codes::refusal::Refusal;
 use codes::{NONE, expression, operation};
-use expr_reading::read::{byte_aligned, constant, read_operand, read_value, sliced};
+use expr_reading::read::{byte_aligned, constant, masked, read_operand, read_value, sliced};
 use expr_resolver::expr::{DEPTH, resolve_expr};
-use expr_scope::scope::{ExprValue, named_tmp, plain_local, resolve_ident};
-use expr_terms::answers::{Resolved, after};
+use expr_scope::scope::{Bits, ExprValue, named_tmp, plain_local, resolve_ident};
+use expr_terms::answers::{Operand, Resolved, after, given};
 use list_pushes::push::{Env, Operation, State, add_tmp, op_to};
 use list_values::section::Section;
 use list_values::sizes::size_of;
@@ -23,11 +23,12 @@ use list_values::value::Value;
 use stmt_walk::walk::Walk;
 
 // All 64 bits but those of a bit write.
-fn mask_but(from: u64, bits: u64) -> u64
-    requires { from < 64 }
-    ensures { result ≡ mask_but from bits }
+#[tactic(auto, using(crate::proofs::CopyLaws::mask_but_law))]
+fn mask_but(bits: Bits) -> u64
+    requires { bits.from < 64 }
+    ensures { result ≡ mask_but bits.from bits.count }
 {
-    u64::MAX - (access::mask(bits) << from)
+    u64::MAX - (access::mask(bits.count) << bits.from)
 }
 
 // The bits of the value shifted to their place, and merged with the rest.
@@ -51,26 +52,8 @@ fn merge_bits(
     op_to(section, actions, temporaries, env, merge, to, state)
 }
 
-#[tactic(auto, unfolding(crate::specs::Copies::extend_bits, list_pushes::specs::Pushes::on_read))]
-fn extend_bits(
-    section: Section<'_>,
-    actions: &mut [u64],
-    temporaries: &mut [u64],
-    env: Env,
-    value: Value,
-    tmp: Value,
-    bits: u64,
-    state: State,
-) -> Result<(Value, State), Refusal>
-    ensures { read (to_read result) actions.new temporaries.new ≡ extend_bits section.entry.stream.now section.entry.table.now actions.old temporaries.old env value tmp bits state }
-{
-    let extend = Operation::unary(operation::ZERO_EXTEND, value);
-    let (_, state) = op_to(section, actions, temporaries, env, extend, tmp, state)?;
-    let masked = Operation::binary(operation::INT_AND, tmp, constant(access::mask(bits)));
-    op_to(section, actions, temporaries, env, masked, tmp, state)
-}
-
-#[tactic(auto, unfolding(crate::specs::Copies::insert_in, list_pushes::specs::Pushes::on_read))]
+// The value's bits in a temporary, and from there in their place.
+#[tactic(auto, unfolding(crate::specs::Copies::insert_in, crate::specs::Copies::extend_bits, expr_reading::specs::Reading::masked, list_pushes::specs::Pushes::on_read))]
 fn insert_in(
     section: Section<'_>,
     actions: &mut [u64],
@@ -80,13 +63,22 @@ fn insert_in(
     to: Value,
     prev: Value,
     tmp: Value,
-    from: u64,
-    bits: u64,
+    bits: Bits,
     state: State,
 ) -> Result<(Value, State), Refusal>
-    ensures { read (to_read result) actions.new temporaries.new ≡ insert_in section.entry.stream.now section.entry.table.now actions.old temporaries.old env value to prev tmp from bits state }
+    ensures { read (to_read result) actions.new temporaries.new ≡ insert_in section.entry.stream.now section.entry.table.now actions.old temporaries.old env value to prev tmp bits.from bits.count state }
 {
-    let (_, state) = extend_bits(section, actions, temporaries, env, value, tmp, bits, state)?;
+    let extend = Operation::unary(operation::ZERO_EXTEND, value);
+    let (_, state) = masked(
+        section,
+        actions,
+        temporaries,
+        env,
+        extend,
+        tmp,
+        bits.count,
+        state,
+    )?;
     merge_bits(
         section,
         actions,
@@ -95,7 +87,7 @@ fn insert_in(
         to,
         prev,
         tmp,
-        from,
+        bits.from,
         state,
     )
 }
@@ -109,11 +101,10 @@ fn insert_bits(
     value: Value,
     to: Value,
     prev: Value,
-    from: u64,
-    bits: u64,
+    bits: Bits,
     state: State,
 ) -> Result<(Value, State), Refusal>
-    ensures { read (to_read result) actions.new temporaries.new ≡ insert_bits section.entry.stream.now section.entry.table.now actions.old temporaries.old env value to prev from bits state }
+    ensures { read (to_read result) actions.new temporaries.new ≡ insert_bits section.entry.stream.now section.entry.table.now actions.old temporaries.old env value to prev bits.from bits.count state }
 {
     let size = size_of(section, temporaries, to);
     let (tmp, state) = add_tmp(temporaries, NONE, size, state)?;
@@ -126,7 +117,6 @@ fn insert_bits(
         to,
         prev,
         tmp,
-        from,
         bits,
         state,
     )
@@ -142,14 +132,13 @@ fn keep_bits(
     value: Value,
     to: Value,
     prev: Value,
-    from: u64,
-    bits: u64,
+    bits: Bits,
     state: State,
 ) -> Result<(Value, State), Refusal>
-    requires { from < 64 }
-    ensures { read (to_read result) actions.new temporaries.new ≡ keep_bits section.entry.stream.now section.entry.table.now actions.old temporaries.old env value to prev from bits state }
+    requires { bits.from < 64 }
+    ensures { read (to_read result) actions.new temporaries.new ≡ keep_bits section.entry.stream.now section.entry.table.now actions.old temporaries.old env value to prev bits.from bits.count state }
 {
-    let kept = Operation::binary(operation::INT_AND, to, constant(mask_but(from, bits)));
+    let kept = Operation::binary(operation::INT_AND, to, constant(mask_but(bits)));
     let (_, state) = op_to(section, actions, temporaries, env, kept, prev, state)?;
     insert_bits(
         section,
@@ -159,7 +148,6 @@ fn keep_bits(
         value,
         to,
         prev,
-        from,
         bits,
         state,
     )
@@ -173,13 +161,12 @@ fn write_bits(
     env: Env,
     value: Value,
     to: Value,
-    from: u64,
-    bits: u64,
+    bits: Bits,
     state: State,
 ) -> Result<(Value, State), Refusal>
-    ensures { read (to_read result) actions.new temporaries.new ≡ write_bits section.entry.stream.now section.entry.table.now actions.old temporaries.old env value to from bits state }
+    ensures { read (to_read result) actions.new temporaries.new ≡ write_bits section.entry.stream.now section.entry.table.now actions.old temporaries.old env value to bits.from bits.count state }
 {
-    if 64 <= from {
+    if 64 <= bits.from {
         return Err(Refusal::ShiftTooFar);
     }
     let size = size_of(section, temporaries, to);
@@ -192,7 +179,6 @@ fn write_bits(
         value,
         to,
         prev,
-        from,
         bits,
         state,
     )
@@ -206,24 +192,13 @@ fn copy_bits(
     env: Env,
     expr: ExprValue,
     to: Value,
-    from: u64,
-    bits: u64,
+    bits: Bits,
     state: State,
 ) -> Result<(Value, State), Refusal>
-    ensures { read (to_read result) actions.new temporaries.new ≡ copy_bits section.entry.stream.now section.entry.table.now actions.old temporaries.old env expr to from bits state }
+    ensures { read (to_read result) actions.new temporaries.new ≡ copy_bits section.entry.stream.now section.entry.table.now actions.old temporaries.old env expr to bits.from bits.count state }
 {
     let (value, state) = read_operand(section, actions, temporaries, env, expr, state)?;
-    write_bits(
-        section,
-        actions,
-        temporaries,
-        env,
-        value,
-        to,
-        from,
-        bits,
-        state,
-    )
+    write_bits(section, actions, temporaries, env, value, to, bits, state)
 }
 
 // A range of whole bytes is a slice of the target.
@@ -235,13 +210,12 @@ fn copy_bytes(
     env: Env,
     expr: ExprValue,
     to: Value,
-    from: u64,
-    bits: u64,
+    bits: Bits,
     state: State,
 ) -> Result<(Value, State), Refusal>
-    ensures { read (to_read result) actions.new temporaries.new ≡ copy_bytes section.entry.stream.now section.entry.table.now actions.old temporaries.old env expr to from bits state }
+    ensures { read (to_read result) actions.new temporaries.new ≡ copy_bytes section.entry.stream.now section.entry.table.now actions.old temporaries.old env expr to bits.from bits.count state }
 {
-    let (slice, state) = sliced(to, from / 8, bits / 8, state)?;
+    let (slice, state) = sliced(to, bits.from / 8, bits.count / 8, state)?;
     read_value(section, actions, temporaries, env, expr, Some(slice), state)
 }
 
@@ -253,136 +227,75 @@ fn copy_range(
     env: Env,
     expr: ExprValue,
     to: Value,
-    from: u64,
-    bits: u64,
+    bits: Bits,
     state: State,
 ) -> Result<(Value, State), Refusal>
-    ensures { read (to_read result) actions.new temporaries.new ≡ copy_range section.entry.stream.now section.entry.table.now actions.old temporaries.old env expr to from bits state }
+    ensures { read (to_read result) actions.new temporaries.new ≡ copy_range section.entry.stream.now section.entry.table.now actions.old temporaries.old env expr to bits.from bits.count state }
 {
-    if byte_aligned(from, bits) {
-        return copy_bytes(
-            section,
-            actions,
-            temporaries,
-            env,
-            expr,
-            to,
-            from,
-            bits,
-            state,
-        );
+    if byte_aligned(bits) {
+        return copy_bytes(section, actions, temporaries, env, expr, to, bits, state);
     }
-    copy_bits(
-        section,
-        actions,
-        temporaries,
-        env,
-        expr,
-        to,
-        from,
-        bits,
-        state,
-    )
+    copy_bits(section, actions, temporaries, env, expr, to, bits, state)
 }
 
-#[tactic(auto, unfolding(crate::specs::Copies::copy_ram, list_pushes::specs::Pushes::on_read))]
-fn copy_ram(
-    section: Section<'_>,
-    actions: &mut [u64],
-    temporaries: &mut [u64],
-    env: Env,
-    expr: ExprValue,
-    pointer: Value,
-    size: u64,
-    next: usize,
-    state: State,
-    walk: Walk,
-) -> Result<(usize, Walk), Refusal>
-    ensures { stepped (to_step walk result) actions.new temporaries.new ≡ copy_ram section.entry.stream.now section.entry.table.now actions.old temporaries.old env expr pointer size next state (to_walk walk) }
-{
-    let (value, state) = read_operand(section, actions, temporaries, env, expr, state)?;
-    store(
-        section,
-        actions,
-        temporaries,
-        env,
-        pointer,
-        size,
-        value,
-        next,
-        state,
-        walk,
-    )
-}
-
-#[tactic(auto, unfolding(crate::specs::Copies::copy_into, stmt_walk::specs::Walks::step_read, stmt_walk::specs::Walks::read_then))]
+// The source is read into a local, or into a place in RAM or a range of bits of one.
+#[tactic(auto, unfolding(crate::specs::Copies::copy_into, crate::specs::Copies::copy_ram, list_pushes::specs::Pushes::on_read, stmt_walk::specs::Walks::step_read, stmt_walk::specs::Walks::read_then))]
 fn copy_into(
     section: Section<'_>,
     actions: &mut [u64],
     temporaries: &mut [u64],
     env: Env,
     source: ExprValue,
-    target: ExprValue,
-    next: usize,
-    state: State,
+    target: Resolved,
     walk: Walk,
 ) -> Result<(usize, Walk), Refusal>
-    ensures { stepped (to_step walk result) actions.new temporaries.new ≡ copy_into section.entry.stream.now section.entry.table.now actions.old temporaries.old env source target next state (to_walk walk) }
+    ensures { stepped (to_step walk result) actions.new temporaries.new ≡ copy_into section.entry.stream.now section.entry.table.now actions.old temporaries.old env source target.value target.next target.state (to_walk walk) }
 {
-    match target {
+    let next = target.next;
+    let state = target.state;
+    let (_, st) = match target.value {
         ExprValue::Local(v) => {
-            let (_, st) = read_value(section, actions, temporaries, env, source, Some(v), state)?;
-            Ok((next, Walk { st, ..walk }))
+            read_value(section, actions, temporaries, env, source, Some(v), state)?
         }
-        ExprValue::RamRef { pointer, size } => copy_ram(
-            section,
-            actions,
-            temporaries,
-            env,
-            source,
-            pointer,
-            size,
-            next,
-            state,
-            walk,
-        ),
-        ExprValue::BitRange { v, from, bits } => {
-            let (_, st) = copy_range(
+        ExprValue::BitRange { v, bits } => {
+            copy_range(section, actions, temporaries, env, source, v, bits, state)?
+        }
+        ExprValue::RamRef { pointer, size } => {
+            let (value, state) = read_operand(section, actions, temporaries, env, source, state)?;
+            let stored = Operand { value, next, state };
+            return store(
                 section,
                 actions,
                 temporaries,
                 env,
-                source,
-                v,
-                from,
-                bits,
-                state,
-            )?;
-            Ok((next, Walk { st, ..walk }))
+                pointer,
+                size,
+                stored,
+                walk,
+            );
         }
         ExprValue::Unbound(_)
         | ExprValue::Const { .. }
         | ExprValue::Apply(_)
         | ExprValue::RegisterRef { .. }
-        | ExprValue::AddressOf { .. } => Err(Refusal::NotAssignable),
-    }
+        | ExprValue::AddressOf { .. } => return Err(Refusal::NotAssignable),
+    };
+    Ok((next, Walk { st, ..walk }))
 }
 
 // The name of a target, bare or truncated.
-#[tactic(auto, unfolding(crate::specs::Copies::target_name))]
-fn target_name(stream: &[u8], pos: usize) -> u64
-    ensures { result ≡ target_name stream.now pos }
+#[tactic(auto, unfolding(crate::specs::Copies::target_name, expr_terms::specs::Answers::given))]
+fn target_name(stream: &[u8], pos: usize) -> Option<u64>
+    ensures { result ≡ given (target_name stream.now pos) }
 {
     let code = access::byte(stream, pos, 0);
     if code == expression::IDENT {
-        return u16_in(stream, pos, 1);
+        return given(u16_in(stream, pos, 1));
     }
-    if code == expression::TRUNCATE {
-        if access::byte(stream, pos, 1) == expression::IDENT {
-            return u16_in(stream, pos, 2);
-        }
+    if code == expression::TRUNCATE && access::byte(stream, pos, 1) == expression::IDENT {
+        return given(u16_in(stream, pos, 2));
     }
-    NONE
+    None
 }
 
 #[tactic(auto, unfolding(crate::specs::Copies::target_size))]
@@ -427,20 +340,8 @@ fn new_target(
     })
 }
 
-#[tactic(auto, unfolding(crate::specs::Copies::is_new, crate::specs::Copies::is_wrong))]
-fn is_new(section: Section<'_>, scope: &[u64], env: Env, name: u64) -> bool
-    ensures { result ≡ is_new section.entry.stream.now section.entry.table.now scope.now env name }
-{
-    if name == NONE {
-        return false;
-    }
-    match resolve_ident(section, scope, env, name) {
-        Ok(_) => false,
-        Err(_) => true,
-    }
-}
-
 // A bare name that is a plain local's, the usual target.
+#[tactic(auto, using(crate::proofs::CopyLaws::plain_given))]
 fn plain_target(
     section: Section<'_>,
     scope: &[u64],
@@ -453,10 +354,7 @@ fn plain_target(
     if access::byte(section.stream, pos, 0) != expression::IDENT {
         return None;
     }
-    let name = u16_in(section.stream, pos, 1);
-    if name == NONE {
-        return None;
-    }
+    let name = given(u16_in(section.stream, pos, 1))?;
     let local = plain_local(section, scope, env, name)?;
     Some(Resolved {
         next: after(pos, 3),
@@ -466,7 +364,7 @@ fn plain_target(
 }
 
 // An unknown or disallowed name as target becomes a temporary.
-#[tactic(auto, unfolding(crate::specs::Copies::resolve_dst, crate::specs::Copies::beside_a, crate::specs::Copies::in_scope))]
+#[tactic(auto, unfolding(crate::specs::Copies::resolve_dst, crate::specs::Copies::beside_a, crate::specs::Copies::in_scope, crate::specs::Copies::is_new, crate::specs::Copies::is_wrong, expr_terms::specs::Answers::given))]
 fn resolve_dst(
     section: Section<'_>,
     scope: &mut [u64],
@@ -481,11 +379,12 @@ fn resolve_dst(
     if let Some(target) = plain_target(section, scope, env, pos, state) {
         return Ok(target);
     }
-    let name = target_name(section.stream, pos);
-    if is_new(section, scope, env, name) {
-        return new_target(section, scope, temporaries, env, pos, name, state);
+    match target_name(section.stream, pos) {
+        Some(name) if resolve_ident(section, scope, env, name).is_err() => {
+            new_target(section, scope, temporaries, env, pos, name, state)
+        }
+        _ => resolve_expr(DEPTH, section, scope, pos, env, actions, temporaries, state),
     }
-    resolve_expr(DEPTH, section, scope, pos, env, actions, temporaries, state)
 }
 
 #[tactic(auto, unfolding(crate::specs::Copies::copy_target, crate::specs::Copies::on_target, stmt_walk::specs::Walks::beside_p))]
@@ -495,23 +394,27 @@ fn copy_target(
     actions: &mut [u64],
     temporaries: &mut [u64],
     env: Env,
-    expr: ExprValue,
-    pos: usize,
-    state: State,
+    source: Resolved,
     walk: Walk,
 ) -> Result<(usize, Walk), Refusal>
-    ensures { walked (to_step walk result) scope.new actions.new temporaries.new ≡ copy_target section.entry.stream.now section.entry.table.now scope.old actions.old temporaries.old env expr pos state (to_walk walk) }
+    ensures { walked (to_step walk result) scope.new actions.new temporaries.new ≡ copy_target section.entry.stream.now section.entry.table.now scope.old actions.old temporaries.old env source.value source.next source.state (to_walk walk) }
 {
-    let target = resolve_dst(section, scope, actions, temporaries, env, pos, state)?;
+    let target = resolve_dst(
+        section,
+        scope,
+        actions,
+        temporaries,
+        env,
+        source.next,
+        source.state,
+    )?;
     copy_into(
         section,
         actions,
         temporaries,
         env,
-        expr,
-        target.value,
-        target.next,
-        target.state,
+        source.value,
+        target,
         walk,
     )
 }
@@ -539,15 +442,5 @@ pub fn copy_statement(
         temporaries,
         walk.st,
     )?;
-    copy_target(
-        section,
-        scope,
-        actions,
-        temporaries,
-        env,
-        source.value,
-        source.next,
-        source.state,
-        walk,
-    )
+    copy_target(section, scope, actions, temporaries, env, source, walk)
 }

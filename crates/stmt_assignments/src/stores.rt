@@ -11,8 +11,8 @@ use expr_reading::read::{set_stated, take_stated};
 use expr_resolver::expr::{DEPTH, expr_value, resolve_expr, skip_expr};
 use expr_scope::scope::ExprValue;
 use expr_terms::address::resolve_address;
-use expr_terms::answers::after;
-use list_pushes::push::{Env, Operation, State, push, push_op};
+use expr_terms::answers::{Operand, Resolved, after};
+use list_pushes::push::{Env, Operation, push, push_op};
 use list_values::section::Section;
 use list_values::value::{Value, absent, no_output};
 use stmt_walk::walk::Walk;
@@ -25,14 +25,12 @@ pub fn store(
     env: Env,
     pointer: Value,
     size: u64,
-    value: Value,
-    next: usize,
-    state: State,
+    stored: Operand,
     walk: Walk,
 ) -> Result<(usize, Walk), Refusal>
-    ensures { stepped (to_step walk result) actions.new temporaries.new ≡ store section.entry.stream.now section.entry.table.now actions.old temporaries.old env pointer size value next state (to_walk walk) }
+    ensures { stepped (to_step walk result) actions.new temporaries.new ≡ store section.entry.stream.now section.entry.table.now actions.old temporaries.old env pointer size stored.value stored.next stored.state (to_walk walk) }
 {
-    let stated = take_stated(section, temporaries, value, size, state);
+    let stated = take_stated(section, temporaries, stored.value, size, stored.state);
     let store = Operation::binary(operation::STORE, pointer, stated.v);
     let st = push_op(
         section,
@@ -43,7 +41,7 @@ pub fn store(
         no_output(),
         stated.st,
     )?;
-    Ok((next, Walk { st, ..walk }))
+    Ok((stored.next, Walk { st, ..walk }))
 }
 
 #[tactic(auto, unfolding(crate::specs::Stores::store_register, crate::specs::Stores::register_stated, list_values::specs::Base::then_l, stmt_walk::specs::Walks::pushed_then))]
@@ -53,14 +51,12 @@ fn store_register(
     temporaries: &mut [u64],
     pointer: Value,
     size: u64,
-    value: Value,
-    next: usize,
-    state: State,
+    stored: Operand,
     walk: Walk,
 ) -> Result<(usize, Walk), Refusal>
-    ensures { stepped (to_step walk result) actions.new temporaries.new ≡ store_register section.entry.stream.now section.entry.table.now actions.old temporaries.old pointer size value next state (to_walk walk) }
+    ensures { stepped (to_step walk result) actions.new temporaries.new ≡ store_register section.entry.stream.now section.entry.table.now actions.old temporaries.old pointer size stored.value stored.next stored.state (to_walk walk) }
 {
-    let stated = set_stated(section, temporaries, value, size, state);
+    let stated = set_stated(section, temporaries, stored.value, size, stored.state);
     let store = Operation {
         number: size,
         ..Operation::binary(0, pointer, stated.v)
@@ -72,7 +68,7 @@ fn store_register(
         absent(),
         stated.st,
     )?;
-    Ok((next, Walk { st, ..walk }))
+    Ok((stored.next, Walk { st, ..walk }))
 }
 
 #[tactic(auto, unfolding(crate::specs::Stores::store_at))]
@@ -82,37 +78,27 @@ fn store_at(
     temporaries: &mut [u64],
     env: Env,
     expr: ExprValue,
-    value: Value,
-    next: usize,
-    state: State,
+    stored: Operand,
     walk: Walk,
 ) -> Result<(usize, Walk), Refusal>
-    ensures { stepped (to_step walk result) actions.new temporaries.new ≡ store_at section.entry.stream.now section.entry.table.now actions.old temporaries.old env expr value next state (to_walk walk) }
+    ensures { stepped (to_step walk result) actions.new temporaries.new ≡ store_at section.entry.stream.now section.entry.table.now actions.old temporaries.old env expr stored.value stored.next stored.state (to_walk walk) }
 {
     match expr {
-        ExprValue::RamRef { pointer, size } => store(
-            section,
-            actions,
-            temporaries,
-            env,
-            pointer,
-            size,
-            value,
-            next,
-            state,
-            walk,
-        ),
-        ExprValue::RegisterRef { pointer, size } => store_register(
-            section,
-            actions,
-            temporaries,
-            pointer,
-            size,
-            value,
-            next,
-            state,
-            walk,
-        ),
+        ExprValue::RamRef { pointer, size } => {
+            store(
+                section,
+                actions,
+                temporaries,
+                env,
+                pointer,
+                size,
+                stored,
+                walk,
+            )
+        }
+        ExprValue::RegisterRef { pointer, size } => {
+            store_register(section, actions, temporaries, pointer, size, stored, walk)
+        }
         ExprValue::Local(_)
         | ExprValue::Unbound(_)
         | ExprValue::Const { .. }
@@ -131,37 +117,25 @@ fn store_in(
     env: Env,
     pos: usize,
     expr: ExprValue,
-    value: Value,
-    end: usize,
-    state: State,
+    stored: Operand,
     walk: Walk,
 ) -> Result<(usize, Walk), Refusal>
-    ensures { stepped (to_step walk result) actions.new temporaries.new ≡ store_in section.entry.stream.now section.entry.table.now actions.old temporaries.old env pos expr value end state (to_walk walk) }
+    ensures { stepped (to_step walk result) actions.new temporaries.new ≡ store_in section.entry.stream.now section.entry.table.now actions.old temporaries.old env pos expr stored.value stored.next stored.state (to_walk walk) }
 {
     let space = u16_in(section.stream, pos, 1);
     let size = u16_in(section.stream, pos, 3);
-    let to = resolve_address(
-        section,
-        actions,
-        temporaries,
-        env,
-        space,
-        size,
-        expr,
-        end,
-        state,
-    )?;
-    store_at(
-        section,
-        actions,
-        temporaries,
-        env,
-        to.value,
-        value,
-        to.next,
-        to.state,
-        walk,
-    )
+    let pointer = Resolved {
+        next: stored.next,
+        value: expr,
+        state: stored.state,
+    };
+    let to = resolve_address(section, actions, temporaries, env, space, size, pointer)?;
+    let stored = Operand {
+        next: to.next,
+        state: to.state,
+        ..stored
+    };
+    store_at(section, actions, temporaries, env, to.value, stored, walk)
 }
 
 #[tactic(auto, unfolding(crate::specs::Stores::store_pointer, expr_terms::specs::Answers::on_expr))]
@@ -172,15 +146,16 @@ fn store_pointer(
     temporaries: &mut [u64],
     env: Env,
     pos: usize,
-    value: Value,
-    end: usize,
-    state: State,
+    stored: Operand,
     walk: Walk,
 ) -> Result<(usize, Walk), Refusal>
-    ensures { stepped (to_step walk result) actions.new temporaries.new ≡ store_pointer section.entry.stream.now section.entry.table.now scope.now actions.old temporaries.old env pos value end state (to_walk walk) }
+    ensures { stepped (to_step walk result) actions.new temporaries.new ≡ store_pointer section.entry.stream.now section.entry.table.now scope.now actions.old temporaries.old env pos stored.value stored.next stored.state (to_walk walk) }
 {
     let at = after(pos, 5);
+    let state = stored.state;
     let pointer = resolve_expr(DEPTH, section, scope, at, env, actions, temporaries, state)?;
+    let state = pointer.state;
+    let stored = Operand { state, ..stored };
     store_in(
         section,
         actions,
@@ -188,9 +163,7 @@ fn store_pointer(
         env,
         pos,
         pointer.value,
-        value,
-        end,
-        pointer.state,
+        stored,
         walk,
     )
 }
@@ -220,16 +193,5 @@ pub fn store_statement(
         temporaries,
         walk.st,
     )?;
-    store_pointer(
-        section,
-        scope,
-        actions,
-        temporaries,
-        env,
-        pos,
-        stored.value,
-        stored.next,
-        stored.state,
-        walk,
-    )
+    store_pointer(section, scope, actions, temporaries, env, pos, stored, walk)
 }

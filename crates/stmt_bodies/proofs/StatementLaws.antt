@@ -92,3 +92,6 @@ module _ (resolve : Statement) (len n i ordinal pos : ℕ) (p a m : List ℕ) (w
       pub body-next : not x ≡ false → resolve_all resolve len (n - (i + 1)) (i + 1) ordinal next p1 a1 m1 w1 ≡ B
       unfolding on_step
       body-next c = let o1 : i + 1 ≡ suc i = omega arith in let k = turn (Step.Next next w1) f in rw o1 (rw (← ex, passed_test x c, o1) at k)
+
+pub ruleset enter_laws = (enter_deep, enter_stop, enter_next)
+pub ruleset body_laws = (bytes_fall, body_start, body_end, body-stop, body_cut, body-next)

@@ -152,6 +152,7 @@ fn first_ordinal(table: &[u16; table::LENGTH], id: u64) -> u64
 
 // The body of a macro, whose parameters are bound in the words of its scope.
 #[cycle(body_call_statement_enter_macro_statement_statement)]
+#[tactic(auto, using(crate::proofs::StatementLaws::enter_laws))]
 fn enter(
     deep: u64,
     section: Section<'_>,
@@ -306,13 +307,14 @@ fn statement(
 fn forward(pos: usize, next: usize, len: usize) -> bool
     ensures { result ≡ forward pos next len }
 {
-    (pos < next) & (next <= len)
+    pos < next && next <= len
 }
 
 // n statements from a position on, the first with that ordinal; macro calls so deep at most. From one statement to the next
 // the bytes left of the stream fall, as the rules of the project want it, so the turns are no `for`; a statement that took
 // none would be refused as cut.
 #[cycle(body_call_statement_enter_macro_statement_statement)]
+#[tactic(auto, using(crate::proofs::StatementLaws::body_laws))]
 pub fn body(
     deep: u64,
     section: Section<'_>,

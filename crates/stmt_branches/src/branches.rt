@@ -79,7 +79,15 @@ fn branch_to(
         number: access::byte(section.stream, hint, 0),
         ..Operation::binary(operation::BRANCH, cond.value, address)
     };
-    let st = push_op(section, actions, temporaries, env, branch, no_output(), cond.state)?;
+    let st = push_op(
+        section,
+        actions,
+        temporaries,
+        env,
+        branch,
+        no_output(),
+        cond.state,
+    )?;
     Ok((after(hint, 1), Walk { st, ..walk }))
 }
 
@@ -100,8 +108,16 @@ fn branch_label(
         number: id,
         ..Operation::binary(operation::PCODE_BRANCH, cond.value, constant(0))
     };
-    let st = push_op(section, actions, temporaries, env, branch, no_output(), cond.state)
-        .map_err(|refusal| stop(here, refusal))?;
+    let st = push_op(
+        section,
+        actions,
+        temporaries,
+        env,
+        branch,
+        no_output(),
+        cond.state,
+    )
+    .map_err(|refusal| stop(here, refusal))?;
     Ok((cond.next, Walk { st, ..here }))
 }
 
@@ -121,7 +137,15 @@ fn label_branch(
     let name = u16_in(section.stream, cond.next, 1);
     let id = get_or_insert_label(scope, name, walk.labels).map_err(|refusal| stop(walk, refusal))?;
     let next = after(cond.next, 4);
-    branch_label(section, actions, temporaries, env, id, Operand { next, ..cond }, walk)
+    branch_label(
+        section,
+        actions,
+        temporaries,
+        env,
+        id,
+        Operand { next, ..cond },
+        walk,
+    )
 }
 
 // What a jump goes to: a name, or an integer with a size.
@@ -208,7 +232,15 @@ fn indirect(
     ensures { stepped (to_step walk result) actions.new temporaries.new ≡ indirect section.entry.stream.now section.entry.table.now actions.old temporaries.old env expr cond.value cond.next cond.state (to_walk walk) }
 {
     let (address, state) = read_operand(section, actions, temporaries, env, expr, cond.state)?;
-    branch_to(section, actions, temporaries, env, Operand { state, ..cond }, address, walk)
+    branch_to(
+        section,
+        actions,
+        temporaries,
+        env,
+        Operand { state, ..cond },
+        address,
+        walk,
+    )
 }
 
 #[tactic(auto, unfolding(crate::specs::Branches::jump_to))]
@@ -247,7 +279,16 @@ fn jump(
     let code = access::byte(section.stream, cond.next, 0);
     let expr = jump_value(section, scope, target, env)?;
     let next = after_jump(section.stream, target);
-    jump_to(code, section, actions, temporaries, env, expr, Operand { next, ..cond }, walk)
+    jump_to(
+        code,
+        section,
+        actions,
+        temporaries,
+        env,
+        expr,
+        Operand { next, ..cond },
+        walk,
+    )
 }
 
 #[tactic(auto, unfolding(crate::specs::Branches::resolve_branch, stmt_walk::specs::Walks::beside_p))]
@@ -265,8 +306,9 @@ fn resolve_branch(
     if access::byte(section.stream, cond.next, 0) == statement::DST_LABEL {
         return label_branch(section, scope, actions, temporaries, env, cond, walk);
     }
-    jump(section, scope, actions, temporaries, env, cond, walk)
-        .map_err(|refusal| stop(walk, refusal))
+    jump(section, scope, actions, temporaries, env, cond, walk).map_err(|refusal| stop(
+        walk, refusal,
+    ))
 }
 
 #[tactic(auto, unfolding(crate::specs::Branches::branch))]

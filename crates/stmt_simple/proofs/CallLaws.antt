@@ -32,7 +32,7 @@ use Rattle.stmt_walk.specs.Outcomes.{Walk}
 use Rattle.stmt_walk.specs.Outcomes.{Step}
 use Rattle.stmt_simple.specs.Outcomes.{Called}
 use Rattle.stmt_walk.specs.Walks.{stepped, stop, pushed_then}
-use Rattle.access.proofs.LoopLaws.{run_end, one_less}
+use Rattle.access.proofs.LoopLaws.{run_start, run_again, run_end, one_less}
 use Rattle.stmt_simple.specs.Calls.{symbol_called, called_of, delay_slot, ArgsRead, args_read, read_args, write_input, write_inputs, push_user_op, user_op_read, user_op_args, step_args, user_op_statement, macro_at, bind_name, bind_names, counted, macro_counted, macro_args}
 
 -- ---- user ops; what is left to read gives the whole, B
@@ -78,3 +78,7 @@ bind_names_law n i s names args q h e = run_end n i (bind_name s names) q _ h e
 pub macro_at_law : (t : List ℕ) (id r : ℕ) → r ≡ get_or t (3072 + id % 128) 0 → r ≡ macro_at t id
 unfolding macro_at
 macro_at_law t id r h = h
+
+pub ruleset args_laws = (args_start, args_end, args_stop, args_next)
+pub ruleset inputs_laws = (input_law, inputs_law, run_start, run_again)
+pub ruleset names_laws = (bind_name_law, bind_names_law, run_start, run_again)

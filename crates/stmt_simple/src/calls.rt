@@ -78,7 +78,9 @@ pub fn delay_slot(
     }
 }
 
-// Reads n arguments in place: each slot's value becomes an operand.
+// Reads n arguments in place: each slot's value becomes an operand. The slots go round after eight, as those of a scope's
+// parameters do, so these loops count arguments, and their number stands beside the words.
+#[tactic(auto, using(crate::proofs::CallLaws::args_laws))]
 fn read_args(
     section: Section<'_>,
     actions: &mut [u64],
@@ -101,6 +103,7 @@ fn read_args(
 }
 
 // The operands that n arguments became, as the inputs of the action at a position.
+#[tactic(auto, using(crate::proofs::CallLaws::inputs_laws))]
 fn write_inputs(actions: &mut [u64], at: usize, args: &[u64], count: u64)
     ensures { actions.new ≡ write_inputs count actions.old at args.now }
 {
@@ -196,6 +199,7 @@ pub fn macro_at(table: &[u16; table::LENGTH], id: u64) -> usize
 }
 
 // Gives n arguments the names of the macro's parameters, which stand from a position on: each slot's first word.
+#[tactic(auto, using(crate::proofs::CallLaws::names_laws))]
 fn bind_names(stream: &[u8], args: &mut [u64], names: usize, count: usize)
     ensures { args.new ≡ bind_names count stream.now names args.old }
 {

@@ -12,7 +12,7 @@ use expr_reading::read::{read_operand, read_value};
 use expr_resolver::expr::{DEPTH, resolve_expr};
 use expr_scope::scope::{ExprValue, named_tmp};
 use expr_scope::symbols::{Symbol, lookup};
-use expr_terms::answers::after;
+use expr_terms::answers::{Resolved, after};
 use list_pushes::push::{Env, Operation, State, push, push_op};
 use list_values::section::Section;
 use list_values::sizes::entry;
@@ -50,14 +50,13 @@ fn export_of(
     actions: &mut [u64],
     temporaries: &mut [u64],
     env: Env,
-    expr: ExprValue,
-    next: usize,
-    state: State,
+    expr: Resolved,
     walk: Walk,
 ) -> Result<(usize, Walk), Refusal>
-    ensures { stepped (to_step walk result) actions.new temporaries.new ≡ export_of section.entry.stream.now section.entry.table.now actions.old temporaries.old env expr next state (to_walk walk) }
+    ensures { stepped (to_step walk result) actions.new temporaries.new ≡ export_of section.entry.stream.now section.entry.table.now actions.old temporaries.old env expr.value expr.next expr.state (to_walk walk) }
 {
-    let (export, st) = match expr {
+    let Resolved { next, value, state } = expr;
+    let (export, st) = match value {
         ExprValue::RamRef { pointer, size } => (Export::RamRef { pointer, size }, state),
         ExprValue::RegisterRef { pointer, size } => (Export::RegisterRef { pointer, size }, state),
         ExprValue::Local(_)
@@ -66,8 +65,8 @@ fn export_of(
         | ExprValue::Apply(_)
         | ExprValue::AddressOf { .. }
         | ExprValue::BitRange { .. } => {
-            let (value, st) = read_operand(section, actions, temporaries, env, expr, state)?;
-            (Export::Value(value), st)
+            let (read, st) = read_operand(section, actions, temporaries, env, value, state)?;
+            (Export::Value(read), st)
         }
     };
     let export = Some(export);
@@ -97,16 +96,7 @@ pub fn export_statement(
         temporaries,
         walk.st,
     )?;
-    export_of(
-        section,
-        actions,
-        temporaries,
-        env,
-        expr.value,
-        expr.next,
-        expr.state,
-        walk,
-    )
+    export_of(section, actions, temporaries, env, expr, walk)
 }
 
 #[tactic(auto, unfolding(crate::specs::Simple::local_statement, stmt_walk::specs::Walks::step_read, stmt_walk::specs::Walks::read_then))]
@@ -188,13 +178,10 @@ fn find_subtable(section: Section<'_>, count: u64, wanted: u64) -> Option<u64>
     ensures within { IfSome result (λ i. i < count) }
     ensures found { unwrap_or result count ≡ find_subtable count 0 section.entry.stream.now section.entry.table.now wanted }
 {
-    for i in 0..count {
+    (0..count).find(|&i| {
         let at = entry(section.table, table::SUBTABLES, i % 65536 * 4);
-        if u16_in(section.stream, at, 2) == wanted {
-            return Some(i);
-        }
-    }
-    None
+        u16_in(section.stream, at, 2) == wanted
+    })
 }
 
 #[tactic(auto, unfolding(crate::specs::Simple::build_table, crate::specs::Simple::build_subtable, list_values::specs::Base::then_l, stmt_walk::specs::Walks::pushed_then))]
@@ -208,9 +195,7 @@ fn build_table(
     ensures { listed (to_step walk result) actions.new ≡ build_table section.entry.stream.now section.entry.table.now actions.old wanted pos (to_walk walk) }
 {
     let count = access::u16_at(section.stream, header::SUBTABLES);
-    let Some(number) = find_subtable(section, count, wanted) else {
-        return Err(Refusal::AbsentTable);
-    };
+    let number = find_subtable(section, count, wanted).ok_or(Refusal::AbsentTable)?;
     let build = Operation {
         number,
         ..Operation::nullary(0)
