@@ -56,7 +56,7 @@ pub fn fix_size(
     }
 }
 
-#[tactic(auto, using(crate::proofs::EndLaws::fix_operand_law, crate::proofs::EndLaws::fix_sized))]
+#[tactic(auto, using(crate::proofs::EndLaws::fix_sized), unfolding(crate::specs::End::fix_operand, crate::specs::End::put_fixed))]
 fn fix_operand(
     section: Section<'_>,
     actions: &mut [u64],

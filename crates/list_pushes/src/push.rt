@@ -180,7 +180,7 @@ pub fn push(
 }
 
 // The rule of the action pushed last.
-#[tactic(auto, using(crate::proofs::PushLaws::push_laws))]
+#[tactic(auto, using(crate::proofs::PassLaws::pass_one), unfolding(crate::specs::Pushes::update_last, list_values::specs::Sizes::then_s))]
 fn update_last(
     section: Section<'_>,
     actions: &mut [u64],
