@@ -1,39 +1,23 @@
 -- One law for each way out of the functions over calls.
-use mathlib.Core.Path.{◌≡◌, refl}
-use mathlib.Core.List.{List, [], ◌∷◌}
+use mathlib.Core.Path.{◌≡◌}
+use mathlib.Core.List.{List}
 use Prim.Native.Nat.{ℕ, suc, ◌+◌, ◌-◌, ◌*◌, ◌%◌, ◌≤◌, ◌<◌}
 use native.Mathlib.Omega.{arith}
-use lib.ListN.{get_or, set, replicate}
-use types.Run.{OneOf, miss}
-use denote.Enum.Declared.{tag_of}
-use borrow.Author.Tests.{eq-eqb, ne_eqb}
+use lib.ListN.{get_or, set}
 use Rattle.access.specs.Le.{le16}
 use Rattle.list_values.specs.declared.value.Value.{Value}
 use Rattle.list_pushes.specs.declared.push.State.{State}
 use Rattle.list_pushes.specs.declared.push.Env.{Env}
 use Rattle.list_pushes.specs.Outcomes.{Read}
 use Rattle.list_pushes.specs.Outcomes.{Pushed}
-use Rattle.list_values.specs.Base.{listed, then_l}
-use Rattle.prelude.specs.Base.{when◌then◌else◌}
 use Rattle.access.specs.Loops.{run}
-use Rattle.list_values.specs.Values.{absent, no_output, value_at, put_value}
-use Rattle.list_pushes.specs.Pushes.{read, on_read, on_push, push}
+use Rattle.list_values.specs.Values.{value_at, put_value}
+use Rattle.list_pushes.specs.Pushes.{read, on_read}
 use Rattle.expr_scope.specs.declared.scope.ExprValue.{ExprValue}
-use Rattle.expr_scope.specs.Outcomes.{Args}
 use Rattle.expr_scope.specs.Slots.{param_place, arg_at}
-use Rattle.expr_scope.specs.declared.symbols.Symbol.{Symbol}
-use Rattle.expr_scope.specs.contracts.symbols.Symbol as symbol
-use Rattle.expr_scope.specs.Symbols.{place_of, lookup}
 use Rattle.expr_reading.specs.Reading.{read_operand}
-use Rattle.expr_terms.specs.Answers.{passed, on_args, after}
-use Rattle.expr_terms.specs.Calls.{only_integer}
-use Rattle.expr_resolver.specs.Expressions.{resolve_args, resolve_expr}
-use Rattle.stmt_walk.specs.Outcomes.{Walk}
-use Rattle.stmt_walk.specs.Outcomes.{Step}
-use Rattle.stmt_simple.specs.Outcomes.{Called}
-use Rattle.stmt_walk.specs.Walks.{stepped, stop, pushed_then}
 use Rattle.access.proofs.LoopLaws.{run_start, run_again, run_end, one_less}
-use Rattle.stmt_simple.specs.Calls.{symbol_called, called_of, delay_slot, ArgsRead, args_read, read_args, write_input, write_inputs, push_user_op, user_op_read, user_op_args, step_args, user_op_statement, macro_at, bind_name, bind_names, counted, macro_counted, macro_args}
+use Rattle.stmt_simple.specs.Calls.{ArgsRead, args_read, read_args, write_input, write_inputs, macro_at, bind_name, bind_names}
 
 -- ---- user ops; what is left to read gives the whole, B
 pub args_start : (n : ℕ) (s t a m args : List ℕ) (e : Env) (st : State) → read_args (n - 0) 0 s t a m args e st ≡ read_args n 0 s t a m args e st
@@ -80,5 +64,7 @@ unfolding macro_at
 macro_at_law t id r h = h
 
 pub ruleset args_laws = (args_start, args_end, args_stop, args_next)
+
 pub ruleset inputs_laws = (input_law, inputs_law, run_start, run_again)
+
 pub ruleset names_laws = (bind_name_law, bind_names_law, run_start, run_again)
