@@ -51,9 +51,9 @@ unfolding write_inputs
 inputs_law n i a b at args h e = run_end n i (write_input at args) b _ h e
 
 -- ---- what a macro is given
-pub bind_name_law : (s : List ℕ) (names i : ℕ) (args args1 : List ℕ) (name at : ℕ) → (name ≡ le16 s (names + i % 8 * 2)) × (name < 65536) → at ≡ param_place i → args1 ≡ set args (at + 0) name → args1 ≡ bind_name s names i args
+pub bind_name_law : (s : List ℕ) (names i : ℕ) (args args1 : List ℕ) (name at : ℕ) → name ≡ le16 s (names + i % 8 * 2) → at ≡ param_place i → args1 ≡ set args (at + 0) name → args1 ≡ bind_name s names i args
 unfolding bind_name
-bind_name_law s names i args args1 name at en ea h = rw (← en.0, ← ea) h
+bind_name_law s names i args args1 name at en ea h = rw (← en, ← ea) h
 
 pub bind_names_law : (n i : ℕ) (s : List ℕ) (names : ℕ) (args q : List ℕ) → n ≤ i → run (n - i) i (bind_name s names) q ≡ run n 0 (bind_name s names) args → q ≡ bind_names n s names args
 unfolding bind_names
