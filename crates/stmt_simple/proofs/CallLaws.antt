@@ -1,39 +1,23 @@
 -- One law for each way out of the functions over calls.
-use mathlib.Core.Path.{◌≡◌, refl}
-use mathlib.Core.List.{List, [], ◌∷◌}
+use mathlib.Core.Path.{◌≡◌}
+use mathlib.Core.List.{List}
 use Prim.Native.Nat.{ℕ, suc, ◌+◌, ◌-◌, ◌*◌, ◌%◌, ◌≤◌, ◌<◌}
 use native.Mathlib.Omega.{arith}
-use lib.ListN.{get_or, set, replicate}
-use types.Run.{OneOf, miss}
-use denote.Enum.Declared.{tag_of}
-use borrow.Author.Tests.{eq-eqb, ne_eqb}
+use lib.ListN.{get_or, set}
 use Rattle.access.specs.Le.{le16}
 use Rattle.list_values.specs.declared.value.Value.{Value}
 use Rattle.list_pushes.specs.declared.push.State.{State}
 use Rattle.list_pushes.specs.declared.push.Env.{Env}
 use Rattle.list_pushes.specs.Outcomes.{Read}
 use Rattle.list_pushes.specs.Outcomes.{Pushed}
-use Rattle.list_values.specs.Base.{listed, then_l}
-use Rattle.prelude.specs.Base.{when◌then◌else◌}
 use Rattle.access.specs.Loops.{run}
-use Rattle.list_values.specs.Values.{absent, no_output, value_at, put_value}
-use Rattle.list_pushes.specs.Pushes.{read, on_read, on_push, push}
+use Rattle.list_values.specs.Values.{value_at, put_value}
+use Rattle.list_pushes.specs.Pushes.{read, on_read}
 use Rattle.expr_scope.specs.declared.scope.ExprValue.{ExprValue}
-use Rattle.expr_scope.specs.Outcomes.{Args}
 use Rattle.expr_scope.specs.Slots.{param_place, arg_at}
-use Rattle.expr_scope.specs.declared.symbols.Symbol.{Symbol}
-use Rattle.expr_scope.specs.contracts.symbols.Symbol as symbol
-use Rattle.expr_scope.specs.Symbols.{place_of, lookup}
 use Rattle.expr_reading.specs.Reading.{read_operand}
-use Rattle.expr_terms.specs.Answers.{passed, on_args, after}
-use Rattle.expr_terms.specs.Calls.{only_integer}
-use Rattle.expr_resolver.specs.Expressions.{resolve_args, resolve_expr}
-use Rattle.stmt_walk.specs.Outcomes.{Walk}
-use Rattle.stmt_walk.specs.Outcomes.{Step}
-use Rattle.stmt_simple.specs.Outcomes.{Called}
-use Rattle.stmt_walk.specs.Walks.{stepped, stop, pushed_then}
 use Rattle.access.proofs.LoopLaws.{run_start, run_again, run_end, one_less}
-use Rattle.stmt_simple.specs.Calls.{symbol_called, called_of, delay_slot, ArgsRead, args_read, read_args, write_input, write_inputs, push_user_op, user_op_read, user_op_args, step_args, user_op_statement, macro_at, bind_name, bind_names, counted, macro_counted, macro_args}
+use Rattle.stmt_simple.specs.Calls.{ArgsRead, args_read, read_args, write_input, write_inputs, macro_at, bind_name, bind_names}
 
 -- ---- user ops; what is left to read gives the whole, B
 pub args_start : (n : ℕ) (s t a m args : List ℕ) (e : Env) (st : State) → read_args (n - 0) 0 s t a m args e st ≡ read_args n 0 s t a m args e st
@@ -67,9 +51,9 @@ unfolding write_inputs
 inputs_law n i a b at args h e = run_end n i (write_input at args) b _ h e
 
 -- ---- what a macro is given
-pub bind_name_law : (s : List ℕ) (names i : ℕ) (args args1 : List ℕ) (name at : ℕ) → (name ≡ le16 s (names + i % 8 * 2)) × (name < 65536) → at ≡ param_place i → args1 ≡ set args (at + 0) name → args1 ≡ bind_name s names i args
+pub bind_name_law : (s : List ℕ) (names i : ℕ) (args args1 : List ℕ) (name at : ℕ) → name ≡ le16 s (names + i % 8 * 2) → at ≡ param_place i → args1 ≡ set args (at + 0) name → args1 ≡ bind_name s names i args
 unfolding bind_name
-bind_name_law s names i args args1 name at en ea h = rw (← en.0, ← ea) h
+bind_name_law s names i args args1 name at en ea h = rw (← en, ← ea) h
 
 pub bind_names_law : (n i : ℕ) (s : List ℕ) (names : ℕ) (args q : List ℕ) → n ≤ i → run (n - i) i (bind_name s names) q ≡ run n 0 (bind_name s names) args → q ≡ bind_names n s names args
 unfolding bind_names
@@ -80,5 +64,7 @@ unfolding macro_at
 macro_at_law t id r h = h
 
 pub ruleset args_laws = (args_start, args_end, args_stop, args_next)
+
 pub ruleset inputs_laws = (input_law, inputs_law, run_start, run_again)
+
 pub ruleset names_laws = (bind_name_law, bind_names_law, run_start, run_again)

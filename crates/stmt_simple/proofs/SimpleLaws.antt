@@ -1,55 +1,27 @@
--- One law for each way out of the statements of one step and of the stores.
-use mathlib.Core.Path.{◌∙◌, ◌≡◌, refl}
-use mathlib.Core.Bool.{true}
-use mathlib.Core.List.{List, [], ◌∷◌}
-use Prim.Native.Nat.{ℕ, suc, ◌+◌, ◌-◌, ◌*◌, ◌%◌, ◌≤◌, ◌<◌}
-use native.Mathlib.Omega.{arith}
-use types.Run.{OneOf, miss}
-use denote.Enum.Declared.{tag_of}
-use borrow.Author.Tests.{eq-eqb, ne_eqb, lt-ltb, le-ltb}
+-- The search for a subtable.
+use Rattle.std.proofs.Common.{◌≡◌, ap, refl, ◌∙◌, ℕ, suc, zero, ◌+◌, ◌*◌, ◌%◌, Bool, true, false, cond, eqb, List, Option, Some, None, unwrap_or, option_map, arith}
+use Rattle.std.specs.List.{find, range_with_len}
 use Rattle.access.specs.Le.{le16}
-use Rattle.list_values.specs.declared.value.Value.{Value}
-use Rattle.list_pushes.specs.declared.push.State.{State}
-use Rattle.list_pushes.specs.declared.push.Env.{Env}
-use Rattle.list_pushes.specs.Outcomes.{Read}
-use Rattle.list_pushes.specs.Outcomes.{Pushed}
-use Rattle.list_values.specs.Base.{listed, then_l}
-use Rattle.prelude.specs.Base.{when◌then◌else◌}
-use Rattle.list_values.specs.Values.{absent, no_output}
 use Rattle.list_values.specs.Sizes.{entry}
-use Rattle.list_pushes.specs.Pushes.{read, pushed, on_read, push, push_op}
-use Rattle.expr_scope.specs.declared.scope.ExprValue.{ExprValue}
-use Rattle.expr_terms.specs.Outcomes.{Expr}
-use Rattle.expr_scope.specs.declared.symbols.Symbol.{Symbol}
-use Rattle.expr_scope.specs.contracts.symbols.Symbol as symbol
-use Rattle.expr_scope.specs.Symbols.{place_of, lookup}
-use Rattle.expr_scope.specs.Scopes.{named_tmp}
-use Rattle.expr_reading.specs.Reading.{read_value, read_operand}
-use Rattle.expr_terms.specs.Answers.{resolved, on_expr, after}
-use Rattle.expr_resolver.specs.Expressions.{resolve_expr}
-use Rattle.stmt_walk.specs.Outcomes.{Walk}
-use Rattle.stmt_walk.specs.Outcomes.{Step}
-use Rattle.stmt_walk.specs.Walks.{stepped, walked, step_pushed, step_read, beside_p, stop, pushed_then, read_then}
-use Rattle.stmt_simple.specs.Simple.{unimplemented, exported, export_value, export_read, export_of, export_statement, local_statement, assign, local_assignment, find_subtable, build_subtable, build_table, build_symbol, build}
-use Rattle.access.proofs.LoopLaws.{one_less}
+use Rattle.stmt_simple.specs.Simple.{find_subtable}
 
-pub find_start : (n : ℕ) (s t : List ℕ) (table : ℕ) → find_subtable (n - 0) 0 s t table ≡ find_subtable n 0 s t table
-find_start n s t table = let z : n - 0 ≡ n = omega arith in rw z
+-- the first of some subtables that has a table, as the search for it finds it
+module _ (s t : List ℕ) (table m : ℕ) where
+  step : (b : Bool) (i : ℕ) (rest : Option ℕ) (r : ℕ) → unwrap_or rest m ≡ r → unwrap_or (cond b (Some i) rest) m ≡ cond b i r
+  step true i rest r e = refl
+  step false i rest r e = e
 
-module _ (n i : ℕ) (s t : List ℕ) (table at w r : ℕ) (h : i < n) (g : at ≡ entry t 8 (i % 65536 * 4)) (k : (w ≡ le16 s (at + 2)) × (w < 65536)) (e : find_subtable (n - i) i s t table ≡ r) where
-  pub find_hit : w ≡ table → i ≡ r
+  found : (n i : ℕ) → i + n ≡ m → unwrap_or (find (λ k. eqb (le16 s (entry t 8 (k % 65536 * 4) + 2)) table) (range_with_len i n)) m ≡ find_subtable n i s t table
   unfolding find_subtable
-  find_hit q = rw (one_less n i h, ← g, ← k.0, eq-eqb w table q) at e
-
-  pub find_miss : (w ≡ table → ⊥) → find_subtable (n - (i + 1)) (i + 1) s t table ≡ r
-  unfolding find_subtable
-  find_miss q =
+  found zero i e = omega arith
+  found (suc n) i e =
       let o : i + 1 ≡ suc i = omega arith in
-      rw o (rw (one_less n i h, ← g, ← k.0, ne_eqb w table q, o) at e)
+      let r : unwrap_or (find (λ k. eqb (le16 s (entry t 8 (k % 65536 * 4) + 2)) table) (range_with_len (i + 1) n)) m ≡ find_subtable n (suc i) s t table = rw o (found n (suc i) (omega arith)) in
+      step (eqb (le16 s (entry t 8 (i % 65536 * 4) + 2)) table) i (find (λ k. eqb (le16 s (entry t 8 (k % 65536 * 4) + 2)) table) (range_with_len (i + 1) n)) (find_subtable n (suc i) s t table) r
 
-pub find_end : (n i : ℕ) (s t : List ℕ) (table r : ℕ) → n ≤ i → i ≤ n → find_subtable (n - i) i s t table ≡ r → n ≡ r
-unfolding find_subtable
-find_end n i s t table r h k e =
-    let z : n - i ≡ 0 = omega arith in
-    let o : n ≡ i = omega arith in
-    o ∙ rw z at e
+  mapped : (r : Option ℕ) → unwrap_or r m ≡ unwrap_or (option_map (λ k. k) r) m
+  mapped (Some i) = refl
+  mapped None = refl
+
+  pub found_law : (r : Option ℕ) → option_map (λ k. k) r ≡ find (λ k. eqb (le16 s (entry t 8 (k % 65536 * 4) + 2)) table) (range_with_len 0 m) → unwrap_or r m ≡ find_subtable m 0 s t table
+  found_law r e = mapped r ∙ (ap (λ o. unwrap_or o m) e ∙ found m 0 (omega arith))
