@@ -2,6 +2,7 @@
 use Prim.Native.Nat.{ℕ, zero, suc, ◌+◌, ◌*◌, ◌/◌, ◌%◌, ◌^◌, ◌≤◌, ◌<◌}
 use mathlib.Core.Path.{◌≡◌, refl, sym, ap}
 use mathlib.Core.Bool.{Bool, true, false, ◌&&◌, not}
+use Rattle.std.proofs.Math.Bool.{and-true}
 use mathlib.Core.List.{List, [], ◌∷◌, ◌++◌}
 use mathlib.Core.Option.{none, some}
 use native.Mathlib.Omega.{arith}
@@ -158,15 +159,11 @@ same-zeros (x ∷ r) = rw (same-zeros r) (go (eqb x 0))
     go true = refl
     go false = refl
 
-pub and_true : (b : Bool) → (b && true) ≡ b
-and_true true = refl
-and_true false = refl
-
 -- the inputs are read, written as the same words, and fit
 pub inputs_fit_lem : (t s n : ℕ) (r : List ℕ) → 2 * n ≤ length r →
     (inputs_known n r && (same_numbers r (filled (length r) (input_words (inputs_of n r))) && all (value_fits t s) (inputs_of n r))) ≡ values_fit t s false n r
 unfolding inputs_known inputs_of values_fit input_words all same_numbers filled
-inputs_fit_lem t s zero r h = rw (same-zeros r) (and_true (zeros r))
+inputs_fit_lem t s zero r h = rw (same-zeros r) (and-true (zeros r))
 inputs_fit_lem t s (suc n) [] h = absurd (omega arith)
 inputs_fit_lem t s (suc n) (x ∷ []) h = absurd (omega arith)
 inputs_fit_lem t s (suc n) (x ∷ y ∷ r) h = rw (← value_fit_lem t s x y, ← inputs_fit_lem t s n r (omega arith)) (go (known y) refl)
