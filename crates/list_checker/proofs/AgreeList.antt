@@ -274,16 +274,7 @@ all_built_lem (suc m) n ws found r = rw (any_builds_lem m n ws found r, all_buil
 -- The whole list.
 
 arrange : (sb l z lab b r zs labw bw : Bool) → (sb && (l && z)) ≡ (r && zs) → (r ≡ true → lab ≡ labw) → b ≡ bw → (sb && l && z && lab && b) ≡ (zs && (r && (labw && bw)))
-arrange sb l z lab b r zs labw bw e f g = rw (g, ← e2, e) (go r zs f)
-  where
-    e2 : (sb && (l && z)) ≡ (sb && l && z)
-    e2 = sym (and_assoc sb l z)
-
-    go : (r zs : Bool) → (r ≡ true → lab ≡ labw) → (r && zs && lab && bw) ≡ (zs && (r && (labw && bw)))
-    go true true f = rw (f refl)
-    go true false f = refl
-    go false true f = refl
-    go false false f = refl
+arrange sb l z lab b r zs labw bw h1 h2 h3 = grind (arith, nat_tests)
 
 listed : (t s p n : ℕ) (ws : List ℕ) (found : List SemanticAction) → Reads n ws found → 24 * n ≤ length ws → list_holds ws t s p found ≡ (zeros (drop (24 * n) ws) && list_fit t s p n ws)
 unfolding list_holds list_fit

@@ -1,6 +1,6 @@
 -- One action: its words fit exactly if they are read as an action that is written as just these words, and whose layout and
 -- sizes are right.
-use Prim.Native.Nat.{ℕ, zero, suc, ◌/◌, ◌%◌, ◌≤◌, ◌<◌, min}
+use Prim.Native.Nat.{ℕ, zero, suc, ◌/◌, ◌%◌, ◌≤◌, min}
 use mathlib.Core.Path.{◌≡◌, refl, sym, ◌∙◌, ap}
 use mathlib.Core.Bool.{Bool, true, false, ◌&&◌, ◌||◌, not}
 use Rattle.std.proofs.lemmas.Bool.Decides.{nat_tests}
@@ -11,7 +11,7 @@ use native.Mathlib.Omega.{arith}
 use Rattle.std.proofs.lemmas.Grind.{common_steps}
 use lib.ListN.{length, get_or}
 use lib.Dec.{eqb, leb, ltb}
-use borrow.Author.Tests.{eq-eqb, ne_eqb, leb-true, leb-false, eqb-true, eqb-false}
+use borrow.Author.Tests.{eq-eqb, eqb-true}
 use Rattle.prelude.specs.Base.{when◌then◌else◌, or_else, and_then, is_some, all, same_numbers}
 use Rattle.definition.specs.Sizes as sz
 use Rattle.definition.specs.Operations.{Operation, operation_number}
@@ -125,26 +125,14 @@ module _ (t s n x m : ℕ) (rest after : List ℕ) where
 
 plain-base : (n x : ℕ) → plain_base (value_of n x) ≡ (eqb (x / 16777216) 65535 && eqb (x / 256 % 65536) 0)
 unfolding plain_base value_of size_from is_some
-plain-base n x = go (eqb (x / 16777216) 65535)
-  where
-    go : (b : Bool) → (not (is_some (when b then none else some (x / 16777216))) && eqb (x / 256 % 65536) 0) ≡ (b && eqb (x / 256 % 65536) 0)
-    go true = refl
-    go false = refl
+plain-base n x = grind (arith, nat_tests)
 
 one-base : (x y : ℕ) (r : List ℕ) → all plain_base (inputs_of 1 (x ∷ y ∷ r)) ≡ (eqb (y / 16777216) 65535 && eqb (y / 256 % 65536) 0)
 unfolding all inputs_of
 one-base x y r = rw (plain-base x y) (if_and _ true ∙ and-true _)
 
 base_word : (x : ℕ) → (eqb (x / 16777216) 65535 && eqb (x / 256 % 65536) 0) ≡ eqb (x / 256) 4294901760
-base_word x = go (eqb (x / 16777216) 65535) refl (eqb (x / 256 % 65536) 0) refl
-  where
-    go : (a : Bool) → eqb (x / 16777216) 65535 ≡ a → (b : Bool) → eqb (x / 256 % 65536) 0 ≡ b → (a && b) ≡ eqb (x / 256) 4294901760
-    go false e b f = let d : x / 16777216 ≡ 65535 → ⊥ = eqb-false _ _ e in sym (ne_eqb (x / 256) 4294901760 (λ z. d (omega arith)))
-    go true e false f = let d : x / 256 % 65536 ≡ 0 → ⊥ = eqb-false _ _ f in sym (ne_eqb (x / 256) 4294901760 (λ z. d (omega arith)))
-    go true e true f =
-        let y : x / 16777216 ≡ 65535 = eqb-true _ _ e in
-        let z : x / 256 % 65536 ≡ 0 = eqb-true _ _ f in
-        sym (eq-eqb (x / 256) 4294901760 (omega arith))
+base_word x = grind (arith, nat_tests)
 
 -- The conditions, put in the words' order.
 
@@ -168,11 +156,7 @@ bare : (p e l a d i v : Bool) → (p && (e && true && l) && (a && d && (i && tru
 bare p e l a d i v = grind (arith, nat_tests)
 
 to_eight : (n : ℕ) → eqb n (min n 8) ≡ leb n 8
-to_eight n = go (leb n 8) refl
-  where
-    go : (b : Bool) → leb n 8 ≡ b → eqb n (min n 8) ≡ b
-    go true e = let h : n ≤ 8 = leb-true n 8 e in eq-eqb n (min n 8) (omega arith)
-    go false e = let h : 8 < n = leb-false n 8 e in ne_eqb n (min n 8) (λ z. omega arith)
+to_eight n = grind (arith, nat_tests)
 
 chain : (a b c d x : Bool) → a ≡ true → c ≡ true → (when a then (when b then (when c then (when d then x else false) else false) else false) else false) ≡ (b && (d && x))
 chain a b c d x e f = grind (arith, nat_tests)
@@ -192,7 +176,7 @@ taken true false kind number inputs output f = refl
 taken true true kind number inputs output f = refl
 
 few : (n : ℕ) → leb n 8 ≡ true → min n 8 ≡ n
-few n e = let h : n ≤ 8 = leb-true n 8 e in omega arith
+few n h1 = grind (arith, nat_tests)
 
 module _ (t s p op num cnt o0 o1 x0 y0 x1 y1 : ℕ) (r : List ℕ) where
   abbrev words : List ℕ

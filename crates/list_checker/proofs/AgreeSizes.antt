@@ -1,5 +1,6 @@
 -- The sizes of one operation: the definition's steps ask of the values read what the rules ask of the words.
-use Prim.Native.Nat.{ℕ, zero, suc, ◌/◌, ◌≤◌}
+use Rattle.std.proofs.lemmas.Bool.Decides.{nat_tests}
+use Prim.Native.Nat.{ℕ, zero, suc, ◌/◌}
 use mathlib.Core.Path.{◌≡◌, refl, sym, ◌∙◌}
 use mathlib.Core.Bool.{Bool, true, false, ◌&&◌, ◌||◌, not}
 use Rattle.std.proofs.Math.Bool.{and_assoc, and-true}
@@ -8,7 +9,7 @@ use mathlib.Core.Option.{Option, none, some}
 use native.Mathlib.Omega.{arith}
 use lib.ListN.{get_or, drop}
 use lib.Dec.{eqb, leb, ltb}
-use borrow.Author.Tests.{eq-eqb, ne_eqb, le-ltb, eqb-true, eqb-false, not-true}
+use borrow.Author.Tests.{eq-eqb, eqb-true}
 use Rattle.prelude.specs.Base.{when◌then◌else◌, ◌or◌, or_else, and_then, is_some, any, all, first, contains}
 use Rattle.definition.specs.Value.{Value, ActionKind, SemanticAction}
 use Rattle.definition.specs.Sizes.{at, fixed_size}
@@ -31,57 +32,36 @@ output_of output number word = when output then some (value_of number word) else
 -- Tests.
 
 pub if_and : (a b : Bool) → (when a then b else false) ≡ (a && b)
-if_and true b = refl
-if_and false b = refl
+if_and a b = grind (arith, nat_tests)
 
 pub eqb_comm : (a b : ℕ) → eqb a b ≡ eqb b a
-eqb_comm a b = go (eqb a b) refl
-  where
-    go : (t : Bool) → eqb a b ≡ t → t ≡ eqb b a
-    go true e = sym (eq-eqb b a (sym (eqb-true a b e)))
-    go false e = let d : a ≡ b → ⊥ = eqb-false a b e in sym (ne_eqb b a (λ z. d (sym z)))
+eqb_comm a b = grind (arith, nat_tests)
 
 pub and_left : (a b : Bool) → (a && b) ≡ true → a ≡ true
-and_left true b e = refl
-and_left false b e = e
+and_left a b h1 = grind (arith, nat_tests)
 
 pub and_right : (a b : Bool) → (a && b) ≡ true → b ≡ true
-and_right true b e = e
-and_right false b e = cc
+and_right a b h1 = grind (arith, nat_tests)
 
 assoc_3 : (a b c d : Bool) → (a && (b && (c && d))) ≡ (a && b && c && d)
-assoc_3 true b c d = sym (and_assoc b c d)
-assoc_3 false b c d = refl
+assoc_3 a b c d = grind (arith, nat_tests)
 
 pub below_one : (n : ℕ) → ltb n 1 ≡ eqb n 0
-below_one zero = refl
-below_one (suc n) = go (suc n) (omega arith)
-  where
-    go : (m : ℕ) → 1 ≤ m → ltb m 1 ≡ eqb m 0
-    go m h = rw (le-ltb m 1 h, ne_eqb m 0 (λ z. omega arith))
+below_one n = grind (arith, nat_tests)
 
 -- counts of a user operation that has at most 8 inputs
 user-counts : (b few l : Bool) → ((when b then few else true) && l && true) ≡ (l && (not b || few))
-user-counts true true true = refl
-user-counts true true false = refl
-user-counts true false true = refl
-user-counts true false false = refl
-user-counts false few true = refl
-user-counts false few false = refl
+user-counts b few l = grind (arith, nat_tests)
 
 -- sized operands
 
 size_some : (z : ℕ) → not (eqb z 65535) ≡ true → size_from z ≡ some z
 unfolding size_from
-size_some z h = rw (not-true (eqb z 65535) h)
+size_some z h1 = grind (arith, nat_tests)
 
 sized_value : (n x : ℕ) → is_sized (value_of n x) ≡ not (eqb (x / 16777216) 65535)
 unfolding is_sized is_some value_of size_from
-sized_value n x = go (eqb (x / 16777216) 65535)
-  where
-    go : (b : Bool) → is_some (when b then none else some (x / 16777216)) ≡ not b
-    go true = refl
-    go false = refl
+sized_value n x = grind (arith, nat_tests)
 
 pub inputs-sized : (n : ℕ) (r : List ℕ) → all is_sized (inputs_of n r) ≡ inputs_sized n r
 unfolding all inputs_of inputs_sized
