@@ -2,6 +2,7 @@
 use Prim.Native.Nat.{ℕ, zero, suc, ◌+◌, ◌-◌, ◌*◌, ◌/◌, ◌≤◌, ◌<◌}
 use mathlib.Core.Path.{◌≡◌, refl, sym, ◌∙◌, ap}
 use mathlib.Core.Bool.{Bool, true, false, ◌&&◌, ◌||◌, not}
+use Rattle.std.proofs.Math.Bool.{and_assoc, and-true}
 use mathlib.Core.List.{List, [], ◌∷◌}
 use native.Mathlib.Omega.{arith}
 use native.Mathlib.Nat.{add-zero}
@@ -15,8 +16,7 @@ use Rattle.prelude.specs.Base.{when◌then◌else◌}
 use Rattle.definition.specs.Checker.{check}
 use Rattle.list_checker.specs.Action.{zeros, action_fit}
 use Rattle.list_checker.specs.Sweep.{Noted, noted, note_label, note_build, all_marked, when_new, sweep, rows_fit, labels_new, built_after, builds_it, any_builds, all_built_by, list_fit}
-use Rattle.list_checker.proofs.AgreeValue.{and_true}
-use Rattle.list_checker.proofs.AgreeSizes.{and_right, assoc}
+use Rattle.list_checker.proofs.AgreeSizes.{and_right}
 use Rattle.list_checker.proofs.FitLaws.{first_few}
 use Rattle.list_checker.proofs.AgreeList.{unmarked_at, check_agrees, check-short}
 
@@ -35,7 +35,7 @@ sweep_parts t s p base (suc n) ws seen built =
     go : ((next : List Bool) → sweep t s p base (first_chunks 24 n (drop 24 ws)) next (note_build base (take 24 ws) built) ≡ (rows_fit t s p n (drop 24 ws) && (labels_new n (drop 24 ws) next && all_marked (s - base) (built_after base n (drop 24 ws) (note_build base (take 24 ws) built))))) →
         (x : Noted) → (action_fit t s p (take 24 ws) && when_new x (λ next. sweep t s p base (first_chunks 24 n (drop 24 ws)) next (note_build base (take 24 ws) built)))
         ≡ (action_fit t s p (take 24 ws) && rows_fit t s p n (drop 24 ws) && (when_new x (λ next. labels_new n (drop 24 ws) next) && all_marked (s - base) (built_after base n (drop 24 ws) (note_build base (take 24 ws) built))))
-    go ih (noted true next) = rw (ih next) (sym (assoc (action_fit t s p (take 24 ws)) (rows_fit t s p n (drop 24 ws)) _))
+    go ih (noted true next) = rw (ih next) (sym (and_assoc (action_fit t s p (take 24 ws)) (rows_fit t s p n (drop 24 ws)) _))
     go ih (noted false next) = stop (action_fit t s p (take 24 ws)) (rows_fit t s p n (drop 24 ws)) (all_marked (s - base) (built_after base n (drop 24 ws) (note_build base (take 24 ws) built)))
 
 -- what a table of subtables holds after the actions
@@ -148,7 +148,7 @@ module _ (t s p base n : ℕ) (ws : List ℕ) (rows : List (List ℕ)) (r : Bool
   e = rw (read, first_few 24 (length ws / 24) n ws room) at swept
 
   marks : (c : ℕ) → c ≤ 256 → all_marked c (built_after base n ws (replicate 256 false)) ≡ all_built_by n ws (base + c)
-  marks c h = sym (and_true _) ∙ rw known at (marks_more base n c ws h)
+  marks c h = sym (and-true _) ∙ rw known at (marks_more base n c ws h)
 
   few : s - base ≤ 256 → r ≡ (rows_fit t s p n ws && (labels_new n ws (replicate 256 false) && all_built_by n ws (base + (s - base))))
   few h = rw (← marks (s - base) h) (e ∙ sweep_parts t s p base n ws (replicate 256 false) (replicate 256 false))
