@@ -1,5 +1,5 @@
 -- What is counted of a section, and of a file that is refused.
-use mathlib.Core.Path.{◌≡◌, refl, sym, ◌∙◌}
+use mathlib.Core.Path.{◌≡◌, refl, sym, ◌∙◌, ap}
 use mathlib.Core.Bool.{Bool, true, false}
 use mathlib.Core.List.{List}
 use Prim.Native.Nat.{ℕ, ◌/◌}
@@ -14,8 +14,8 @@ use Rattle.definition.specs.SectionFile.{stream_of, read}
 use Rattle.definition.specs.Passing.{subtable_count, pointer_size_in}
 use Rattle.file_blocks.specs.Blocks.{refusal_of, joined}
 use Rattle.file_section.specs.Stream.{answer}
+use Rattle.file_section.specs.Stream as streams
 use Rattle.resolve_file.specs.Sections.{GivenSection, read_table, read_file}
-use Rattle.resolve_counts.specs.declared.Counts.{Counts}
 use Rattle.resolve_counts.specs.Counts.{counts, table_counts, read_counts, stream_counts}
 use Rattle.resolve_counts.proofs.Theorem.{file-counts, refused-counts}
 
@@ -31,7 +31,7 @@ module _ (file : List ℕ) where
           answer 0 table ≡ (when b then read_table (joined (length file / 512) file) else answer (refusal_of (stream_of file)) (replicate 3344 0)) →
           table_counts stream table ≡ counts (subtable_count (read file)) (pointer_size_in (read file))
       go true e f = let k : stream_counts (joined (length file / 512) file) ≡ table_counts stream table = rw (← f, s.stream_is) in sym k ∙ file-counts file (eqb-true _ _ e)
-      go false e f = let z : 0 ≡ refusal_of (stream_of file) = cc in absurd (eqb-false _ _ e (sym z))
+      go false e f = let z : 0 ≡ refusal_of (stream_of file) = ap (λ (x : streams.Answer). x.refusal) f in absurd (eqb-false _ _ e (sym z))
 
   pub by_refusal : (r : Refusal) → number r ≡ (read_file file).refusal → counts 0 0 ≡ counts (subtable_count (read file)) (pointer_size_in (read file))
   unfolding stream_counts read_counts read_file read_table

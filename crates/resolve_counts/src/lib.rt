@@ -39,7 +39,10 @@ pub fn section_counts(file: &[u8]) -> Counts
     ensures { result ≡ counts (subtable_count (read file.now)) (pointer_size_in (read file.now)) }
 {
     let mut counts = NO_COUNTS;
-    let read = with_section(file, &mut |section: Section<'_>| counts = table_counts(section));
+    let read = with_section(
+        file,
+        &mut |section: Section<'_>| counts = table_counts(section),
+    );
     match read {
         Ok(()) => counts,
         Err(_) => NO_COUNTS,
