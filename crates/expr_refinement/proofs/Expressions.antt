@@ -296,11 +296,11 @@ module _ (s t : List ℕ) (e : Env) (p front tail rest : List ℕ) (we : WordEnv
   unfolding seen_operand applied_to apply2 seen_expr
   apply_second op ok v end mid next q st h y o r =
       bind e.section front tail rest spare spare e st (λ (v : Value). (enc_v v, mid)) (Sound e.section) seen_expr (λ (x : ExprValue). (enc_x x, next)) (SoundX e.section) (λ right. λ e1 st1. done (ExprValue.Apply op 0 (v ∷ right ∷ [])) st1)
-      (seen_operand y) o (applied_to y (apply2 (operation_number op) (enc_v v) end)) (λ u st1 a m. resolved (Expr.Value (later end u.1) (WordExpr.Apply (operation_number op) 0 2 (enc_v v) u.0) st1) a m) r
+      (seen_operand y) o (applied_to y (apply2 (operation_number op) (enc_v v) end)) (λ u st1 a m. resolved (Expr.Value (later end u.1) (WordExpr.Apply (record { code = operation_number op; number = 0; count = 2; first = enc_v v; second = u.0 })) st1) a m) r
       (λ u st1 g k. rw q (unfold enc_x first_of second_of in answers next st1 g.stood (ExprValue.Apply op 0 (v ∷ u ∷ [])) (omega arith, ok v u, (sound_more e.section (count st) (count st1) g.later.temporaries v h, (k, tt)))))
       (go y) (stop y)
     where
-      go : (y : OperandOut) (u : WordValue × ℕ) (st1 : WordState) (a m : List ℕ) → seen_operand y ≡ yes u st1 a m → seen_expr (applied_to y (apply2 (operation_number op) (enc_v v) end)) ≡ seen_expr (resolved (Expr.Value (later end u.1) (WordExpr.Apply (operation_number op) 0 2 (enc_v v) u.0) st1) a m)
+      go : (y : OperandOut) (u : WordValue × ℕ) (st1 : WordState) (a m : List ℕ) → seen_operand y ≡ yes u st1 a m → seen_expr (applied_to y (apply2 (operation_number op) (enc_v v) end)) ≡ seen_expr (resolved (Expr.Value (later end u.1) (WordExpr.Apply (record { code = operation_number op; number = 0; count = 2; first = enc_v v; second = u.0 })) st1) a m)
       go (operand (Operand.Value z n st2) b w) u st1 a m q = (let i : (z, n) ≡ u = cc in let j : st2 ≡ st1 = cc in let k : b ≡ a = cc in let l : w ≡ m = cc in rw (← i, j, k, l))
       go (operand (Operand.No n) b w) u st1 a m q = cc
 
@@ -353,11 +353,11 @@ module _ (s t : List ℕ) (e : Env) (p front tail rest : List ℕ) (we : WordEnv
   unfolding seen_operand applied_to apply1 seen_expr
   apply_first op ok next st y o r =
       bind e.section front tail rest spare spare e st (λ (v : Value). (enc_v v, next)) (Sound e.section) seen_expr (λ (x : ExprValue). (enc_x x, next)) (SoundX e.section) (λ v. λ e1 st1. done (ExprValue.Apply op 0 (v ∷ [])) st1)
-      (seen_operand y) o (applied_to y (apply1 (operation_number op))) (λ u st1 a m. resolved (Expr.Value u.1 (WordExpr.Apply (operation_number op) 0 1 u.0 absent) st1) a m) r
+      (seen_operand y) o (applied_to y (apply1 (operation_number op))) (λ u st1 a m. resolved (Expr.Value u.1 (WordExpr.Apply (record { code = operation_number op; number = 0; count = 1; first = u.0; second = absent })) st1) a m) r
       (λ u st1 g k. unfold enc_x first_of second_of in answers next st1 g.stood (ExprValue.Apply op 0 (u ∷ [])) (omega arith, ok u, (k, tt)))
       (go y) (stop y)
     where
-      go : (y : OperandOut) (u : WordValue × ℕ) (st1 : WordState) (a m : List ℕ) → seen_operand y ≡ yes u st1 a m → seen_expr (applied_to y (apply1 (operation_number op))) ≡ seen_expr (resolved (Expr.Value u.1 (WordExpr.Apply (operation_number op) 0 1 u.0 absent) st1) a m)
+      go : (y : OperandOut) (u : WordValue × ℕ) (st1 : WordState) (a m : List ℕ) → seen_operand y ≡ yes u st1 a m → seen_expr (applied_to y (apply1 (operation_number op))) ≡ seen_expr (resolved (Expr.Value u.1 (WordExpr.Apply (record { code = operation_number op; number = 0; count = 1; first = u.0; second = absent })) st1) a m)
       go (operand (Operand.Value z n st2) b w) u st1 a m q = (let i : (z, n) ≡ u = cc in let j : st2 ≡ st1 = cc in let k : b ≡ a = cc in let l : w ≡ m = cc in rw (← i, j, k, l))
       go (operand (Operand.No n) b w) u st1 a m q = cc
 
