@@ -128,8 +128,8 @@ read_value s t a m e (ExprValue.Local v) given to st = copy_to s t a m e given t
 read_value s t a m e (ExprValue.Unbound v) given to st = copy_to s t a m e given to v st
 read_value s t a m e (ExprValue.Const n size) given to st = copy_to s t a m e given to (with_size size (constant n)) st
 read_value s t a m e (ExprValue.Apply o) given to st = op s t a m e o.code o.number o.count given to o.first o.second st
-read_value s t a m e (ExprValue.RamRef pointer size) given to st = load s t a m e pointer size given to st
-read_value s t a m e (ExprValue.RegisterRef pointer size) given to st = load_register s t a m pointer size given to st
+read_value s t a m e (ExprValue.RamRef x) given to st = load s t a m e x.pointer x.size given to st
+read_value s t a m e (ExprValue.RegisterRef x) given to st = load_register s t a m x.pointer x.size given to st
 read_value s t a m e (ExprValue.AddressOf base size) given to st = read_address a m base size given to st
 read_value s t a m e (ExprValue.BitRange v bits) given to st = read_slice s t a m e v bits.from bits.count given to st
 

@@ -8,7 +8,7 @@ ghost use Rattle.expr_reading.specs.Reading.{needed_bytes, constant, set_size, s
 
 use codes::refusal::Refusal;
 use codes::{NONE, action_kind, operation, value_kind};
-use expr_scope::scope::{Bits, ExprValue};
+use expr_scope::scope::{Access, Bits, ExprValue};
 use list_pushes::push::{Env, Operation, State, add_tmp, op, op_to, output_or, push};
 use list_values::section::Section;
 use list_values::sizes::{record_errors, settle, size_of};
@@ -245,16 +245,15 @@ fn load(
     actions: &mut [u64],
     temporaries: &mut [u64],
     env: Env,
-    pointer: Value,
-    size: u64,
+    from: Access,
     to: Option<Value>,
     state: State,
 ) -> Result<(Value, State), Refusal>
-    ensures { read (to_read result) actions.new temporaries.new ≡ load section.entry.stream.now section.entry.table.now actions.old temporaries.old env pointer size (is_some to) (unwrap_or to absent) state }
+    ensures { read (to_read result) actions.new temporaries.new ≡ load section.entry.stream.now section.entry.table.now actions.old temporaries.old env from.pointer from.size (is_some to) (unwrap_or to absent) state }
 {
     let (value, next) = output_or(temporaries, to, NONE, state)?;
-    let out = take_stated(section, temporaries, value, size, next);
-    let load = Operation::unary(operation::LOAD, pointer);
+    let out = take_stated(section, temporaries, value, from.size, next);
+    let load = Operation::unary(operation::LOAD, from.pointer);
     op_to(section, actions, temporaries, env, load, out.v, out.st)
 }
 
@@ -263,18 +262,17 @@ fn load_register(
     section: Section<'_>,
     actions: &mut [u64],
     temporaries: &mut [u64],
-    pointer: Value,
-    size: u64,
+    from: Access,
     to: Option<Value>,
     state: State,
 ) -> Result<(Value, State), Refusal>
-    ensures { read (to_read result) actions.new temporaries.new ≡ load_register section.entry.stream.now section.entry.table.now actions.old temporaries.old pointer size (is_some to) (unwrap_or to absent) state }
+    ensures { read (to_read result) actions.new temporaries.new ≡ load_register section.entry.stream.now section.entry.table.now actions.old temporaries.old from.pointer from.size (is_some to) (unwrap_or to absent) state }
 {
-    let (value, next) = output_or(temporaries, to, size, state)?;
-    let out = set_stated(section, temporaries, value, size, next);
+    let (value, next) = output_or(temporaries, to, from.size, state)?;
+    let out = set_stated(section, temporaries, value, from.size, next);
     let load = Operation {
-        number: size,
-        ..Operation::unary(0, pointer)
+        number: from.size,
+        ..Operation::unary(0, from.pointer)
     };
     let last = push(actions, action_kind::LOAD_REGISTER, load, out.v, out.st)?;
     Ok((out.v, last))
@@ -302,11 +300,9 @@ pub fn read_value(
         ExprValue::Apply(operation) => {
             op(section, actions, temporaries, env, operation, to, state)
         }
-        ExprValue::RamRef { pointer, size } => {
-            load(section, actions, temporaries, env, pointer, size, to, state)
-        }
-        ExprValue::RegisterRef { pointer, size } => {
-            load_register(section, actions, temporaries, pointer, size, to, state)
+        ExprValue::RamRef(from) => load(section, actions, temporaries, env, from, to, state),
+        ExprValue::RegisterRef(from) => {
+            load_register(section, actions, temporaries, from, to, state)
         }
         ExprValue::AddressOf { base, size } => {
             read_address(actions, temporaries, base, size, to, state)

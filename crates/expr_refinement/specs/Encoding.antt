@@ -26,8 +26,8 @@ enc_x (ExprValue.Local v) = WordExpr.Local (enc_v v)
 enc_x (ExprValue.Unbound v) = WordExpr.Unbound (enc_v v)
 enc_x (ExprValue.Const n size) = WordExpr.Const n (or_none size)
 enc_x (ExprValue.Apply op n vs) = WordExpr.Apply (record { code = operation_number op; number = n; count = length vs; first = first_of vs; second = second_of vs })
-enc_x (ExprValue.RamRef v size) = WordExpr.RamRef (enc_v v) size
-enc_x (ExprValue.RegisterRef v size) = WordExpr.RegisterRef (enc_v v) size
+enc_x (ExprValue.RamRef v size) = WordExpr.RamRef (record { pointer = enc_v v; size = size })
+enc_x (ExprValue.RegisterRef v size) = WordExpr.RegisterRef (record { pointer = enc_v v; size = size })
 enc_x (ExprValue.AddressOf v size) = WordExpr.AddressOf (enc_v v) (or_none size)
 enc_x (ExprValue.BitRange v from bits) = WordExpr.BitRange (enc_v v) (record { from = from; count = bits })
 

@@ -40,8 +40,8 @@ local_address (ExprValue.Local v) size next st = Expr.Value next (ExprValue.Addr
 local_address (ExprValue.Unbound v) size next st = Expr.No 30
 local_address (ExprValue.Const n z) size next st = Expr.No 30
 local_address (ExprValue.Apply operation) size next st = Expr.No 30
-local_address (ExprValue.RamRef v z) size next st = Expr.No 30
-local_address (ExprValue.RegisterRef v z) size next st = Expr.No 30
+local_address (ExprValue.RamRef access) size next st = Expr.No 30
+local_address (ExprValue.RegisterRef access) size next st = Expr.No 30
 local_address (ExprValue.AddressOf v z) size next st = Expr.No 30
 local_address (ExprValue.BitRange v bits) size next st = Expr.No 30
 

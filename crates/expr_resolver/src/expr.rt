@@ -45,8 +45,8 @@ fn local_address(expr: ExprValue, size: u64, next: usize, state: State) -> Resul
         ExprValue::Unbound(_)
         | ExprValue::Const { .. }
         | ExprValue::Apply(_)
-        | ExprValue::RamRef { .. }
-        | ExprValue::RegisterRef { .. }
+        | ExprValue::RamRef(_)
+        | ExprValue::RegisterRef(_)
         | ExprValue::AddressOf { .. }
         | ExprValue::BitRange { .. } => Err(Refusal::AddressOfNonLocal),
     }

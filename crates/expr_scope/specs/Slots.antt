@@ -17,8 +17,8 @@ slot_of (ExprValue.Local v) = one_value 0 0 0 v
 slot_of (ExprValue.Unbound v) = one_value 1 0 0 v
 slot_of (ExprValue.Const value size) = one_value 2 value size absent
 slot_of (ExprValue.Apply o) = slot 3 (o.code % 256 + o.count % 256 * 256) o.number o.first o.second
-slot_of (ExprValue.RamRef pointer size) = one_value 4 size 0 pointer
-slot_of (ExprValue.RegisterRef pointer size) = one_value 5 size 0 pointer
+slot_of (ExprValue.RamRef x) = one_value 4 x.size 0 x.pointer
+slot_of (ExprValue.RegisterRef x) = one_value 5 x.size 0 x.pointer
 slot_of (ExprValue.AddressOf base size) = one_value 6 size 0 base
 slot_of (ExprValue.BitRange v bits) = one_value 7 bits.from bits.count v
 
@@ -28,8 +28,8 @@ of_parts tag x y a b =
     else when eqb tag 1 then ExprValue.Unbound a
     else when eqb tag 2 then ExprValue.Const x y
     else when eqb tag 3 then ExprValue.Apply (record { code = x % 256; number = y; count = x / 256; first = a; second = b })
-    else when eqb tag 4 then ExprValue.RamRef a x
-    else when eqb tag 5 then ExprValue.RegisterRef a x
+    else when eqb tag 4 then ExprValue.RamRef (record { pointer = a; size = x })
+    else when eqb tag 5 then ExprValue.RegisterRef (record { pointer = a; size = x })
     else when eqb tag 6 then ExprValue.AddressOf a x
     else ExprValue.BitRange a (record { from = x; count = y })
 

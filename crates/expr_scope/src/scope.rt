@@ -54,6 +54,13 @@ pub struct Bits {
     pub count: u64,
 }
 
+// So many bytes that a pointer refers to; 0 where no size is stated.
+#[derive(Clone, Copy)]
+pub struct Access {
+    pub pointer: Value,
+    pub size: u64,
+}
+
 // What an expression means before it is read.
 #[derive(Clone, Copy)]
 pub enum ExprValue {
@@ -61,8 +68,8 @@ pub enum ExprValue {
     Unbound(Value),
     Const { value: u64, size: u64 },
     Apply(Operation),
-    RamRef { pointer: Value, size: u64 },
-    RegisterRef { pointer: Value, size: u64 },
+    RamRef(Access),
+    RegisterRef(Access),
     AddressOf { base: Value, size: u64 },
     BitRange { v: Value, bits: Bits },
 }
@@ -106,8 +113,8 @@ impl From<ExprValue> for Slot {
                 a: operation.first,
                 b: operation.second,
             },
-            ExprValue::RamRef { pointer, size } => one_value(RAM_REF, size, 0, pointer),
-            ExprValue::RegisterRef { pointer, size } => one_value(REGISTER_REF, size, 0, pointer),
+            ExprValue::RamRef(to) => one_value(RAM_REF, to.size, 0, to.pointer),
+            ExprValue::RegisterRef(to) => one_value(REGISTER_REF, to.size, 0, to.pointer),
             ExprValue::AddressOf { base, size } => one_value(ADDRESS_OF, size, 0, base),
             ExprValue::BitRange { v, bits } => one_value(BIT_RANGE, bits.from, bits.count, v),
         }
@@ -131,14 +138,14 @@ impl From<Slot> for ExprValue {
                 first: a,
                 second: b,
             }),
-            RAM_REF => ExprValue::RamRef {
+            RAM_REF => ExprValue::RamRef(Access {
                 pointer: a,
                 size: x,
-            },
-            REGISTER_REF => ExprValue::RegisterRef {
+            }),
+            REGISTER_REF => ExprValue::RegisterRef(Access {
                 pointer: a,
                 size: x,
-            },
+            }),
             ADDRESS_OF => ExprValue::AddressOf { base: a, size: x },
             _ => ExprValue::BitRange {
                 v: a,

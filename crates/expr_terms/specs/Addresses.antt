@@ -25,8 +25,8 @@ in_const_space (ExprValue.Local v) size next st = Expr.Value next (ExprValue.Loc
 in_const_space (ExprValue.Const value old) size next st = Expr.Value next (ExprValue.Const value (or_size size old)) st
 in_const_space (ExprValue.Unbound v) size next st = Expr.No 38
 in_const_space (ExprValue.Apply operation) size next st = Expr.No 38
-in_const_space (ExprValue.RamRef v z) size next st = Expr.No 38
-in_const_space (ExprValue.RegisterRef v z) size next st = Expr.No 38
+in_const_space (ExprValue.RamRef access) size next st = Expr.No 38
+in_const_space (ExprValue.RegisterRef access) size next st = Expr.No 38
 in_const_space (ExprValue.AddressOf v z) size next st = Expr.No 38
 in_const_space (ExprValue.BitRange v bits) size next st = Expr.No 38
 
@@ -56,8 +56,8 @@ resolve_space s t name = when eqb name 65535 then default_space s t (le16 s 24) 
 
 unfoldable pub reference_to : ℕ → ℕ → ℕ → Value → State → Expr
 reference_to kind size next v st =
-    when eqb kind 0 then Expr.Value next (ExprValue.RamRef v (or_size size 0)) st
-    else when eqb kind 1 then Expr.Value next (ExprValue.RegisterRef v (or_size size 0)) st
+    when eqb kind 0 then Expr.Value next (ExprValue.RamRef (record { pointer = v; size = or_size size 0 })) st
+    else when eqb kind 1 then Expr.Value next (ExprValue.RegisterRef (record { pointer = v; size = or_size size 0 })) st
     else Expr.No 40
 
 unfoldable pub reference : ℕ → ℕ → ℕ → Read → Expr

@@ -8,7 +8,7 @@ use crate::answers::{Operand, Resolved, given};
 use codes::refusal::Refusal;
 use codes::{header, table};
 use expr_reading::read::read_operand;
-use expr_scope::scope::ExprValue;
+use expr_scope::scope::{Access, ExprValue};
 use expr_scope::symbols::{Symbol, lookup};
 use list_pushes::push::Env;
 use list_values::section::Section;
@@ -40,8 +40,8 @@ fn in_const_space(part: Resolved, size: u64) -> Result<Resolved, Refusal>
         },
         ExprValue::Unbound(_)
         | ExprValue::Apply(_)
-        | ExprValue::RamRef { .. }
-        | ExprValue::RegisterRef { .. }
+        | ExprValue::RamRef(_)
+        | ExprValue::RegisterRef(_)
         | ExprValue::AddressOf { .. }
         | ExprValue::BitRange { .. } => return Err(Refusal::ConstSpace),
     };
@@ -95,8 +95,8 @@ fn reference_to(kind: u64, size: u64, pointer: Operand) -> Result<Resolved, Refu
     } = pointer;
     let size = or_size(size, 0);
     let value = match kind {
-        RAM => ExprValue::RamRef { pointer, size },
-        REGISTERS => ExprValue::RegisterRef { pointer, size },
+        RAM => ExprValue::RamRef(Access { pointer, size }),
+        REGISTERS => ExprValue::RegisterRef(Access { pointer, size }),
         _ => return Err(Refusal::OtherSpace),
     };
     Ok(Resolved { next, value, state })

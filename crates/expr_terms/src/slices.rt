@@ -105,8 +105,8 @@ pub fn slice_bits(
         ExprValue::BitRange { v, bits: whole } => slice_range(v, whole, bits, part),
         ExprValue::Unbound(_)
         | ExprValue::Apply(_)
-        | ExprValue::RamRef { .. }
-        | ExprValue::RegisterRef { .. }
+        | ExprValue::RamRef(_)
+        | ExprValue::RegisterRef(_)
         | ExprValue::AddressOf { .. } => {
             slice_read(section, actions, temporaries, env, part, bits)
         }

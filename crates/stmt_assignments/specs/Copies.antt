@@ -93,12 +93,12 @@ copy_ram s t a m e x pointer size next st w =
 
 unfoldable pub copy_into : List ℕ → List ℕ → List ℕ → List ℕ → Env → ExprValue → ExprValue → ℕ → State → Walk → Stepped
 copy_into s t a m e x (ExprValue.Local v) next st w = step_read (read_value s t a m e x true v st) (read_then next w)
-copy_into s t a m e x (ExprValue.RamRef pointer size) next st w = copy_ram s t a m e x pointer size next st w
+copy_into s t a m e x (ExprValue.RamRef y) next st w = copy_ram s t a m e x y.pointer y.size next st w
 copy_into s t a m e x (ExprValue.BitRange v bits) next st w = step_read (copy_range s t a m e x v bits.from bits.count st) (read_then next w)
 copy_into s t a m e x (ExprValue.Unbound v) next st w = stepped (stop 37 w) a m
 copy_into s t a m e x (ExprValue.Const n z) next st w = stepped (stop 37 w) a m
 copy_into s t a m e x (ExprValue.Apply operation) next st w = stepped (stop 37 w) a m
-copy_into s t a m e x (ExprValue.RegisterRef v z) next st w = stepped (stop 37 w) a m
+copy_into s t a m e x (ExprValue.RegisterRef y) next st w = stepped (stop 37 w) a m
 copy_into s t a m e x (ExprValue.AddressOf v z) next st w = stepped (stop 37 w) a m
 
 -- the name of a target, bare or truncated, or 65,535

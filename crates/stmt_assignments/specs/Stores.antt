@@ -32,8 +32,8 @@ unfoldable pub store_register : List ℕ → List ℕ → List ℕ → List ℕ 
 store_register s t a m pointer size v next st w = register_stated a pointer size next w (set_stated s t m v size st)
 
 unfoldable pub store_at : List ℕ → List ℕ → List ℕ → List ℕ → Env → ExprValue → Value → ℕ → State → Walk → Stepped
-store_at s t a m e (ExprValue.RamRef pointer size) v next st w = store s t a m e pointer size v next st w
-store_at s t a m e (ExprValue.RegisterRef pointer size) v next st w = store_register s t a m pointer size v next st w
+store_at s t a m e (ExprValue.RamRef x) v next st w = store s t a m e x.pointer x.size v next st w
+store_at s t a m e (ExprValue.RegisterRef x) v next st w = store_register s t a m x.pointer x.size v next st w
 store_at s t a m e (ExprValue.Local x) v next st w = stepped (stop 28 w) a m
 store_at s t a m e (ExprValue.Unbound x) v next st w = stepped (stop 28 w) a m
 store_at s t a m e (ExprValue.Const n z) v next st w = stepped (stop 28 w) a m

@@ -260,24 +260,15 @@ fn copy_into(
         ExprValue::BitRange { v, bits } => {
             copy_range(section, actions, temporaries, env, source, v, bits, state)?
         }
-        ExprValue::RamRef { pointer, size } => {
+        ExprValue::RamRef(to) => {
             let (value, state) = read_operand(section, actions, temporaries, env, source, state)?;
             let stored = Operand { value, next, state };
-            return store(
-                section,
-                actions,
-                temporaries,
-                env,
-                pointer,
-                size,
-                stored,
-                walk,
-            );
+            return store(section, actions, temporaries, env, to, stored, walk);
         }
         ExprValue::Unbound(_)
         | ExprValue::Const { .. }
         | ExprValue::Apply(_)
-        | ExprValue::RegisterRef { .. }
+        | ExprValue::RegisterRef(_)
         | ExprValue::AddressOf { .. } => return Err(Refusal::NotAssignable),
     };
     Ok((next, Walk { st, ..walk }))

@@ -9,7 +9,7 @@ use codes::refusal::Refusal;
 use codes::{action_kind, operation};
 use expr_reading::read::{set_stated, take_stated};
 use expr_resolver::expr::{DEPTH, expr_value, resolve_expr, skip_expr};
-use expr_scope::scope::ExprValue;
+use expr_scope::scope::{Access, ExprValue};
 use expr_terms::address::resolve_address;
 use expr_terms::answers::{Operand, Resolved, after};
 use list_pushes::push::{Env, Operation, push, push_op};
@@ -23,15 +23,14 @@ pub fn store(
     actions: &mut [u64],
     temporaries: &mut [u64],
     env: Env,
-    pointer: Value,
-    size: u64,
+    to: Access,
     stored: Operand,
     walk: Walk,
 ) -> Result<(usize, Walk), Refusal>
-    ensures { stepped (to_step walk result) actions.new temporaries.new ≡ store section.entry.stream.now section.entry.table.now actions.old temporaries.old env pointer size stored.value stored.next stored.state (to_walk walk) }
+    ensures { stepped (to_step walk result) actions.new temporaries.new ≡ store section.entry.stream.now section.entry.table.now actions.old temporaries.old env to.pointer to.size stored.value stored.next stored.state (to_walk walk) }
 {
-    let stated = take_stated(section, temporaries, stored.value, size, stored.state);
-    let store = Operation::binary(operation::STORE, pointer, stated.v);
+    let stated = take_stated(section, temporaries, stored.value, to.size, stored.state);
+    let store = Operation::binary(operation::STORE, to.pointer, stated.v);
     let st = push_op(
         section,
         actions,
@@ -49,17 +48,16 @@ fn store_register(
     section: Section<'_>,
     actions: &mut [u64],
     temporaries: &mut [u64],
-    pointer: Value,
-    size: u64,
+    to: Access,
     stored: Operand,
     walk: Walk,
 ) -> Result<(usize, Walk), Refusal>
-    ensures { stepped (to_step walk result) actions.new temporaries.new ≡ store_register section.entry.stream.now section.entry.table.now actions.old temporaries.old pointer size stored.value stored.next stored.state (to_walk walk) }
+    ensures { stepped (to_step walk result) actions.new temporaries.new ≡ store_register section.entry.stream.now section.entry.table.now actions.old temporaries.old to.pointer to.size stored.value stored.next stored.state (to_walk walk) }
 {
-    let stated = set_stated(section, temporaries, stored.value, size, stored.state);
+    let stated = set_stated(section, temporaries, stored.value, to.size, stored.state);
     let store = Operation {
-        number: size,
-        ..Operation::binary(0, pointer, stated.v)
+        number: to.size,
+        ..Operation::binary(0, to.pointer, stated.v)
     };
     let st = push(
         actions,
@@ -84,21 +82,15 @@ fn store_at(
     ensures { stepped (to_step walk result) actions.new temporaries.new ≡ store_at section.entry.stream.now section.entry.table.now actions.old temporaries.old env expr stored.value stored.next stored.state (to_walk walk) }
 {
     match expr {
-        ExprValue::RamRef { pointer, size } => {
-            store(
-                section,
-                actions,
-                temporaries,
-                env,
-                pointer,
-                size,
-                stored,
-                walk,
-            )
-        }
-        ExprValue::RegisterRef { pointer, size } => {
-            store_register(section, actions, temporaries, pointer, size, stored, walk)
-        }
+        ExprValue::RamRef(to) => store(section, actions, temporaries, env, to, stored, walk),
+        ExprValue::RegisterRef(to) => store_register(
+            section,
+            actions,
+            temporaries,
+            to,
+            stored,
+            walk,
+        ),
         ExprValue::Local(_)
         | ExprValue::Unbound(_)
         | ExprValue::Const { .. }

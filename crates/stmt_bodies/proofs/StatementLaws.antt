@@ -1,23 +1,15 @@
 -- One law for each way out of the statements and macro bodies.
-use Rattle.std.proofs.Common.{◌≡◌, ℕ, suc, ◌+◌, ◌-◌, ◌*◌, ◌%◌, ◌^◌, ◌<◌, ◌≤◌, Bool, true, false, not, ◌&&◌, T, ltb, leb, List, length, get_or, replicate, sym, refl, ap, ◌∙◌, subst, arith, ltb-true, eq-eqb, ne_eqb, le-leb, leb-true}
-use borrow.Author.Tests.{lt-leb}
+use Rattle.std.proofs.Common.{◌≡◌, ℕ, suc, ◌+◌, ◌-◌, ◌%◌, ◌^◌, ◌<◌, ◌≤◌, Bool, true, false, ◌&&◌, T, ltb, leb, List, length, sym, refl, ap, ◌∙◌, subst, arith, ltb-true, leb-true}
 use Rattle.access.specs.Le.{le16}
 use Rattle.list_pushes.specs.declared.push.State.{State}
 use Rattle.list_pushes.specs.declared.push.Env.{Env}
-use Rattle.list_values.specs.Base.{listed, then_l}
 use Rattle.prelude.specs.Base.{when◌then◌else◌}
-use Rattle.expr_scope.specs.Outcomes.{Args}
-use Rattle.expr_terms.specs.Answers.{passed, on_args, after}
+use Rattle.expr_terms.specs.Answers.{after}
 use Rattle.stmt_walk.specs.Outcomes.{Walk}
 use Rattle.stmt_walk.specs.Outcomes.{Step}
-use Rattle.stmt_simple.specs.Outcomes.{Called}
-use Rattle.stmt_walk.specs.Walks.{stepped, Walked, walked, beside_p, without_p, on_step, with_state, stop}
-use Rattle.stmt_branches.specs.Branches.{branch, cond_branch, label_statement}
-use Rattle.stmt_simple.specs.Simple.{unimplemented, export_statement, local_statement, local_assignment, build}
-use Rattle.stmt_assignments.specs.Stores.{store_statement}
-use Rattle.stmt_assignments.specs.Copies.{copy_statement}
-use Rattle.stmt_simple.specs.Calls.{called_of, delay_slot, user_op_statement, macro_at, macro_args}
-use Rattle.stmt_bodies.specs.Statements.{beside_a, simple, other_statement, begun, begin, returned, returned_to, macro_env, body_at, first_ordinal, Enter, macro_statement, call_named, call_statement, statement_by, statement_begun, resolve_statement, Statement, forward, resolve_all, macro_body, enter_macro, resolve_body}
+use Rattle.stmt_walk.specs.Walks.{Walked, walked, on_step, with_state, stop}
+use Rattle.stmt_simple.specs.Calls.{macro_at}
+use Rattle.stmt_bodies.specs.Statements.{returned, returned_to, macro_env, body_at, first_ordinal, resolve_statement, Statement, forward, resolve_all, macro_body, enter_macro, resolve_body}
 
 -- ---- macros
 module _ (deep : ℕ) (s t p a m : List ℕ) (e : Env) (id n next : ℕ) (st : State) (w : Walk) where
@@ -53,18 +45,10 @@ both_true true true h = (refl, refl)
 both_true true false h = (refl, h)
 both_true false y h = (h, absurd (subst T (sym h) tt))
 
-passed_test : (x : Bool) → not x ≡ false → x ≡ true
-passed_test true h = refl
-passed_test false h = sym h
-
-failed_test : (x : Bool) → not x ≡ true → x ≡ false
-failed_test true h = sym h
-failed_test false h = refl
-
 -- the bytes left fall
-pub bytes_fall : (pos next len : ℕ) (x : Bool) → x ≡ forward pos next len → not x ≡ false → len - next < len - pos
+pub bytes_fall : (pos next len : ℕ) (x : Bool) → x ≡ forward pos next len → x ≡ true → len - next < len - pos
 unfolding forward
-bytes_fall pos next len x e h = let k = both_true (ltb pos next) (leb next len) (sym e ∙ passed_test x h) in omega (arith, ltb-true pos next k.0, leb-true next len k.1)
+bytes_fall pos next len x e h = let k = both_true (ltb pos next) (leb next len) (sym e ∙ h) in omega (arith, ltb-true pos next k.0, leb-true next len k.1)
 
 pub body_start : (deep : ℕ) (s t p a m : List ℕ) (e : Env) (pos n ordinal : ℕ) (w : Walk) → resolve_all (resolve_statement (enter_macro deep s t) s t e) (length s) (n - 0) 0 ordinal pos p a m w ≡ resolve_body deep s t p a m e pos n ordinal w
 unfolding resolve_body
@@ -85,13 +69,14 @@ module _ (resolve : Statement) (len n i ordinal pos : ℕ) (p a m : List ℕ) (w
     body-stop refusal k f = turn (Step.Stop refusal k) f
 
     module _ (next : ℕ) (w1 : Walk) (f : walked (Step.Next next w1) p1 a1 m1 ≡ resolve pos o p a m w) (x : Bool) (ex : x ≡ forward pos next len) where
-      pub body_cut : (z : Step) → not x ≡ true → z ≡ stop 3 w1 → walked z p1 a1 m1 ≡ B
+      pub body_cut : (refusal k : ℕ) → x ≡ false → Step.Stop refusal k ≡ stop 3 w1 → walked (Step.Stop refusal k) p1 a1 m1 ≡ B
       unfolding on_step
-      body_cut z c y = let k = turn (Step.Next next w1) f in rw y (rw (← ex, failed_test x c) at k)
+      body_cut refusal k c y = let g = turn (Step.Next next w1) f in rw y (rw (← ex, c) at g)
 
-      pub body-next : not x ≡ false → resolve_all resolve len (n - (i + 1)) (i + 1) ordinal next p1 a1 m1 w1 ≡ B
+      pub body-next : x ≡ true → resolve_all resolve len (n - (i + 1)) (i + 1) ordinal next p1 a1 m1 w1 ≡ B
       unfolding on_step
-      body-next c = let o1 : i + 1 ≡ suc i = omega arith in let k = turn (Step.Next next w1) f in rw o1 (rw (← ex, passed_test x c, o1) at k)
+      body-next c = let o1 : i + 1 ≡ suc i = omega arith in let k = turn (Step.Next next w1) f in rw o1 (rw (← ex, c, o1) at k)
 
 pub ruleset enter_laws = (enter_deep, enter_stop, enter_next)
-pub ruleset body_laws = (bytes_fall, body_start, body_end, body-stop, body_cut, body-next)
+
+pub ruleset body_laws = (body_cut, bytes_fall, body_start, body_end, body-stop, body-next)

@@ -63,8 +63,8 @@ direct s t a m e (ExprValue.Local v) cond hint st w = branch_to s t a m e cond (
 direct s t a m e (ExprValue.Unbound v) cond hint st w = stepped (stop 29 w) a m
 direct s t a m e (ExprValue.Const n z) cond hint st w = stepped (stop 29 w) a m
 direct s t a m e (ExprValue.Apply operation) cond hint st w = stepped (stop 29 w) a m
-direct s t a m e (ExprValue.RamRef v z) cond hint st w = stepped (stop 29 w) a m
-direct s t a m e (ExprValue.RegisterRef v z) cond hint st w = stepped (stop 29 w) a m
+direct s t a m e (ExprValue.RamRef access) cond hint st w = stepped (stop 29 w) a m
+direct s t a m e (ExprValue.RegisterRef access) cond hint st w = stepped (stop 29 w) a m
 direct s t a m e (ExprValue.AddressOf v z) cond hint st w = stepped (stop 29 w) a m
 direct s t a m e (ExprValue.BitRange v bits) cond hint st w = stepped (stop 29 w) a m
 

@@ -212,8 +212,8 @@ fn direct(
         ExprValue::Unbound(_)
         | ExprValue::Const { .. }
         | ExprValue::Apply(_)
-        | ExprValue::RamRef { .. }
-        | ExprValue::RegisterRef { .. }
+        | ExprValue::RamRef(_)
+        | ExprValue::RegisterRef(_)
         | ExprValue::AddressOf { .. }
         | ExprValue::BitRange { .. } => Err(Refusal::JumpToNonLocal),
     }

@@ -44,8 +44,8 @@ export_read s t a m e x next st w = step_read (read_operand s t a m e x st) (exp
 
 -- a reference stays one, anything else is read
 unfoldable pub export_of : List ℕ → List ℕ → List ℕ → List ℕ → Env → ExprValue → ℕ → State → Walk → Stepped
-export_of s t a m e (ExprValue.RamRef pointer size) next st w = stepped (exported 2 pointer size st next w) a m
-export_of s t a m e (ExprValue.RegisterRef pointer size) next st w = stepped (exported 3 pointer size st next w) a m
+export_of s t a m e (ExprValue.RamRef x) next st w = stepped (exported 2 x.pointer x.size st next w) a m
+export_of s t a m e (ExprValue.RegisterRef x) next st w = stepped (exported 3 x.pointer x.size st next w) a m
 export_of s t a m e (ExprValue.Local v) next st w = export_read s t a m e (ExprValue.Local v) next st w
 export_of s t a m e (ExprValue.Unbound v) next st w = export_read s t a m e (ExprValue.Unbound v) next st w
 export_of s t a m e (ExprValue.Const n z) next st w = export_read s t a m e (ExprValue.Const n z) next st w

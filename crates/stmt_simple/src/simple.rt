@@ -10,7 +10,7 @@ use codes::refusal::Refusal;
 use codes::{action_kind, header, operation, table};
 use expr_reading::read::{read_operand, read_value};
 use expr_resolver::expr::{DEPTH, resolve_expr};
-use expr_scope::scope::{ExprValue, named_tmp};
+use expr_scope::scope::{Access, ExprValue, named_tmp};
 use expr_scope::symbols::{Symbol, lookup};
 use expr_terms::answers::{Resolved, after};
 use list_pushes::push::{Env, Operation, State, push, push_op};
@@ -57,8 +57,11 @@ fn export_of(
 {
     let Resolved { next, value, state } = expr;
     let (export, st) = match value {
-        ExprValue::RamRef { pointer, size } => (Export::RamRef { pointer, size }, state),
-        ExprValue::RegisterRef { pointer, size } => (Export::RegisterRef { pointer, size }, state),
+        ExprValue::RamRef(Access { pointer, size }) => (Export::RamRef { pointer, size }, state),
+        ExprValue::RegisterRef(Access { pointer, size }) => (
+            Export::RegisterRef { pointer, size },
+            state,
+        ),
         ExprValue::Local(_)
         | ExprValue::Unbound(_)
         | ExprValue::Const { .. }
