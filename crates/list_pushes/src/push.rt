@@ -37,7 +37,8 @@ pub struct Env {
     pub count: usize,
 }
 
-// An operation by its code, with its number and at most two inputs.
+// An operation by its code, with its number and at most two inputs. The code stays a number, as an action's kind does: both go
+// into the words of the lent list as they are.
 #[derive(Clone, Copy)]
 pub struct Operation {
     pub code: u64,

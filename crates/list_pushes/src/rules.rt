@@ -1,4 +1,5 @@
-// The size rule of each operation, applied in place to an action of the list, and how many errors that gives.
+// The size rule of each operation, applied in place to an action of the list, and how many errors that gives. Kinds and
+// operations are numbers here: they are words of the list, which may hold any, and a rule holds for runs of them.
 ghost use Rattle.std.specs.Prelude.{◌≡◌};
 ghost use Rattle.list_values.specs.Sizes.{Counted};
 ghost use Rattle.list_pushes.specs.RuleNumbers.{rule_number, partner, pair_rule};

@@ -84,6 +84,7 @@ pub fn size_of(section: Section<'_>, temporaries: &[u64], value: Value) -> u64
     listed_size(section, value.kind, value.number)
 }
 
+// The known size of the operand there, from its words: no value is made of them, since each push asks for two or three sizes.
 #[tactic(auto, unfolding(crate::specs::Sizes::size_at, crate::specs::Sizes::size_of, crate::specs::Sizes::size_of_local, crate::specs::Values::value_at, crate::specs::Values::value_of))]
 fn size_at(section: Section<'_>, actions: &[u64], temporaries: &[u64], at: usize, index: u8) -> u64
     ensures { result ≡ size_at section.entry.stream.now section.entry.table.now actions.now temporaries.now at index }
