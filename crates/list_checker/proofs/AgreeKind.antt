@@ -1,5 +1,6 @@
 -- An action's kind and operation, by their numbers: what the definition's tables say of an operation is what the chains of
 -- tests say of its number.
+use Rattle.std.proofs.lemmas.Bool.Decides.{nat_tests}
 use Prim.Native.Nat.{ℕ, zero, suc, ◌≤◌, ◌<◌}
 use mathlib.Core.Path.{◌≡◌, refl, sym, ◌∙◌}
 use mathlib.Core.Bool.{Bool, true, false, ◌&&◌}
@@ -8,7 +9,7 @@ use mathlib.Core.Option.{Option, none, some}
 use native.Mathlib.Omega.{arith}
 use Rattle.std.proofs.lemmas.Grind.{common_steps}
 use lib.Dec.{eqb, leb, ltb}
-use borrow.Author.Tests.{lt-leb, eq-eqb, ne_eqb, ltb-true, ltb-false, eqb-true, eqb-false}
+use borrow.Author.Tests.{eq-eqb, ltb-true, ltb-false, eqb-true, eqb-false}
 use Rattle.prelude.specs.Base.{when◌then◌else◌, ◌or◌, or_else, and_then, is_some, any, first}
 use Rattle.definition.specs.Operations.{Operation, operation_number}
 use Rattle.definition.specs.Value.{ActionKind, operation_of}
@@ -177,11 +178,7 @@ kind_none (suc (suc (suc (suc (suc (suc k)))))) op e = no_kind {k = suc (suc (su
 
 pub one-count : (n m : ℕ) (b o : Bool) → any (same_count (n, b)) ((m, o) ∷ []) ≡ same_count (n, b) (m, o)
 unfolding any
-one-count n m b o = go (same_count (n, b) (m, o))
-  where
-    go : (x : Bool) → (when x then true else false) ≡ x
-    go true = refl
-    go false = refl
+one-count n m b o = grind (arith, nat_tests)
 
 no_outputs : (n : ℕ) (xs : List ℕ) (ys : List (ℕ × Bool)) → any (same_count (n, true)) (map no_output xs ++ ys) ≡ any (same_count (n, true)) ys
 unfolding any same_count
@@ -194,29 +191,11 @@ no_outputs n (x ∷ xs) ys = go (eqb n x) (no_outputs n xs ys)
 
 few_outputs : (n : ℕ) → any (same_count (n, true)) (map with_output (0 ∷ 1 ∷ 2 ∷ [])) ≡ leb n 2
 unfolding any same_count
-few_outputs zero = refl
-few_outputs (suc zero) = refl
-few_outputs (suc (suc zero)) = refl
-few_outputs (suc (suc (suc n))) = go (suc (suc (suc n))) (omega arith)
-  where
-    go : (m : ℕ) → 3 ≤ m → any (same_count (m, true)) (map with_output (0 ∷ 1 ∷ 2 ∷ [])) ≡ leb m 2
-    go m h = rw (ne_eqb m 0 (λ z. omega arith), ne_eqb m 1 (λ z. omega arith), ne_eqb m 2 (λ z. omega arith), lt-leb m 2 (omega arith))
+few_outputs n = grind (arith, nat_tests)
 
 to_eight : (n : ℕ) → any (same_count (n, false)) pcode_op_pairs ≡ leb n 8
 unfolding any same_count
-to_eight zero = refl
-to_eight (suc zero) = refl
-to_eight (suc (suc zero)) = refl
-to_eight (suc (suc (suc zero))) = refl
-to_eight (suc (suc (suc (suc zero)))) = refl
-to_eight (suc (suc (suc (suc (suc zero))))) = refl
-to_eight (suc (suc (suc (suc (suc (suc zero)))))) = refl
-to_eight (suc (suc (suc (suc (suc (suc (suc zero))))))) = refl
-to_eight (suc (suc (suc (suc (suc (suc (suc (suc zero)))))))) = refl
-to_eight (suc (suc (suc (suc (suc (suc (suc (suc (suc n))))))))) = go (suc (suc (suc (suc (suc (suc (suc (suc (suc n))))))))) (omega arith)
-  where
-    go : (m : ℕ) → 9 ≤ m → any (same_count (m, false)) pcode_op_pairs ≡ leb m 8
-    go m h = rw (ne_eqb m 0 (λ z. omega arith), ne_eqb m 1 (λ z. omega arith), ne_eqb m 2 (λ z. omega arith), ne_eqb m 3 (λ z. omega arith), ne_eqb m 4 (λ z. omega arith), ne_eqb m 5 (λ z. omega arith), ne_eqb m 6 (λ z. omega arith), ne_eqb m 7 (λ z. omega arith), ne_eqb m 8 (λ z. omega arith), lt-leb m 8 (omega arith))
+to_eight n = grind (arith, nat_tests)
 
 pub pcode_op-counts : (n : ℕ) (b : Bool) → any (same_count (n, b)) pcode_op_pairs ≡ (when b then leb n 2 else leb n 8)
 pcode_op-counts n true = no_outputs n (0 ∷ 1 ∷ 2 ∷ 3 ∷ 4 ∷ 5 ∷ 6 ∷ 7 ∷ 8 ∷ []) (map with_output (0 ∷ 1 ∷ 2 ∷ [])) ∙ few_outputs n

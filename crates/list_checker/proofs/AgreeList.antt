@@ -2,6 +2,8 @@
 use Prim.Native.Nat.{ℕ, zero, suc, ◌+◌, ◌-◌, ◌*◌, ◌≤◌, ◌<◌, min}
 use mathlib.Core.Path.{◌≡◌, refl, sym, ◌∙◌, ap}
 use mathlib.Core.Bool.{Bool, true, false, ◌&&◌, ◌||◌, not}
+use Rattle.std.proofs.lemmas.Bool.Decides.{nat_tests}
+use Rattle.std.proofs.Math.Bool.{and_assoc, and-true, and-false}
 use mathlib.Core.List.{List, [], ◌∷◌, ◌++◌}
 use mathlib.Core.Option.{Option, none, some}
 use native.Mathlib.Omega.{arith}
@@ -15,13 +17,12 @@ use Rattle.definition.specs.Value.{Value, ActionKind, SemanticAction, operation_
 use Rattle.definition.specs.ActionList.{action_kind_number, operation_word, filled, action_words, list_words, places_label}
 use Rattle.definition.specs.End.{is_build, builds}
 use Rattle.definition.specs.Checker.{inputs_from, output_from, action_kind_numbered, action_from, actions_from, layout_fits, sizes_hold, places, labels_once, all_built, list_holds, check}
-use Rattle.list_checker.proofs.AgreeRow.{and_false}
 use Rattle.list_checker.specs.Action.{zeros, value_fit, inputs_fit, row_of, row_fit, operation_fit, head_fit, output_there, action_fit}
 use Rattle.list_checker.specs.Sweep as w
 use Rattle.list_checker.specs.Sweep.{noted, note_label, when_new, rows_fit, labels_new, builds_it, any_builds, all_built_by, list_fit}
-use Rattle.list_checker.proofs.AgreeValue.{same-zeros, and_true}
+use Rattle.list_checker.proofs.AgreeValue.{same-zeros}
 use Rattle.list_checker.proofs.AgreeKind.{operation_right, KindIs, kind_is}
-use Rattle.list_checker.proofs.AgreeSizes.{if_and, eqb_comm, assoc, and_left, and_right}
+use Rattle.list_checker.proofs.AgreeSizes.{if_and, eqb_comm, and_left, and_right}
 use Rattle.list_checker.proofs.AgreeRow.{right, row_agrees}
 
 -- One row of a list.
@@ -101,7 +102,7 @@ unread t s p (suc n) ws h e =
         (x : Option SemanticAction) → action_from (take 24 ws) ≡ x → (y : Option (List SemanticAction)) → actions_from n (drop 24 ws) ≡ y →
         and_then {B = List SemanticAction} x (λ a. and_then {B = List SemanticAction} y (λ rest. some (a ∷ rest))) ≡ none → (action_fit t s p (take 24 ws) && rows_fit t s p n (drop 24 ws)) ≡ false
     go ih f none q y r e = rw (← f, q)
-    go ih f (some a) q none r e = rw (ih r) (and_false (action_fit t s p (take 24 ws)))
+    go ih f (some a) q none r e = rw (ih r) (and-false (action_fit t s p (take 24 ws)))
     go ih f (some a) q (some rest) r e = cc
 
 -- The same words.
@@ -145,21 +146,14 @@ same_rows ws rest a h =
     ∙ same_append (take 24 ws) (drop 24 ws) (action_words a) (filled (length (drop 24 ws)) rest) (omega arith)
 
 spread : (sa sr la lr za zr : Bool) → (sa && sr && (la && lr && (za && zr))) ≡ (sa && (la && za) && (sr && (lr && zr)))
-spread false sr la lr za zr = refl
-spread true false true lr true zr = refl
-spread true false true lr false zr = refl
-spread true false false lr za zr = refl
-spread true true false lr za zr = refl
-spread true true true false true zr = refl
-spread true true true false false zr = refl
-spread true true true true za zr = refl
+spread sa sr la lr za zr = grind (arith, nat_tests)
 
 rows_agree : (t s p n : ℕ) (ws : List ℕ) (found : List SemanticAction) → Reads n ws found → 24 * n ≤ length ws →
     (same_numbers ws (filled (length ws) (list_words found)) && (all (layout_fits t s) found && all (sizes_hold p) found)) ≡ (rows_fit t s p n ws && zeros (drop (24 * n) ws))
 unfolding list_words all rows_fit right or_else and_then
 rows_agree t s p zero ws (a ∷ rest) x4 h = elim x4 [ ]
 rows_agree t s p (suc n) ws [] x4 h = elim x4 [ ]
-rows_agree t s p zero ws [] end h = rw (same-zeros ws) (and_true (zeros ws))
+rows_agree t s p zero ws [] end h = rw (same-zeros ws) (and-true (zeros ws))
 rows_agree t s p (suc n) ws (a ∷ rest) (more e r) h =
     let l : length (drop 24 ws) ≡ length ws - 24 = length-drop 24 ws in
     let f : right t s p (take 24 ws) a ≡ action_fit t s p (take 24 ws) = rw e at (row_right t s p (take 24 ws) (length-take-le 24 ws (omega arith))) in
@@ -167,7 +161,7 @@ rows_agree t s p (suc n) ws (a ∷ rest) (more e r) h =
     let d : drop (24 * n) (drop 24 ws) ≡ drop (24 * suc n) ws = drop-drop (24 * n) 24 ws ∙ ap (λ x. drop x ws) m in
     rw (same_rows ws (list_words rest) a (omega arith), if_and (layout_fits t s a) (all (layout_fits t s) rest), if_and (sizes_hold p a) (all (sizes_hold p) rest))
     (spread (same_numbers (take 24 ws) (action_words a)) (same_numbers (drop 24 ws) (filled (length (drop 24 ws)) (list_words rest))) (layout_fits t s a) (all (layout_fits t s) rest) (sizes_hold p a) (all (sizes_hold p) rest)
-    ∙ rw (rows_agree t s p n (drop 24 ws) rest r (omega arith), d, f) (sym (assoc (action_fit t s p (take 24 ws)) (rows_fit t s p n (drop 24 ws)) (zeros (drop (24 * suc n) ws)))))
+    ∙ rw (rows_agree t s p n (drop 24 ws) rest r (omega arith), d, f) (sym (and_assoc (action_fit t s p (take 24 ws)) (rows_fit t s p n (drop 24 ws)) (zeros (drop (24 * suc n) ws)))))
 
 -- Labels.
 
@@ -180,9 +174,7 @@ small [] = true
 small (a ∷ rest) = (when places_label a then ltb a.number 256 else true) && small rest
 
 swap : (a b c : Bool) → (a && (b && c)) ≡ (b && (a && c))
-swap true b c = refl
-swap false true c = refl
-swap false false c = refl
+swap a b c = grind (arith, nat_tests)
 
 fresh_set : (rest : List SemanticAction) (seen : List Bool) (m : ℕ) → m < length seen → fresh rest (set seen m true) ≡ (not (any (places m) rest) && fresh rest seen)
 unfolding fresh any places
@@ -233,7 +225,7 @@ labels-agree (suc n) ws (a ∷ rest) (more e r) q seen h =
         when_new (when l then noted b (set seen a.number true) else noted true seen) (λ next. labels_new n (drop 24 ws) next)
         ≡ (not (l && any (places a.number) rest) && labels_once rest && ((when l then b else true) && fresh rest seen))
     go ih false b k = ih seen h
-    go ih true false k = sym (and_false (not (any (places a.number) rest) && labels_once rest))
+    go ih true false k = sym (and-false (not (any (places a.number) rest) && labels_once rest))
     go ih true true k =
         let i : a.number < length seen = omega (arith, ltb-true a.number 256 k) in
         ih (set seen a.number true) (length-set seen a.number true ∙ h)
@@ -282,16 +274,7 @@ all_built_lem (suc m) n ws found r = rw (any_builds_lem m n ws found r, all_buil
 -- The whole list.
 
 arrange : (sb l z lab b r zs labw bw : Bool) → (sb && (l && z)) ≡ (r && zs) → (r ≡ true → lab ≡ labw) → b ≡ bw → (sb && l && z && lab && b) ≡ (zs && (r && (labw && bw)))
-arrange sb l z lab b r zs labw bw e f g = rw (g, ← e2, e) (go r zs f)
-  where
-    e2 : (sb && (l && z)) ≡ (sb && l && z)
-    e2 = sym (assoc sb l z)
-
-    go : (r zs : Bool) → (r ≡ true → lab ≡ labw) → (r && zs && lab && bw) ≡ (zs && (r && (labw && bw)))
-    go true true f = rw (f refl)
-    go true false f = refl
-    go false true f = refl
-    go false false f = refl
+arrange sb l z lab b r zs labw bw h1 h2 h3 = grind (arith, nat_tests)
 
 listed : (t s p n : ℕ) (ws : List ℕ) (found : List SemanticAction) → Reads n ws found → 24 * n ≤ length ws → list_holds ws t s p found ≡ (zeros (drop (24 * n) ws) && list_fit t s p n ws)
 unfolding list_holds list_fit
@@ -299,7 +282,7 @@ listed t s p n ws found r h =
     arrange (same_numbers ws (filled (length ws) (list_words found))) (all (layout_fits t s) found) (all (sizes_hold p) found) (labels_once found) (all_built found s)
     (rows_fit t s p n ws) (zeros (drop (24 * n) ws)) (labels_new n ws (replicate 256 false)) (all_built_by n ws s)
     (rows_agree t s p n ws found r h)
-    (λ e. sym (labels-agree n ws found r (labels-small t s p n ws found r e) (replicate 256 false) (length-replicate {A = Bool} 256 false) ∙ rw (fresh_unmarked 256 found) (and_true (labels_once found))))
+    (λ e. sym (labels-agree n ws found r (labels-small t s p n ws found r e) (replicate 256 false) (length-replicate {A = Bool} 256 false) ∙ rw (fresh_unmarked 256 found) (and-true (labels_once found))))
     (all_built_lem s n ws found r)
 
 -- THE THEOREM: where the actions fit into the list, the definition's checker is the checker of the words.
@@ -308,7 +291,7 @@ unfolding check or_else and_then list_fit
 check_agrees ws n t s p h = rw (le-leb (24 * n) (length ws) h) (go (actions_from n ws) refl)
   where
     go : (x : Option (List SemanticAction)) → actions_from n ws ≡ x → or_else false (and_then {B = Bool} x λ found. some (list_holds ws t s p found)) ≡ (zeros (drop (24 * n) ws) && list_fit t s p n ws)
-    go none e = rw (unread t s p n ws h e) (sym (and_false (zeros (drop (24 * n) ws))))
+    go none e = rw (unread t s p n ws h e) (sym (and-false (zeros (drop (24 * n) ws))))
     go (some found) e = listed t s p n ws found (reads n ws found e) h
 
 -- and where they do not, it is false

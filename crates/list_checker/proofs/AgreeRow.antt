@@ -1,15 +1,17 @@
 -- One action: its words fit exactly if they are read as an action that is written as just these words, and whose layout and
 -- sizes are right.
-use Prim.Native.Nat.{ℕ, zero, suc, ◌/◌, ◌%◌, ◌≤◌, ◌<◌, min}
+use Prim.Native.Nat.{ℕ, zero, suc, ◌/◌, ◌%◌, ◌≤◌, min}
 use mathlib.Core.Path.{◌≡◌, refl, sym, ◌∙◌, ap}
 use mathlib.Core.Bool.{Bool, true, false, ◌&&◌, ◌||◌, not}
+use Rattle.std.proofs.lemmas.Bool.Decides.{nat_tests}
+use Rattle.std.proofs.Math.Bool.{and-true, and-false}
 use mathlib.Core.List.{List, ◌∷◌, ◌++◌}
 use mathlib.Core.Option.{Option, none, some}
 use native.Mathlib.Omega.{arith}
 use Rattle.std.proofs.lemmas.Grind.{common_steps}
 use lib.ListN.{length, get_or}
 use lib.Dec.{eqb, leb, ltb}
-use borrow.Author.Tests.{eq-eqb, ne_eqb, leb-true, leb-false, eqb-true, eqb-false}
+use borrow.Author.Tests.{eq-eqb, eqb-true}
 use Rattle.prelude.specs.Base.{when◌then◌else◌, or_else, and_then, is_some, all, same_numbers}
 use Rattle.definition.specs.Sizes as sz
 use Rattle.definition.specs.Operations.{Operation, operation_number}
@@ -18,7 +20,7 @@ use Rattle.definition.specs.ActionList.{value_words, input_words, action_kind_nu
 use Rattle.definition.specs.Checker as d
 use Rattle.definition.specs.Checker.{size_from, value_from, inputs_from, some_value, output_from, action_kind_numbered, action_from, same_count, counts_fit, shape_fits, plain_base, base_fits, option_fits, shape_of, value_fits, layout_fits, sizes_hold}
 use Rattle.list_checker.specs.Action.{value_fit, values_fit, inputs_fit, has_output, row_of, row_fit, operation_fit, kind_fit, head_fit, output_there, action_fit}
-use Rattle.list_checker.proofs.AgreeValue.{value_of, known, value_from_lem, value_fit_lem, value_sized, value_back, inputs_of, inputs_known, inputs_from_lem, inputs_length, inputs_fit_lem, and_true}
+use Rattle.list_checker.proofs.AgreeValue.{value_of, known, value_from_lem, value_fit_lem, value_sized, value_back, inputs_of, inputs_known, inputs_from_lem, inputs_length, inputs_fit_lem}
 use Rattle.list_checker.proofs.AgreeKind.{operation_right, kind_is, NoKind, no_operation, no_kind, kind_none, shape_of_row, tabled, shaped, one-count}
 use Rattle.list_checker.proofs.AgreeSizes.{inputs_sized, output_sized, output_of, if_and, below_one, inputs-sized, output-sized, values_sized, row_fit_lem}
 
@@ -110,7 +112,7 @@ module _ (t s n x m : ℕ) (rest after : List ℕ) where
   output_fit_lem (ActionKind.Op o) = go (eqb n 0) (eqb x 255) refl refl
     where
       go : (a c : Bool) → eqb n 0 ≡ a → eqb x 255 ≡ c → OutputFits (ActionKind.Op o) (not a || not c)
-      go true true e f = rw (e, f) (and_true (same_numbers rest (filled m after)))
+      go true true e f = rw (e, f) (and-true (same_numbers rest (filled m after)))
       go true false e f = with_output_lem
       go false c e f = with_output_lem
   output_fit_lem ActionKind.AddressOf = with_output_lem
@@ -123,100 +125,41 @@ module _ (t s n x m : ℕ) (rest after : List ℕ) where
 
 plain-base : (n x : ℕ) → plain_base (value_of n x) ≡ (eqb (x / 16777216) 65535 && eqb (x / 256 % 65536) 0)
 unfolding plain_base value_of size_from is_some
-plain-base n x = go (eqb (x / 16777216) 65535)
-  where
-    go : (b : Bool) → (not (is_some (when b then none else some (x / 16777216))) && eqb (x / 256 % 65536) 0) ≡ (b && eqb (x / 256 % 65536) 0)
-    go true = refl
-    go false = refl
+plain-base n x = grind (arith, nat_tests)
 
 one-base : (x y : ℕ) (r : List ℕ) → all plain_base (inputs_of 1 (x ∷ y ∷ r)) ≡ (eqb (y / 16777216) 65535 && eqb (y / 256 % 65536) 0)
 unfolding all inputs_of
-one-base x y r = rw (plain-base x y) (if_and _ true ∙ and_true _)
+one-base x y r = rw (plain-base x y) (if_and _ true ∙ and-true _)
 
 base_word : (x : ℕ) → (eqb (x / 16777216) 65535 && eqb (x / 256 % 65536) 0) ≡ eqb (x / 256) 4294901760
-base_word x = go (eqb (x / 16777216) 65535) refl (eqb (x / 256 % 65536) 0) refl
-  where
-    go : (a : Bool) → eqb (x / 16777216) 65535 ≡ a → (b : Bool) → eqb (x / 256 % 65536) 0 ≡ b → (a && b) ≡ eqb (x / 256) 4294901760
-    go false e b f = let d : x / 16777216 ≡ 65535 → ⊥ = eqb-false _ _ e in sym (ne_eqb (x / 256) 4294901760 (λ z. d (omega arith)))
-    go true e false f = let d : x / 256 % 65536 ≡ 0 → ⊥ = eqb-false _ _ f in sym (ne_eqb (x / 256) 4294901760 (λ z. d (omega arith)))
-    go true e true f =
-        let y : x / 16777216 ≡ 65535 = eqb-true _ _ e in
-        let z : x / 256 % 65536 ≡ 0 = eqb-true _ _ f in
-        sym (eq-eqb (x / 256) 4294901760 (omega arith))
+base_word x = grind (arith, nat_tests)
 
 -- The conditions, put in the words' order.
 
 gather : (ok ik p c so h fi fo b z : Bool) →
     (ok && (ik && (p && (c && so) && (h && fi && fo && b && z)))) ≡ (p && (c && h) && (ok && (so && fo) && (ik && fi && (b && z))))
-gather false ik false c so h fi fo b z = refl
-gather true false false c so h fi fo b z = refl
-gather true true false c so h fi fo b z = refl
-gather false ik true false so h fi fo b z = refl
-gather true false true false so h fi fo b z = refl
-gather true true true false so h fi fo b z = refl
-gather false ik true true so false fi fo b z = refl
-gather true false true true so false fi fo b z = refl
-gather true true true true false false fi fo b z = refl
-gather true true true true true false fi fo b z = refl
-gather false ik true true so true fi fo b z = refl
-gather true false true true false true fi fo b z = refl
-gather true true true true false true fi fo b z = refl
-gather true false true true true true fi true b z = refl
-gather true false true true true true fi false b z = refl
-gather true true true true true true false true b z = refl
-gather true true true true true true false false b z = refl
-gather true true true true true true true false b z = refl
-gather true true true true true true true true b z = refl
+gather ok ik p c so h fi fo b z = grind (arith, nat_tests)
 
 regroup : (o s i f z : Bool) → (o && s && (i && f && z)) ≡ (o && (i && (s && f) && z))
-regroup false s i f z = refl
-regroup true false false f z = refl
-regroup true false true f z = refl
-regroup true true false f z = refl
-regroup true true true f z = refl
-
-pub and_false : (b : Bool) → (b && false) ≡ false
-and_false true = refl
-and_false false = refl
+regroup o s i f z = grind (arith, nat_tests)
 
 -- an operation: its shape and its steps make its row, and its values are sized
 join : (h o i si so st r : Bool) → (si ≡ true → so ≡ true → (h && st) ≡ r) → (h && (o && (i && (si && so && st)))) ≡ (o && so && (i && si) && r)
-join h false i si so st r f = and_false h
-join h true false si so st r f = rw (and_false h, and_false so)
-join h true true false so st r f = rw (and_false h, and_false so)
-join h true true true false st r f = and_false h
-join h true true true true st r f = f refl refl
+join h o i si so st r f = grind (arith, nat_tests)
 
 -- an action with an output that is no operation
 plain : (a o i b : Bool) → (a && (o && (i && (b && true)))) ≡ (o && i && (a && b))
-plain false o i b = sym (and_false (o && i))
-plain true false i b = refl
-plain true true false b = refl
-plain true true true b = and_true b
+plain a o i b = grind (arith, nat_tests)
 
 -- one without output, whose two words are 0
 bare : (p e l a d i v : Bool) → (p && (e && true && l) && (a && d && (i && true))) ≡ ((not (not a || not d) || v) && i && (p && l && e && not (not a || not d)))
-bare p e l false d i v = rw (and_false (p && (e && true && l)), and_false (p && l && e), and_false (v && i))
-bare p e l true false i v = rw (and_false (p && (e && true && l)), and_false (p && l && e), and_false (v && i))
-bare false e l true true i v = sym (and_false i)
-bare true true true true true i v = refl
-bare true true false true true i v = sym (and_false i)
-bare true false true true true i v = sym (and_false i)
-bare true false false true true i v = sym (and_false i)
+bare p e l a d i v = grind (arith, nat_tests)
 
 to_eight : (n : ℕ) → eqb n (min n 8) ≡ leb n 8
-to_eight n = go (leb n 8) refl
-  where
-    go : (b : Bool) → leb n 8 ≡ b → eqb n (min n 8) ≡ b
-    go true e = let h : n ≤ 8 = leb-true n 8 e in eq-eqb n (min n 8) (omega arith)
-    go false e = let h : 8 < n = leb-false n 8 e in ne_eqb n (min n 8) (λ z. omega arith)
+to_eight n = grind (arith, nat_tests)
 
 chain : (a b c d x : Bool) → a ≡ true → c ≡ true → (when a then (when b then (when c then (when d then x else false) else false) else false) else false) ≡ (b && (d && x))
-chain true true true true x e f = refl
-chain true true true false x e f = refl
-chain true false c d x e f = refl
-chain true true false d x e f = cc
-chain false b c d x e f = cc
+chain a b c d x e f = grind (arith, nat_tests)
 
 -- The action that a row is read as, of a kind that its first two words say.
 
@@ -233,7 +176,7 @@ taken true false kind number inputs output f = refl
 taken true true kind number inputs output f = refl
 
 few : (n : ℕ) → leb n 8 ≡ true → min n 8 ≡ n
-few n e = let h : n ≤ 8 = leb-true n 8 e in omega arith
+few n h1 = grind (arith, nat_tests)
 
 module _ (t s p op num cnt o0 o1 x0 y0 x1 y1 : ℕ) (r : List ℕ) where
   abbrev words : List ℕ
@@ -297,8 +240,8 @@ module _ (t s p op num cnt o0 o1 x0 y0 x1 y1 : ℕ) (r : List ℕ) where
       ∙ rw (one-count cnt 1 true true, below_one num) (ap (λ x. value_fit t s false o0 o1 && values_fit t s false cnt words && x) (go (eqb cnt 1) refl))
     where
       go : (e : Bool) → eqb cnt 1 ≡ e → (eqb op 0 && (e && true && eqb num 0) && all plain_base (inputs_of cnt words)) ≡ (eqb op 0 && eqb num 0 && e && true && eqb (y0 / 256) 4294901760)
-      go false f = rw (and_false (eqb op 0), and_false (eqb op 0 && eqb num 0))
-      go true f = rw (eqb-true cnt 1 f, one-base x0 y0 (x1 ∷ y1 ∷ r), base_word y0, and_true (eqb op 0 && eqb num 0), and_true (eqb op 0 && eqb num 0))
+      go false f = rw (and-false (eqb op 0), and-false (eqb op 0 && eqb num 0))
+      go true f = rw (eqb-true cnt 1 f, one-base x0 y0 (x1 ∷ y1 ∷ r), base_word y0, and-true (eqb op 0 && eqb num 0), and-true (eqb op 0 && eqb num 0))
 
   finish-load : Finished ActionKind.LoadRegister
   unfolding action_kind_number operation_of operation_word output_read has_output output_fit base_fits sizes_hold d.operation_holds head_fit kind_fit shape_of same_count or_else and_then
@@ -368,7 +311,7 @@ module _ (t s p op num cnt o0 o1 x0 y0 x1 y1 : ℕ) (r : List ℕ) where
             (eqb op (operation_word (operation_of kind)) && (leb cnt 8 && shaped (min cnt 8) (output_read kind o0 o1) num (shape_of t s kind))
             && (output_fit t s (action_kind_number kind) (output_read kind o0 o1) o0 o1 && (values_fit t s false (min cnt 8) words && (base_fits kind (inputs_of (min cnt 8) words) && sizes_hold p (read kind (output_read kind o0 o1))))))
             ≡ action_fit t s p (row (action_kind_number kind))
-        go false e = rw (e, and_false (eqb op (operation_word (operation_of kind))), and_false (not (has_output (action_kind_number kind) o0 o1) || value_fit t s (eqb (action_kind_number kind) 0) o0 o1))
+        go false e = rw (e, and-false (eqb op (operation_word (operation_of kind))), and-false (not (has_output (action_kind_number kind) o0 o1) || value_fit t s (eqb (action_kind_number kind) 0) o0 o1))
         go true e = rw (few cnt e, e) (finished kind e q)
 
     known_kind : (kind : ActionKind) → eqb op (operation_word (operation_of kind)) ≡ operation_right (action_kind_number kind) op →
@@ -381,8 +324,8 @@ module _ (t s p op num cnt o0 o1 x0 y0 x1 y1 : ℕ) (r : List ℕ) where
 
     no_kind_lem : (k : ℕ) → NoKind k op → false ≡ action_fit t s p (row k)
     unfolding action_fit head_fit operation_fit row_fit
-    no_kind_lem zero (no_operation e) = rw e (sym (and_false ((not (output_there (row 0)) || value_fit t s true o0 o1) && inputs_fit t s true (row 0))))
-    no_kind_lem k (no_kind h) = rw (← head_none s p (output_there (row k)) (row k) h) (sym (and_false ((not (output_there (row k)) || value_fit t s (eqb k 0) o0 o1) && inputs_fit t s (eqb k 0) (row k))))
+    no_kind_lem zero (no_operation e) = rw e (sym (and-false ((not (output_there (row 0)) || value_fit t s true o0 o1) && inputs_fit t s true (row 0))))
+    no_kind_lem k (no_kind h) = rw (← head_none s p (output_there (row k)) (row k) h) (sym (and-false ((not (output_there (row k)) || value_fit t s (eqb k 0) o0 o1) && inputs_fit t s (eqb k 0) (row k))))
 
     -- read by the definition, it is right exactly if its words fit
     pub row_agrees : (k : ℕ) → or_else false (and_then (action_from (row k)) λ a. some (right t s p (row k) a)) ≡ action_fit t s p (row k)

@@ -1,13 +1,15 @@
 -- A value's two words: read as a value, and asked whether they fit.
+use Rattle.std.proofs.lemmas.Bool.Decides.{nat_tests}
 use Prim.Native.Nat.{ℕ, zero, suc, ◌+◌, ◌*◌, ◌/◌, ◌%◌, ◌^◌, ◌≤◌, ◌<◌}
-use mathlib.Core.Path.{◌≡◌, refl, sym, ap}
+use mathlib.Core.Path.{◌≡◌, refl, ap}
 use mathlib.Core.Bool.{Bool, true, false, ◌&&◌, not}
+use Rattle.std.proofs.Math.Bool.{and-true}
 use mathlib.Core.List.{List, [], ◌∷◌, ◌++◌}
 use mathlib.Core.Option.{none, some}
 use native.Mathlib.Omega.{arith}
 use lib.ListN.{length, get_or, drop, get_elem?}
 use lib.Dec.{eqb, ltb}
-use borrow.Author.Tests.{lt-ltb, le-ltb, le-leb, eq-eqb, ne_eqb, ltb-true, ltb-false, eqb-true, eqb-false}
+use borrow.Author.Tests.{le-ltb, le-leb, eq-eqb, ne_eqb, ltb-true}
 use Rattle.prelude.specs.Base.{when◌then◌else◌, or_else, and_then, all, same_numbers}
 use Rattle.definition.specs.Value.{Kind, kind_number, Value}
 use Rattle.definition.specs.ActionList.{or_none, value_words, input_words, filled}
@@ -74,11 +76,7 @@ value_from_lem n x = rw (kind_from (x % 256)) (go (ltb (x % 256) 8))
 
 pub size_back : (z : ℕ) → or_none (size_from z) ≡ z
 unfolding or_none size_from or_else
-size_back z = go (eqb z 65535) refl
-  where
-    go : (b : Bool) → eqb z 65535 ≡ b → or_else 65535 (when b then none else some z) ≡ z
-    go true e = sym (eqb-true _ _ e)
-    go false e = refl
+size_back z = grind (arith, nat_tests)
 
 word_back : (x : ℕ) → x % 256 + 256 * (x / 256 % 65536) + 16777216 * (x / 16777216) ≡ x
 word_back x = omega arith
@@ -89,15 +87,7 @@ value_back n x h = rw (kind_back (x % 256) (ltb-true _ _ h), size_back (x / 1677
 
 size_fit : (x : ℕ) → ltb (or_else 0 (size_from (x / 16777216))) 65535 ≡ ltb x 1099511627776
 unfolding or_else size_from
-size_fit x = go (eqb (x / 16777216) 65535) (ltb (x / 16777216) 65535) refl refl
-  where
-    go : (b c : Bool) → eqb (x / 16777216) 65535 ≡ b → ltb (x / 16777216) 65535 ≡ c → ltb (or_else 0 (when b then none else some (x / 16777216))) 65535 ≡ ltb x 1099511627776
-    go true c e f = let g : x / 16777216 ≡ 65535 = eqb-true _ _ e in rw (lt-ltb x 1099511627776 (omega arith))
-    go false true e f = let g : x / 16777216 < 65535 = ltb-true _ _ f in rw (f, lt-ltb x 1099511627776 (omega arith))
-    go false false e f =
-        let g : x / 16777216 ≡ 65535 → ⊥ = eqb-false _ _ e in
-        let h : 65535 ≤ x / 16777216 = ltb-false _ _ f in
-        rw (f, le-ltb x 1099511627776 (omega arith))
+size_fit x = grind (arith, nat_tests)
 
 pub value_fit_lem : (t s n x : ℕ) → (known x && value_fits t s (value_of n x)) ≡ value_fit t s false n x
 unfolding value_fits value_of known value_fit
@@ -115,14 +105,7 @@ value_fit_lem t s n x =
 -- a value that is to be sized
 pub value_sized : (t s n x : ℕ) → value_fit t s true n x ≡ (value_fit t s false n x && not (eqb (x / 16777216) 65535))
 unfolding value_fit
-value_sized t s n x = go (ltb x 1099511627776) (not (eqb (x / 16777216) 65535)) (number_fit t s (x % 256) n)
-  where
-    go : (a b c : Bool) → (a && b && c) ≡ (a && true && c && b)
-    go false b c = refl
-    go true true true = refl
-    go true true false = refl
-    go true false true = refl
-    go true false false = refl
+value_sized t s n x = grind (arith, nat_tests)
 
 -- Inputs.
 
@@ -158,15 +141,11 @@ same-zeros (x ∷ r) = rw (same-zeros r) (go (eqb x 0))
     go true = refl
     go false = refl
 
-pub and_true : (b : Bool) → (b && true) ≡ b
-and_true true = refl
-and_true false = refl
-
 -- the inputs are read, written as the same words, and fit
 pub inputs_fit_lem : (t s n : ℕ) (r : List ℕ) → 2 * n ≤ length r →
     (inputs_known n r && (same_numbers r (filled (length r) (input_words (inputs_of n r))) && all (value_fits t s) (inputs_of n r))) ≡ values_fit t s false n r
 unfolding inputs_known inputs_of values_fit input_words all same_numbers filled
-inputs_fit_lem t s zero r h = rw (same-zeros r) (and_true (zeros r))
+inputs_fit_lem t s zero r h = rw (same-zeros r) (and-true (zeros r))
 inputs_fit_lem t s (suc n) [] h = absurd (omega arith)
 inputs_fit_lem t s (suc n) (x ∷ []) h = absurd (omega arith)
 inputs_fit_lem t s (suc n) (x ∷ y ∷ r) h = rw (← value_fit_lem t s x y, ← inputs_fit_lem t s n r (omega arith)) (go (known y) refl)

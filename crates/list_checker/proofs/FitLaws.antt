@@ -1,6 +1,7 @@
 -- The inputs of an action: its values, two words each, and zeros behind them.
 use mathlib.Core.Path.{◌≡◌, refl, sym, ◌∙◌, ap}
 use mathlib.Core.Bool.{Bool, true, false, ◌&&◌}
+use Rattle.std.proofs.Math.Bool.{and_assoc}
 use mathlib.Core.List.{List, ◌∷◌}
 use Prim.Native.Nat.{ℕ, zero, suc, ◌+◌, ◌-◌, ◌*◌, ◌≤◌, ◌<◌}
 use native.Mathlib.Omega.{arith}
@@ -10,7 +11,6 @@ use borrow.Author.Tests.{le-leb, lt-leb}
 use Rattle.std.specs.List.{list_all}
 use Rattle.std.specs.Simd.{first_chunks}
 use Rattle.list_checker.specs.Action.{zeros, value_fit, fits, values_fit, inputs_fit}
-use Rattle.list_checker.proofs.AgreeSizes.{assoc}
 
 -- the first chunks of more
 pub first_few : (size m n : ℕ) (ws : List ℕ) → n ≤ m → take n (first_chunks size m ws) ≡ first_chunks size n ws
@@ -25,7 +25,7 @@ module _ (t s : ℕ) (sized : Bool) where
   values_all (suc n) r =
       let e : 2 * suc n ≡ 2 + 2 * n = omega arith in
       rw (e, ← drop-drop (2 * n) 2 r, get_or-take 2 r 0 0 (omega arith), get_or-take 2 r 1 0 (omega arith))
-      (assoc (value_fit t s sized (get_or r 0 0) (get_or r 1 0)) _ _ ∙ ap (λ x. value_fit t s sized (get_or r 0 0) (get_or r 1 0) && x) (values_all n (drop 2 r)))
+      (and_assoc (value_fit t s sized (get_or r 0 0) (get_or r 1 0)) _ _ ∙ ap (λ x. value_fit t s sized (get_or r 0 0) (get_or r 1 0) && x) (values_all n (drop 2 r)))
 
   module _ (w : List ℕ) (values : List (List ℕ)) (long : length w ≡ 24) (few : get_or w 3 0 ≤ 8) (read : values ≡ first_chunks 2 9 (take 18 (drop 6 w))) where
     inputs_all : (list_all (fits t s sized) (take (get_or w 3 0) values) && zeros (take (24 - (6 + 2 * get_or w 3 0)) (drop (6 + 2 * get_or w 3 0) w))) ≡ inputs_fit t s sized w

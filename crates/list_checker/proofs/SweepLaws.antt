@@ -2,6 +2,7 @@
 use Prim.Native.Nat.{ℕ, zero, suc, ◌+◌, ◌-◌, ◌*◌, ◌/◌, ◌≤◌, ◌<◌}
 use mathlib.Core.Path.{◌≡◌, refl, sym, ◌∙◌, ap}
 use mathlib.Core.Bool.{Bool, true, false, ◌&&◌, ◌||◌, not}
+use Rattle.std.proofs.Math.Bool.{and_assoc, and-true}
 use mathlib.Core.List.{List, [], ◌∷◌}
 use native.Mathlib.Omega.{arith}
 use native.Mathlib.Nat.{add-zero}
@@ -15,8 +16,7 @@ use Rattle.prelude.specs.Base.{when◌then◌else◌}
 use Rattle.definition.specs.Checker.{check}
 use Rattle.list_checker.specs.Action.{zeros, action_fit}
 use Rattle.list_checker.specs.Sweep.{Noted, noted, note_label, note_build, all_marked, when_new, sweep, rows_fit, labels_new, built_after, builds_it, any_builds, all_built_by, list_fit}
-use Rattle.list_checker.proofs.AgreeValue.{and_true}
-use Rattle.list_checker.proofs.AgreeSizes.{and_right, assoc}
+use Rattle.list_checker.proofs.AgreeSizes.{and_right}
 use Rattle.list_checker.proofs.FitLaws.{first_few}
 use Rattle.list_checker.proofs.AgreeList.{unmarked_at, check_agrees, check-short}
 
@@ -35,7 +35,7 @@ sweep_parts t s p base (suc n) ws seen built =
     go : ((next : List Bool) → sweep t s p base (first_chunks 24 n (drop 24 ws)) next (note_build base (take 24 ws) built) ≡ (rows_fit t s p n (drop 24 ws) && (labels_new n (drop 24 ws) next && all_marked (s - base) (built_after base n (drop 24 ws) (note_build base (take 24 ws) built))))) →
         (x : Noted) → (action_fit t s p (take 24 ws) && when_new x (λ next. sweep t s p base (first_chunks 24 n (drop 24 ws)) next (note_build base (take 24 ws) built)))
         ≡ (action_fit t s p (take 24 ws) && rows_fit t s p n (drop 24 ws) && (when_new x (λ next. labels_new n (drop 24 ws) next) && all_marked (s - base) (built_after base n (drop 24 ws) (note_build base (take 24 ws) built))))
-    go ih (noted true next) = rw (ih next) (sym (assoc (action_fit t s p (take 24 ws)) (rows_fit t s p n (drop 24 ws)) _))
+    go ih (noted true next) = rw (ih next) (sym (and_assoc (action_fit t s p (take 24 ws)) (rows_fit t s p n (drop 24 ws)) _))
     go ih (noted false next) = stop (action_fit t s p (take 24 ws)) (rows_fit t s p n (drop 24 ws)) (all_marked (s - base) (built_after base n (drop 24 ws) (note_build base (take 24 ws) built)))
 
 -- what a table of subtables holds after the actions
@@ -148,7 +148,7 @@ module _ (t s p base n : ℕ) (ws : List ℕ) (rows : List (List ℕ)) (r : Bool
   e = rw (read, first_few 24 (length ws / 24) n ws room) at swept
 
   marks : (c : ℕ) → c ≤ 256 → all_marked c (built_after base n ws (replicate 256 false)) ≡ all_built_by n ws (base + c)
-  marks c h = sym (and_true _) ∙ rw known at (marks_more base n c ws h)
+  marks c h = sym (and-true _) ∙ rw known at (marks_more base n c ws h)
 
   few : s - base ≤ 256 → r ≡ (rows_fit t s p n ws && (labels_new n ws (replicate 256 false) && all_built_by n ws (base + (s - base))))
   few h = rw (← marks (s - base) h) (e ∙ sweep_parts t s p base n ws (replicate 256 false) (replicate 256 false))
@@ -185,27 +185,30 @@ module _ (t s p base n : ℕ) (ws : List ℕ) (rows : List (List ℕ)) (r : Bool
 
 -- a turn of the loop over the actions, and its end
 
-module _ (t s p base i : ℕ) (rows : List (List ℕ)) (seen built : List Bool) (whole : Bool) (inv : sweep t s p base (drop i rows) seen built ≡ whole) where
-  module _ (a b : Bool) (next : List Bool) (h : i < length rows) (ea : a ≡ action_fit t s p (get_or rows i [])) where
-    turn : (a && when_new (note_label (get_or rows i []) seen) λ later. sweep t s p base (drop (i + 1) rows) later (note_build base (get_or rows i []) built)) ≡ whole
-    unfolding sweep
-    turn = rw (ea, add-one) (rw (drop-cons rows i [] h) at inv)
-
-    pub sweep_unfit : a ≡ false → false ≡ whole
-    sweep_unfit fa = rw fa at turn
-
-    pub sweep_again : a ≡ true → noted b next ≡ note_label (get_or rows i []) seen → b ≡ false → false ≡ whole
-    unfolding when_new
-    sweep_again fa eb fb = rw (fa, ← eb, fb) at turn
-
-    pub sweep_more : a ≡ true → noted b next ≡ note_label (get_or rows i []) seen → b ≡ true → (marked : List Bool) → marked ≡ note_build base (get_or rows i []) built →
-        sweep t s p base (drop (i + 1) rows) next marked ≡ whole
-    unfolding when_new
-    sweep_more fa eb fb marked em = rw em (rw (fa, ← eb, fb) at turn)
-
-  pub sweep-end : (r : Bool) → length rows ≤ i → r ≡ all_marked (s - base) built → r ≡ whole
+module _ (t s p base i : ℕ) (rows : List (List ℕ)) (seen built : List Bool) where
+  turn : i < length rows → (action_fit t s p (get_or rows i []) && when_new (note_label (get_or rows i []) seen) λ later. sweep t s p base (drop (i + 1) rows) later (note_build base (get_or rows i []) built)) ≡ sweep t s p base (drop i rows) seen built
   unfolding sweep
-  sweep-end r h e = e ∙ rw (drop_of_length-le rows h) at inv
+  turn h = rw (add-one, drop-cons rows i [] h)
+
+  pub sweep_unfit : i < length rows → false ≡ action_fit t s p (get_or rows i []) → sweep t s p base (drop i rows) seen built ≡ false
+  sweep_unfit h e = sym (rw (← e) at (turn h))
+
+  pub sweep_again : (next : List Bool) → i < length rows → noted false next ≡ note_label (get_or rows i []) seen → sweep t s p base (drop i rows) seen built ≡ false
+  unfolding when_new
+  sweep_again next h e = sym (rw (← e) at (turn h)) ∙ no (action_fit t s p (get_or rows i []))
+    where
+      no : (a : Bool) → (a && false) ≡ false
+      no true = refl
+      no false = refl
+
+  pub sweep_more : (next marked : List Bool) → i < length rows → true ≡ action_fit t s p (get_or rows i []) → noted true next ≡ note_label (get_or rows i []) seen → marked ≡ note_build base (get_or rows i []) built →
+      sweep t s p base (drop i rows) seen built ≡ sweep t s p base (drop (i + 1) rows) next marked
+  unfolding when_new
+  sweep_more next marked h e f g = rw g (sym (rw (← e, ← f) at (turn h)))
+
+  pub sweep-end : length rows ≤ i → sweep t s p base (drop i rows) seen built ≡ all_marked (s - base) built
+  unfolding sweep
+  sweep-end h = rw (drop_of_length-le rows h)
 
 pub ruleset sweep_laws = (sweep_unfit, sweep_again, sweep_more, sweep-end)
 

@@ -2,7 +2,7 @@
 // most once and that every subtable is built. An action is 24 words: its kind, operation, number and input count, the output
 // and the inputs of two words each, and zeros. A value's words are its number, and its kind, offset and size in one.
 // Kinds and operations stay numbers here: a list may hold any, and a rule holds for runs of them, which an enum would have to
-// list one by one, twice.
+// list one by one, twice. Words become indexes by `as`, which loses nothing: both have 64 bits.
 #![tactic(auto)]
 
 ghost use Rattle.std.specs.Prelude.{◌≡◌, ◌≤◌, false, replicate};

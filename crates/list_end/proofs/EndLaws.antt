@@ -1,9 +1,8 @@
 -- One law for each way out of the functions of the end.
-use Rattle.std.proofs.Common.{◌≡◌, ℕ, suc, ◌+◌, ◌-◌, ◌*◌, ◌/◌, ◌%◌, ◌<◌, ◌≤◌, Bool, true, false, List, get_or, sym, refl, arith, eq-eqb, ne_eqb}
+use Rattle.std.proofs.Common.{◌≡◌, ℕ, suc, ◌+◌, ◌-◌, ◌/◌, ◌<◌, ◌≤◌, List, get_or, sym, refl, arith, ne_eqb}
 use lib.Seq.{set-get_or}
 use Rattle.list_values.specs.declared.value.Value.{Value}
 use Rattle.list_values.specs.declared.sizes.Sizing.{Sizing}
-use Rattle.list_end.specs.declared.end.Fixed.{Fixed}
 use Rattle.std.specs.Prelude.{Ok, Err}
 use Rattle.codes.specs.Refusals.{number}
 use Rattle.codes.proofs.Numbers.{number-nonzero}
@@ -11,39 +10,17 @@ use Rattle.list_end.specs.declared.end.Unfinished.{Unfinished}
 use Rattle.list_end.specs.Outcomes.{Finished, to_finished}
 use Rattle.list_values.specs.Base.{Listed, listed}
 use Rattle.list_values.specs.Values.{with_size, word, value_of, value_at, put_value, place}
-use Rattle.list_values.specs.Sizes.{size_of, recorded, error, falls_back}
+use Rattle.list_values.specs.Sizes.{size_of}
 use Rattle.list_end.specs.End.{fixed, finished, fix_size, put_fixed, fix_operand, finish_op, then_f, finish_from, finish_actions}
 
-module _ (s t m : List ℕ) (v : Value) (ptr : ℕ) (z : Sizing) (known : ℕ) (p : known ≡ size_of s t m v) where
-  pub fix_known : (w : Value) → (known ≡ 65535 → ⊥) → w ≡ with_size known v → fixed w z ≡ fix_size s t m v ptr z
-  unfolding fix_size
-  fix_known w h e = rw (← p, ne_eqb known 65535 h, e)
-
-  module _ (f : Bool) (h : known ≡ 65535) (q : f ≡ falls_back v) where
-    pub fix_fallback : (w : Value) → f ≡ true → w ≡ with_size ptr v → fixed w z ≡ fix_size s t m v ptr z
-    unfolding fix_size
-    fix_fallback w k e = rw (← p, eq-eqb known 65535 h, ← q, k, e)
-
-    pub fix_error : (y : Sizing) → f ≡ false → y ≡ recorded 1 z → fixed v y ≡ fix_size s t m v ptr z
-    unfolding fix_size error
-    fix_error y k e = rw (← p, eq-eqb known 65535 h, ← q, k, e)
-
-pub fix_operand_law : (s t a m a1 : List ℕ) (at i ptr : ℕ) (z : Sizing) (v : Value) (f : Fixed) → v ≡ value_at a at i → f ≡ fix_size s t m v ptr z → a1 ≡ put_value a at i f.v → listed f.z a1 ≡ fix_operand s t a m at i ptr z
-unfolding fix_operand put_fixed
-fix_operand_law s t a m a1 at i ptr z v f p q e = rw (← p, ← q, e)
+fix_known : (s t m : List ℕ) (v w : Value) (ptr : ℕ) (z : Sizing) (known : ℕ) → known ≡ size_of s t m v → (known ≡ 65535 → ⊥) → w ≡ with_size known v → fixed w z ≡ fix_size s t m v ptr z
+unfolding fix_size
+fix_known s t m v w ptr z known p h e = rw (← p, ne_eqb known 65535 h, e)
 
 -- an operand with a size of its own is written back as it is
 word_back : (n w : ℕ) → w / 16777216 < 65535 → word (value_of n w) ≡ w
 unfolding word value_of
-word_back n w h =
-    let a : w % 256 % 256 ≡ w % 256 = omega arith in
-    let b : w / 256 % 65536 % 65536 ≡ w / 256 % 65536 = omega arith in
-    let c : w / 16777216 % 65536 % 65536 ≡ w / 16777216 = omega arith in
-    let d : w / 16777216 ≡ w / 256 / 65536 = omega arith in
-    rw (a, b, c, d) (whole w (w / 256) (omega arith))
-  where
-    whole : (w q : ℕ) → w ≡ 256 * q + w % 256 → w % 256 + q % 65536 * 256 + q / 65536 * 16777216 ≡ w
-    whole w q e = omega arith
+word_back n w h = omega arith
 
 put_back : (a : List ℕ) (at i : ℕ) → get_or a (at + (i + 1)) 0 / 16777216 < 65535 → put_value a at i (value_at a at i) ≡ a
 unfolding put_value value_at value_of
@@ -51,7 +28,7 @@ put_back a at i h = rw (word_back (get_or a (at + i) 0) (get_or a (at + (i + 1))
 
 pub fix_sized : (s t a m : List ℕ) (at i ptr w : ℕ) (z : Sizing) → w ≡ get_or a (at + (i + 1)) 0 → w / 16777216 < 65535 → listed z a ≡ fix_operand s t a m at i ptr z
 unfolding fix_operand put_fixed
-fix_sized s t a m at i ptr w z e h = sym (rw (← fix_known s t m (value_at a at i) ptr z (value_at a at i).size own (value_at a at i) other refl) (rw (put_back a at i (rw (← e) h))))
+fix_sized s t a m at i ptr w z e h = sym (rw (← fix_known s t m (value_at a at i) (value_at a at i) ptr z (value_at a at i).size own other refl) (rw (put_back a at i (rw (← e) h))))
   where
     other : (value_at a at i).size ≡ 65535 → ⊥
     other k = unfold value_at value_of in absurd (omega (arith, k, e, h))

@@ -1,5 +1,6 @@
 // The end: sizes fixed, subpieces turned into copies, the implicit Builds in front, unused words zero. Its loops go by an index:
 // an action may reach past the list's end, where words are read as 0 and none are written, which no method of slices does.
+// Kinds and operations are numbers, since they are words of the list, which may hold any.
 ghost use Rattle.std.specs.Prelude.{◌≡◌};
 ghost use Rattle.codes.specs.Refusals.{number_or_zero};
 ghost use Rattle.list_values.specs.Base.{listed};
@@ -56,7 +57,7 @@ pub fn fix_size(
     }
 }
 
-#[tactic(auto, using(crate::proofs::EndLaws::fix_operand_law, crate::proofs::EndLaws::fix_sized))]
+#[tactic(auto, using(crate::proofs::EndLaws::fix_sized), unfolding(crate::specs::End::fix_operand, crate::specs::End::put_fixed))]
 fn fix_operand(
     section: Section<'_>,
     actions: &mut [u64],

@@ -1,3 +1,1 @@
-pub mod RuleLaws
 pub mod PassLaws
-pub mod PushLaws

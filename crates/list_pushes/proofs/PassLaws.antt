@@ -1,5 +1,5 @@
 -- The turns of a pass: the first, one more, the last; and a pass over one action.
-use mathlib.Core.Path.{◌≡◌, refl}
+use mathlib.Core.Path.{◌≡◌, refl, sym}
 use mathlib.Core.Bool.{Bool, true, false}
 use mathlib.Core.List.{List}
 use Prim.Native.Nat.{ℕ, ◌+◌, ◌-◌, ◌≤◌, ◌<◌}
@@ -45,21 +45,18 @@ module _ (s t : List ℕ) (forward : Bool) (base n ptr : ℕ) (a₀ m₀ : List 
 
 pub ruleset pass_laws = (left_start, left_again, left_end)
 
--- a pass whose errors are then recorded
-pub pass-recorded : (s t a m a1 m1 : List ℕ) (fallback : Bool) (base n ptr k : ℕ) (z y : Sizing) → Counted k a1 m1 (pass s t fallback a m base n ptr) → y ≡ recorded k z → sized y a1 m1 ≡ pass s t fallback a m base n ptr z
-pass-recorded s t a m a1 m1 fallback base n ptr k z y h e = rw e (h.counted z)
-
-pub pass-one : (s t a m a1 m1 : List ℕ) (at ptr k : ℕ) (z y : Sizing) → Counted k a1 m1 (pass s t false a m at 1 ptr) → y ≡ recorded k z → sized y a1 m1 ≡ update_operand_sizes s t false a m at ptr z
+-- a pass over one action
+pub pass_one : (s t a m a1 m1 : List ℕ) (at ptr k : ℕ) (z : Sizing) → Counted k a1 m1 (pass s t false a m at 1 ptr) → update_operand_sizes s t false a m at ptr z ≡ sized (recorded k z) a1 m1
 unfolding pass turns run_down update_action action_place then_s
-pass-one s t a m a1 m1 at ptr k z y h e = pass-recorded s t a m a1 m1 false at 1 ptr k z y h e
+pass_one s t a m a1 m1 at ptr k z h = sym (h.counted z)
 
 module _ (s t a m : List ℕ) (base n ptr : ℕ) (z : Sizing) where
   none : n - 0 ≡ n
   none = omega arith
 
-  pub pass-forward : pass s t true a m base n ptr z ≡ run n 0 (update_action s t true base ptr) (sized z a m)
+  pub pass_forward : pass s t true a m base n ptr z ≡ run n 0 (update_action s t true base ptr) (sized z a m)
   unfolding pass turns
-  pass-forward = rw none
+  pass_forward = rw none
 
   pub pass_backward : pass s t false a m base n ptr z ≡ run_down n (update_action s t false base ptr) (sized z a m)
   unfolding pass turns

@@ -37,7 +37,8 @@ pub struct Env {
     pub count: usize,
 }
 
-// An operation by its code, with its number and at most two inputs.
+// An operation by its code, with its number and at most two inputs. The code stays a number, as an action's kind does: both go
+// into the words of the lent list as they are.
 #[derive(Clone, Copy)]
 pub struct Operation {
     pub code: u64,
@@ -180,7 +181,7 @@ pub fn push(
 }
 
 // The rule of the action pushed last.
-#[tactic(auto, using(crate::proofs::PushLaws::push_laws))]
+#[tactic(auto, using(crate::proofs::PassLaws::pass_one), unfolding(crate::specs::Pushes::update_last, list_values::specs::Sizes::then_s))]
 fn update_last(
     section: Section<'_>,
     actions: &mut [u64],

@@ -1,4 +1,5 @@
-// The size rule of each operation, applied in place to an action of the list, and how many errors that gives.
+// The size rule of each operation, applied in place to an action of the list, and how many errors that gives. Kinds and
+// operations are numbers here: they are words of the list, which may hold any, and a rule holds for runs of them.
 ghost use Rattle.std.specs.Prelude.{◌≡◌};
 ghost use Rattle.list_values.specs.Sizes.{Counted};
 ghost use Rattle.list_pushes.specs.RuleNumbers.{rule_number, partner, pair_rule};
@@ -107,7 +108,7 @@ fn partner(paired: Paired) -> u8
 
 // These three call `set_size_of_pair` from one place, so that it is compiled into it: with a call of its own each, a push takes
 // longer.
-#[tactic(auto, using(crate::proofs::RuleLaws::rule_laws))]
+#[tactic(auto, using(list_values::proofs::SizeLaws::record_sum), unfolding(crate::specs::Rules::shift, crate::specs::Rules::comparison, list_values::specs::Sizes::then_s))]
 fn pair_rule(
     section: Section<'_>,
     paired: Paired,
@@ -149,7 +150,7 @@ fn bool_not(section: Section<'_>, actions: &mut [u64], temporaries: &mut [u64], 
     set_two(section, actions, temporaries, at, INPUT_0, OUTPUT, 1)
 }
 
-#[tactic(auto, using(crate::proofs::RuleLaws::rule_laws))]
+#[tactic(auto, using(list_values::proofs::SizeLaws::record_sum), unfolding(crate::specs::Rules::branch, list_values::specs::Sizes::then_s))]
 fn branch(
     section: Section<'_>,
     actions: &mut [u64],
@@ -201,7 +202,7 @@ fn apply_rule(
 }
 
 // The rule of the Op at a position; other actions are not sized here.
-#[tactic(auto, using(crate::proofs::RuleLaws::rule_laws))]
+#[tactic(auto, unfolding(crate::specs::Rules::update_operand_sizes, list_values::specs::Sizes::recorded))]
 pub fn update_operand_sizes(
     section: Section<'_>,
     fallback: bool,

@@ -1,5 +1,7 @@
-// Known sizes, and setting one: in the operand, in its temporary, or as a recorded error. In all of these s is the stream, t
-// the section's table, a the actions and m the temporaries.
+// Known sizes, and setting one: in the operand, in its temporary, or as a recorded error. A size is a number, 65,535 for none, as
+// the words of a list hold it: from these it comes, and to these it goes back. In the words s is the stream, t the section's
+// table, a the actions and m the temporaries, which are parameters of their own: a struct that holds both lists as `&mut` would
+// need in each contract two clauses more, that it still holds the same ones.
 ghost use Rattle.std.specs.Prelude.{◌≡◌};
 ghost use Rattle.list_values.specs.Sizes.{Settles, Counted, entry, list_size, export_size_of, tmp_size, listed_size, size_of, size_at, sum_of_errors, recorded, size_temporary, settled, set_operand, set_two, set_three, falls_back, pair_fallback, set_size_of_pair, triple_falls_back, triple_fallback, share_size, all_equal, set_size_of_triple, set_unsized};
 
@@ -82,6 +84,7 @@ pub fn size_of(section: Section<'_>, temporaries: &[u64], value: Value) -> u64
     listed_size(section, value.kind, value.number)
 }
 
+// The known size of the operand there, from its words: no value is made of them, since each push asks for two or three sizes.
 #[tactic(auto, unfolding(crate::specs::Sizes::size_at, crate::specs::Sizes::size_of, crate::specs::Sizes::size_of_local, crate::specs::Values::value_at, crate::specs::Values::value_of))]
 fn size_at(section: Section<'_>, actions: &[u64], temporaries: &[u64], at: usize, index: u8) -> u64
     ensures { result ≡ size_at section.entry.stream.now section.entry.table.now actions.now temporaries.now at index }
@@ -144,7 +147,7 @@ fn size_temporary(temporaries: &mut [u64], value: Value, size: u64)
 }
 
 // A size set on a value whose known size was that one: 1 where that is an error, else 0.
-#[tactic(auto, using(crate::proofs::SizeLaws::size_laws))]
+#[tactic(auto, unfolding(crate::specs::Sizes::settled, crate::specs::Sizes::error, crate::specs::Sizes::recorded))]
 pub fn settle(temporaries: &mut [u64], value: Value, known: u64, size: u64) -> u64
     ensures { Settles result temporaries.new (settled temporaries.old value known size) }
 {
@@ -159,7 +162,7 @@ pub fn settle(temporaries: &mut [u64], value: Value, known: u64, size: u64) -> u
 }
 
 // Sets the size of the operand i after a position.
-#[tactic(auto, using(crate::proofs::SizeLaws::size_laws))]
+#[tactic(auto, unfolding(crate::specs::Sizes::set_operand, crate::specs::Sizes::size_at, crate::specs::Base::then_l))]
 pub fn set_operand(
     section: Section<'_>,
     actions: &mut [u64],
@@ -177,7 +180,7 @@ pub fn set_operand(
 }
 
 // The same of two operands, one after the other.
-#[tactic(auto, using(crate::proofs::SizeLaws::size_laws))]
+#[tactic(auto, using(crate::proofs::SizeLaws::record_sum), unfolding(crate::specs::Sizes::set_two, crate::specs::Sizes::then_s))]
 pub fn set_two(
     section: Section<'_>,
     actions: &mut [u64],
@@ -194,7 +197,7 @@ pub fn set_two(
     sum_of_errors(first, second)
 }
 
-#[tactic(auto, using(crate::proofs::SizeLaws::size_laws))]
+#[tactic(auto, using(crate::proofs::SizeLaws::record_sum), unfolding(crate::specs::Sizes::set_three, crate::specs::Sizes::then_s))]
 pub fn set_three(
     section: Section<'_>,
     actions: &mut [u64],
@@ -220,7 +223,7 @@ pub fn falls_back(value: Value) -> bool
     )
 }
 
-#[tactic(auto, using(crate::proofs::SizeLaws::share_laws))]
+#[tactic(auto, unfolding(crate::specs::Sizes::pair_fallback, crate::specs::Sizes::recorded))]
 fn pair_fallback(
     section: Section<'_>,
     fallback: bool,
@@ -242,7 +245,7 @@ fn pair_fallback(
 }
 
 // Two operands have one size.
-#[tactic(auto, using(crate::proofs::SizeLaws::share_laws))]
+#[tactic(auto, unfolding(crate::specs::Sizes::set_size_of_pair, crate::specs::Sizes::share_pair, crate::specs::Sizes::recorded))]
 pub fn set_size_of_pair(
     section: Section<'_>,
     fallback: bool,
@@ -287,7 +290,7 @@ fn triple_falls_back(actions: &[u64], at: usize) -> bool
         || falls_back(value_at(actions, at, OUTPUT))
 }
 
-#[tactic(auto, using(crate::proofs::SizeLaws::share_laws))]
+#[tactic(auto, unfolding(crate::specs::Sizes::triple_fallback, crate::specs::Sizes::recorded))]
 fn triple_fallback(
     section: Section<'_>,
     fallback: bool,
@@ -305,7 +308,7 @@ fn triple_fallback(
 }
 
 // The other two take the size of the first known one.
-#[tactic(auto, using(crate::proofs::SizeLaws::share_laws))]
+#[tactic(auto, unfolding(crate::specs::Sizes::share_size, crate::specs::Sizes::recorded))]
 fn share_size(
     section: Section<'_>,
     actions: &mut [u64],
@@ -334,7 +337,7 @@ fn all_equal(first: u64, second: u64, third: u64) -> bool
 }
 
 // Both inputs and the output have one size.
-#[tactic(auto, using(crate::proofs::SizeLaws::share_laws))]
+#[tactic(auto, unfolding(crate::specs::Sizes::set_size_of_triple, crate::specs::Sizes::share_triple, crate::specs::Sizes::recorded))]
 pub fn set_size_of_triple(
     section: Section<'_>,
     fallback: bool,
@@ -358,7 +361,7 @@ pub fn set_size_of_triple(
 }
 
 // An operand with no known size takes pointer size.
-#[tactic(auto, using(crate::proofs::SizeLaws::share_laws))]
+#[tactic(auto, unfolding(crate::specs::Sizes::set_unsized, crate::specs::Sizes::recorded))]
 pub fn set_unsized(
     section: Section<'_>,
     actions: &mut [u64],

@@ -16,6 +16,11 @@ pub const INPUT_0: u8 = action::INPUT_0 as u8;
 
 pub const INPUT_1: u8 = action::INPUT_1 as u8;
 
+// Actions are numbered below the one from a position below the other, so that no position overflows.
+const INDEX_BOUND: usize = 700000000000000000;
+
+const BASE_BOUND: usize = 4096;
+
 // The greatest offset that a value's second word holds.
 const LAST_OFFSET: u64 = 65535;
 
@@ -65,9 +70,7 @@ pub fn no_output() -> Value
 {
     Value {
         kind: NO_OUTPUT,
-        number: 0,
-        offset: 0,
-        size: 0,
+        ..absent()
     }
 }
 
@@ -147,7 +150,7 @@ pub fn put_size(list: &mut [u64], at: usize, index: u8, size: u64)
     );
 }
 
-// The words of an action from one of them on are made 0.
+// The words of an action from one of them on are made 0. By an index, since those past the list's end are none, as with `put`.
 #[tactic(auto, using(access::proofs::LoopLaws::run_again, access::proofs::LoopLaws::run_end), unfolding(crate::specs::Values::zero_words))]
 pub fn zero_words(list: &mut [u64], at: usize, from: usize)
     ensures { list.new ≡ zero_words list.old at from }
@@ -162,7 +165,7 @@ pub fn zero_words(list: &mut [u64], at: usize, from: usize)
 pub fn place(base: usize, index: usize) -> usize
     ensures { result ≡ place base index }
 {
-    if base < 4096 && index < 700000000000000000 {
+    if base < BASE_BOUND && index < INDEX_BOUND {
         return base + index * action::WORDS;
     }
     0
