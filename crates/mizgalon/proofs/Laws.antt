@@ -6,7 +6,6 @@ use mathlib.Core.List.{List}
 use native.Mathlib.Omega.{arith}
 use lib.ListN.{length}
 use borrow.Author.Tests.{eq-eqb, ne_eqb}
-use Rattle.prelude.specs.Base.{when◌then◌else◌}
 use Rattle.definition.specs.SectionFile.{read}
 use Rattle.definition.specs.ActionList.{Answer, numbers, resolve}
 use Rattle.definition.specs.Checker.{check}
@@ -46,9 +45,6 @@ module _ (file : List ℕ) (la lt : ℕ) (r : Numbers) (b u : List ℕ) (h : ans
   unfolding checked
   not_checked k = rw (ne_eqb (resolve file la lt).result.refusal 0 (λ z. k (refusal_is ∙ z)))
 
-  pub vacuous : (r.refusal ≡ 0 → ⊥) → premise file la lt ≡ true → r.refusal ≡ 0 → false ≡ true
-  vacuous k p z = absurd (k z)
-
   module _ (c : Counts) (counted : c ≡ counts (subtable_count (read file)) (pointer_size_in (read file))) (x : Bool) (e : x ≡ check b r.actions r.temporaries c.subtables c.pointer) where
     passes_is : x ≡ passes file la lt
     passes_is = e ∙ ap (λ (k : Counts). check b r.actions r.temporaries k.subtables k.pointer) counted
@@ -61,4 +57,6 @@ module _ (file : List ℕ) (la lt : ℕ) (r : Numbers) (b u : List ℕ) (h : ans
     pub held : r.refusal ≡ 0 → premise file la lt ≡ true → r.refusal ≡ 0 → x ≡ true
     held z p q = passes_is ∙ accepted_files_pass file la lt (sym refusal_is ∙ z) p
 
-pub ruleset laws = (resolved, in_array, actions_are, temporaries_are, not_checked, vacuous, is_checked, held)
+pub ruleset parts = (in_array, actions_are, temporaries_are)
+
+pub ruleset checked_laws = (not_checked, is_checked, held)

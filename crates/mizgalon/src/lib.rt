@@ -12,7 +12,8 @@ ghost use Rattle.resolve_refinement.specs.Answers.{result_of, answer};
 use resolve_answer::answer::Answer;
 use resolve_file::resolve_words;
 
-// An answer, and whether its list passes the checker; a refused section's does not.
+// An answer, and whether its list passes the checker; a refused section's does not. A flag beside the answer, since both are
+// told of each file.
 #[derive(Clone, Copy)]
 pub struct Checked {
     pub answer: Answer,
@@ -20,6 +21,7 @@ pub struct Checked {
 }
 
 // Every file and every pair of lists: an accepted section, or one refusal after which both lists are zero.
+#[tactic(auto, using(crate::proofs::Laws::resolved))]
 pub fn resolve(file: &[u8], actions: &mut [u64], temporaries: &mut [u64]) -> Answer
     ensures { answer (result_of result) actions.new temporaries.new ≡ resolve file.now (length actions.old) (length temporaries.old) }
 {
@@ -45,7 +47,8 @@ fn numbers(answer: Answer) -> [u64; 12]
     ]
 }
 
-// The same, with the twelve numbers in a lent array.
+// The same, with the twelve numbers in a lent array, as C has them.
+#[tactic(auto, using(crate::proofs::Laws::parts))]
 pub fn mizgalon_resolve(
     file: &[u8],
     actions: &mut [u64],
@@ -84,7 +87,7 @@ pub fn resolve_checked(file: &[u8], actions: &mut [u64], temporaries: &mut [u64]
     Checked { answer, passes }
 }
 
-// Whether a list is one that passes, whoever made it.
+// Whether a list is one that passes, whoever made it. Numbers and no struct, since C calls it (include/mizgalon.h).
 pub fn mizgalon_check(
     list: &[u64],
     actions: u64,

@@ -1,45 +1,52 @@
 -- One law for each way out of the functions from the stream up to the file.
-use mathlib.Core.Path.{◌≡◌, sym}
-use mathlib.Core.Bool.{false}
-use mathlib.Core.List.{List, ◌++◌}
-use Prim.Native.Nat.{ℕ, ◌+◌, ◌*◌, ◌/◌, ◌≤◌, ◌<◌}
-use lib.ListN.{length, get_or, take, replicate}
+use mathlib.Core.Path.{◌≡◌, refl, sym, ap}
+use mathlib.Core.Bool.{Bool, true, false}
+use mathlib.Core.List.{List}
+use Prim.Native.Nat.{ℕ, ◌/◌, ◌<◌}
+use lib.ListN.{length, get_or, replicate}
 use lib.Dec.{eqb}
-use borrow.Author.Tests.{eq-eqb, ne_eqb, lt-ltb, le-ltb}
+use borrow.Author.Tests.{eqb-false}
 use Rattle.codes.specs.declared.refusal.Refusal.{Refusal}
 use Rattle.codes.specs.Refusals.{number}
-use Rattle.codes.proofs.Numbers.{number-nonzero}
 use Rattle.definition.specs.SectionFile.{stream_of}
 use Rattle.access.specs.Le.{le16}
 use Rattle.file_blocks.specs.Blocks.{refusal_of, joined}
-use Rattle.file_refinement.proofs.FileTheorem.{one_block, checked_room, front, front_room}
+use Rattle.file_section.specs.Stream.{answer, read_stream}
+use Rattle.file_section.specs.Stream as streams
+use Rattle.resolve_file.specs.Sections.{GivenSection, read_table, read_file}
+use Rattle.resolve_file.proofs.SectionLaws.{not_zero}
+use Rattle.prelude.specs.Base.{when◌then◌else◌}
 use Rattle.list_pushes.specs.declared.push.Env.{Env}
-use Rattle.list_values.specs.declared.value.Value.{Value}
-use Rattle.list_values.specs.Values.{absent, place}
-use Rattle.list_values.specs.Sizes.{entry}
 use Rattle.stmt_walk.specs.Outcomes.{Walk}
 use Rattle.stmt_walk.specs.Outcomes.{Step}
 use Rattle.stmt_walk.specs.Walks.{stepped, walked, without_p}
 use Rattle.stmt_bodies.specs.Statements.{resolve_body}
-use Rattle.resolve_answer.specs.declared.answer.Answer.{Answer}
-use Rattle.resolve_answer.specs.Answers.{Resolved}
-use Rattle.resolve_answer.specs.Ends.{finish}
-use Rattle.resolve_file.specs.Files.{pointer_size, at_start, start_env, walk_section, resolve_walked, resolve_section, resolve_stream}
+use Rattle.resolve_answer.specs.Answers.{refused}
+use Rattle.resolve_file.specs.Files.{at_start, start_env, walk_section, resolve_section, resolve_read, resolve_stream, resolve_file}
 
 pub walk_law : (s t a m p1 a1 m1 : List ℕ) (subtables ptr pos n ordinal : ℕ) (e : Env) (w : Walk) (r : Step) → pos ≡ get_or t 3337 0 → (n ≡ le16 s 22) × (n < 65536) → ordinal ≡ get_or t 3338 0 → e ≡ start_env ptr → w ≡ at_start subtables →
     walked r p1 a1 m1 ≡ resolve_body 16 s t (replicate 406 0) a m e pos n ordinal w → stepped r a1 m1 ≡ walk_section s t a m subtables ptr
 unfolding walk_section without_p
 walk_law s t a m p1 a1 m1 subtables ptr pos n ordinal e w r h i j k l f = rw (← h, ← i.0, ← j, ← k, ← l, ← f)
 
-pub not_zero : (r : Refusal) → eqb (number r) 0 ≡ false
-not_zero r = ne_eqb (number r) 0 (number-nonzero r)
+-- a file resolved by its section, and one that is refused
+pub by_section : (file stream table a m : List ℕ) → GivenSection file stream table → resolve_file file a m ≡ resolve_section stream table a m
+unfolding resolve_file resolve_stream resolve_read read_file read_table
+by_section file stream table a m s = go (eqb (refusal_of (stream_of file)) 0) refl s.read
+  where
+    go : (b : Bool) → eqb (refusal_of (stream_of file)) 0 ≡ b →
+        answer 0 table ≡ (when b then read_stream (joined (length file / 512) file) (replicate 3344 0) else answer (refusal_of (stream_of file)) (replicate 3344 0)) →
+        (when b then resolve_stream (joined (length file / 512) file) a m else refused a m (refusal_of (stream_of file)) 65535 0) ≡ resolve_section stream table a m
+    go true e f = rw (← f, s.stream_is)
+    go false e f = let z : 0 ≡ refusal_of (stream_of file) = ap (λ (x : streams.Answer). x.refusal) f in absurd (eqb-false _ _ e (sym z))
 
-pub blocks_law : (file rest buf a m : List ℕ) (r : Resolved) → buf ≡ joined (length file / 512) file ++ rest → r ≡ resolve_stream (take (length file / 512 * 510) buf) a m → r ≡ resolve_stream (joined (length file / 512) file) a m
-blocks_law file rest buf a m r e f = rw (e, front file rest) at f
+pub by_refusal : (file a m : List ℕ) (r : Refusal) → number r ≡ (read_file file).refusal → resolve_file file a m ≡ refused a m (number r) 65535 0
+unfolding resolve_file resolve_stream resolve_read read_file read_table
+by_refusal file a m r e = go (eqb (refusal_of (stream_of file)) 0) e
+  where
+    go : (b : Bool) → number r ≡ (when b then read_stream (joined (length file / 512) file) (replicate 3344 0) else answer (refusal_of (stream_of file)) (replicate 3344 0)).refusal →
+        (when b then resolve_stream (joined (length file / 512) file) a m else refused a m (refusal_of (stream_of file)) 65535 0) ≡ refused a m (number r) 65535 0
+    go true f = rw (← f, not_zero r)
+    go false f = rw f
 
-pub room : (file : List ℕ) → 0 ≡ refusal_of (stream_of file) → length file / 512 * 510 ≤ 65280
-room file p = checked_room file (sym p)
-
-pub ruleset words_laws = (not_zero, one_block, room)
-
-pub ruleset file_laws = (front_room, blocks_law)
+pub ruleset file_laws = (by_section, by_refusal)

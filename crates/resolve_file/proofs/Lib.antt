@@ -1,1 +1,2 @@
 mod FileLaws
+mod SectionLaws

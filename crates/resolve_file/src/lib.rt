@@ -2,13 +2,12 @@
 // lists are zero.
 #![tactic(auto)]
 
-ghost use Rattle.std.specs.Prelude.{◌≡◌, ◌*◌, ◌/◌, ◌≤◌, length, take};
-ghost use Rattle.file_blocks.specs.Blocks.{joined};
+ghost use Rattle.std.specs.Prelude.{◌≡◌};
 ghost use Rattle.stmt_walk.specs.Outcomes.{to_walk, to_steps};
 ghost use Rattle.stmt_walk.specs.Walks.{stepped};
 ghost use Rattle.resolve_answer.specs.Answers.{resolved_to};
 ghost use Rattle.resolve_answer.specs.Outcomes.{to_resolved};
-ghost use Rattle.resolve_file.specs.Files.{pointer_size, at_start, start_env, walk_section, resolve_section, resolve_stream, resolve_file};
+ghost use Rattle.resolve_file.specs.Files.{pointer_size, at_start, start_env, walk_section, resolve_section, resolve_file};
 
 use codes::refusal::Refusal;
 use codes::{NONE, action, header, table};
@@ -19,8 +18,11 @@ use list_values::sizes::{Sizing, entry};
 use list_values::value::place;
 use resolve_answer::answer::{Answer, Rejected, refused};
 use resolve_answer::finish::finish;
+use section::with_section;
 use stmt_bodies::statements::body;
 use stmt_walk::walk::{Stopped, Walk};
+
+pub mod section;
 
 // How deep macro calls go at most.
 const DEPTH: u64 = 16;
@@ -117,68 +119,21 @@ fn resolve_section(
     finish(section, actions, temporaries, pointer, walk)
 }
 
-#[tactic(auto, using(crate::proofs::FileLaws::not_zero), unfolding(crate::specs::Files::resolve_stream, crate::specs::Files::resolve_read))]
-fn resolve_stream(
-    stream: &[u8],
-    actions: &mut [u64],
-    temporaries: &mut [u64],
-) -> Result<Answer, Rejected>
-    ensures { to_resolved result actions.new temporaries.new ≡ resolve_stream stream.now actions.old temporaries.old }
-{
-    let mut table = [0u16; table::LENGTH];
-    file_section::read_stream(stream, &mut table)?;
-    let section = Section {
-        stream,
-        table: &table,
-    };
-    resolve_section(section, actions, temporaries)
-}
-
-// The stream is the first n bytes.
-fn resolve_front(
-    bytes: &[u8],
-    count: usize,
-    actions: &mut [u64],
-    temporaries: &mut [u64],
-) -> Result<Answer, Rejected>
-    requires { count ≤ length bytes.now }
-    ensures { to_resolved result actions.new temporaries.new ≡ resolve_stream (take count bytes.now) actions.old temporaries.old }
-{
-    resolve_stream(&bytes[..count], actions, temporaries)
-}
-
-// A file of several blocks, whose payloads are joined. The one block of a small file is read where it stands, since to make
-// this room for it would take as long as all the rest.
 #[tactic(auto, using(crate::proofs::FileLaws::file_laws))]
-fn resolve_blocks(
-    file: &[u8],
-    actions: &mut [u64],
-    temporaries: &mut [u64],
-) -> Result<Answer, Rejected>
-    requires { length file.now / 512 * 510 ≤ 65280 }
-    ensures { to_resolved result actions.new temporaries.new ≡ resolve_stream (joined (length file.now / 512) file.now) actions.old temporaries.old }
-{
-    let mut buf = [0u8; 65280];
-    file_blocks::blocks::join(file, &mut buf);
-    let n = file.len() / 512 * 510;
-    resolve_front(&buf, n, actions, temporaries)
-}
-
-#[tactic(auto, using(crate::proofs::FileLaws::words_laws), unfolding(crate::specs::Files::resolve_file))]
-fn resolve(file: &[u8], actions: &mut [u64], temporaries: &mut [u64]) -> Result<Answer, Rejected>
-    ensures { to_resolved result actions.new temporaries.new ≡ resolve_file file.now actions.old temporaries.old }
-{
-    file_blocks::blocks::check_blocks(file)?;
-    if file.len() == 512 {
-        return resolve_front(file, 510, actions, temporaries);
-    }
-    resolve_blocks(file, actions, temporaries)
-}
-
 pub fn resolve_words(file: &[u8], actions: &mut [u64], temporaries: &mut [u64]) -> Answer
     ensures { resolved_to result actions.new temporaries.new ≡ resolve_file file.now actions.old temporaries.old }
 {
-    match resolve(file, actions, temporaries) {
+    let mut outcome = Err(Rejected::from(Refusal::Malformed));
+    let read = with_section(
+        file,
+        &mut |section: Section<'_>| {
+            outcome = resolve_section(section, actions, temporaries);
+        },
+    );
+    if let Err(refusal) = read {
+        return refused(actions, temporaries, Rejected::from(refusal));
+    }
+    match outcome {
         Ok(answer) => answer,
         Err(why) => refused(actions, temporaries, why),
     }

@@ -1,5 +1,5 @@
-use Rattle.resolve_counts.proofs.Laws.{refused}
+use Rattle.resolve_counts.proofs.Laws.{by_refusal}
 use Rattle.resolve_counts.proofs.section_counts.Goals as goal
 
 pub returns-in-Err : goal.returns-in-Err
-returns-in-Err c = refused _ _ _ c.in-Err.is c.check_blocks.ensures
+returns-in-Err c = by_refusal _ c.in-Err.field-0 c.in-Err.ensures.refused.0
