@@ -257,6 +257,7 @@ fn load(
     op_to(section, actions, temporaries, env, load, out.v, out.st)
 }
 
+// Not one function with `load`: an operation's rule sizes what it loads, and this action has its size as its number.
 #[tactic(auto, unfolding(crate::specs::Reading::load_register, crate::specs::Reading::load_register_to, crate::specs::Reading::pushed_out, crate::specs::Reading::pushed_to, list_pushes::specs::Pushes::on_tmp))]
 fn load_register(
     section: Section<'_>,

@@ -1,4 +1,6 @@
-// Expressions, resolved by a walk over their prefix code: each part one level deeper.
+// Expressions, resolved by a walk over their prefix code: each part one level deeper. Codes stay the bytes that the stream has:
+// the reader has refused those that mean nothing, but no type says so here, and as an enum each would be converted at every
+// step, and have a variant more for such a byte.
 ghost use Rattle.std.specs.Prelude.{◌≡◌, ◌+◌, ℕ, List, Ok, IfSome};
 ghost use Rattle.access.specs.Le.{le16};
 ghost use Rattle.expr_scope.specs.Scopes.{resolve_ident};
@@ -11,7 +13,7 @@ use access::u16_in;
 use codes::refusal::Refusal;
 use codes::{NONE, expression, header, operation};
 use expr_reading::read::{constant, read_operand};
-use expr_scope::args::put_arg;
+use expr_scope::args::{ARGS_WORDS, put_arg};
 use expr_scope::scope::{Bits, ExprValue, plain_local, resolve_ident};
 use expr_terms::address::resolve_address;
 use expr_terms::answers::{Operand, Resolved, after};
@@ -386,7 +388,7 @@ fn call_inbuilt(
     Ok(applied(operation, later(0, second.next), second.state))
 }
 
-// n arguments, resolved only, into the slots of `args`.
+// n arguments, resolved only, into the slots of `args`, which are a macro's scope in one call and an array in another.
 #[cycle(call_inbuilt_expr_value_part_resolve_args_resolve_call_resolve_expr_resolve_op_user_op)]
 #[tactic(auto, using(crate::proofs::ExprLaws::args_laws))]
 pub fn resolve_args(
@@ -430,7 +432,7 @@ fn user_op(
 ) -> Result<Resolved, Refusal>
     ensures { resolved (to_expr result) actions.new temporaries.new ≡ user_op (resolve_expr deep section.entry.stream.now section.entry.table.now scope.now env) section.entry.stream.now section.entry.table.now env pos id count actions.old temporaries.old state }
 {
-    let mut args = [0u64; 64];
+    let mut args = [0u64; ARGS_WORDS];
     let (next, state) = resolve_args(
         deep,
         section,

@@ -8,7 +8,7 @@ ghost use Rattle.expr_scope.specs.Slots.{one_value, slot_of, of_slot, put_slot, 
 ghost use Rattle.expr_scope.specs.Scopes.{find_param, own_local, tmp_local, lookup_local, bit_range, global_meaning, inner_meaning, resolve_ident, plain_local, named_tmp};
 
 use crate::smalls::{put_small, small};
-use crate::symbols::{Symbol, lookup};
+use crate::symbols::{NAMES, Symbol, lookup};
 use codes::refusal::Refusal;
 use codes::{header, table, value_kind};
 use list_pushes::push::{Env, Operation, State, add_tmp};
@@ -54,7 +54,7 @@ pub struct Bits {
     pub count: u64,
 }
 
-// So many bytes that a pointer refers to; 0 where no size is stated.
+// So many bytes that a pointer refers to; 0 where no size is stated, as the words of slots and actions have it.
 #[derive(Clone, Copy)]
 pub struct Access {
     pub pointer: Value,
@@ -196,12 +196,12 @@ fn find_param(scope: &[u64], count: usize, name: u64) -> Option<usize>
         .find(|&i| get(scope, param_place(i), SLOT_NAME) == name)
 }
 
-// A field or a subtable.
+// A field or a subtable, as the word of the table has it: twice its number, odd for a field, and 0 for neither.
 #[tactic(auto, unfolding(crate::specs::Scopes::own_local, crate::specs::Scopes::own_of))]
 fn own_local(table: &[u16; table::LENGTH], name: u64) -> Option<Value>
     ensures { to_found result ≡ own_local table.now name }
 {
-    let own = access::get(table, table::LOCALS + (name % 1024) as usize) as u64;
+    let own = access::get(table, table::LOCALS + (name % NAMES) as usize) as u64;
     if own == 0 {
         return None;
     }
@@ -215,7 +215,7 @@ fn own_local(table: &[u16; table::LENGTH], name: u64) -> Option<Value>
 fn tmp_local(scope: &[u64], name: u64) -> Option<Value>
     ensures { to_found result ≡ tmp_local scope.now name }
 {
-    let more = small(scope, (name % 1024) as usize);
+    let more = small(scope, (name % NAMES) as usize);
     if more == 0 {
         return None;
     }
@@ -331,7 +331,8 @@ pub fn plain_local(section: Section<'_>, scope: &[u64], env: Env, name: u64) -> 
     }
 }
 
-// A named temporary is made, then declared: the scope has one more than its number.
+// A named temporary is made, then declared: the scope has one more than its number. Its size may be missing: it stays the word
+// that the list of temporaries keeps.
 #[tactic(auto, unfolding(crate::specs::Scopes::named_tmp, crate::specs::Scopes::undeclared, list_pushes::specs::Pushes::on_tmp))]
 pub fn named_tmp(
     table: &[u16; table::LENGTH],
@@ -348,7 +349,7 @@ pub fn named_tmp(
     match lookup_local(table, scope, env.own, name) {
         Some(_) => Err(Refusal::Redeclared),
         None => {
-            put_small(scope, (name % 1024) as usize, next.temporaries as u64);
+            put_small(scope, (name % NAMES) as usize, next.temporaries as u64);
             Ok((value, next))
         }
     }

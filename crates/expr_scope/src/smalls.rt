@@ -1,5 +1,6 @@
 // The small numbers of a scope. They stand in its list behind the slots of its parameters, ten bits each and six to a word:
-// for each name one of its local, and then for each name one of its label.
+// for each name one of its local, and then for each name one of its label. So a scope is a fixed number of words on the stack,
+// since there is no heap; an index or a number in it is one of these ten bits, 0 where there is none.
 ghost use Rattle.std.specs.Prelude.{◌≡◌, ◌%◌, ◌<◌};
 ghost use Rattle.expr_scope.specs.Smalls.{with_small, small, put_small};
 

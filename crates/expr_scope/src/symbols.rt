@@ -4,6 +4,9 @@ ghost use Rattle.expr_scope.specs.Symbols.{place_of, lookup};
 
 use codes::{symbol_kind, table};
 
+// A file has at most so many names: each part of the table that is by name has a word for each of them.
+pub const NAMES: u64 = 1024;
+
 // What a global is, and its place in the list of its kind.
 #[derive(Clone, Copy)]
 pub enum Symbol {
@@ -22,7 +25,7 @@ pub enum Symbol {
 pub fn lookup(table: &[u16; table::LENGTH], name: u64) -> Symbol
     ensures { (result ≡ lookup table.now name) × (place_of result < 8192) }
 {
-    let g = access::get(table, table::GLOBALS + (name % 1024) as usize) as u64;
+    let g = access::get(table, table::GLOBALS + (name % NAMES) as usize) as u64;
     if g == 0 {
         return Symbol::Undefined;
     }

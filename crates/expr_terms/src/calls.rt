@@ -16,7 +16,7 @@ use expr_inbuilts::inbuilt::translate_inbuilt_func;
 use expr_reading::read::read_operand;
 use expr_scope::args::arg_at;
 use expr_scope::scope::{ExprValue, resolve_ident};
-use expr_scope::symbols::{Symbol, lookup};
+use expr_scope::symbols::{NAMES, Symbol, lookup};
 use list_pushes::push::{Env, Operation, State, push_op};
 use list_values::section::Section;
 use list_values::value::{Value, no_output};
@@ -74,7 +74,7 @@ pub fn callee_of(section: Section<'_>, name: u64, count: u64) -> Result<Callee, 
     ensures { to_callee result ≡ callee_of section.entry.stream.now section.entry.table.now name count }
 {
     let table = section.table;
-    let at = access::get(table, (name % 1024) as usize) as usize;
+    let at = access::get(table, (name % NAMES) as usize) as usize;
     let inbuilt = translate_inbuilt_func(section.stream, at);
     inbuilt_or(inbuilt, table, name, count)
 }
@@ -99,7 +99,8 @@ fn pass_arg(
     push_op(section, actions, temporaries, env, arg, no_output(), state)
 }
 
-// The arguments from the third on, each followed by its Arg.
+// The arguments from the third on, each followed by its Arg. Their slots go round after eight, so a slice of them would not
+// tell how many there are: the number stands beside.
 #[tactic(auto, using(crate::proofs::CallLaws::args_laws))]
 fn pass_args(
     section: Section<'_>,

@@ -43,6 +43,7 @@ pub fn store(
     Ok((stored.next, Walk { st, ..walk }))
 }
 
+// Not one function with `store`: this action is no operation, and has its size as its number.
 #[tactic(auto, unfolding(crate::specs::Stores::store_register, crate::specs::Stores::register_stated, list_values::specs::Base::then_l, stmt_walk::specs::Walks::pushed_then))]
 fn store_register(
     section: Section<'_>,

@@ -1,4 +1,5 @@
-// Statements and macro bodies, which resolve each other: a macro call one level deeper.
+// Statements and macro bodies, which resolve each other: a macro call one level deeper. Codes stay the bytes of the stream, as
+// in expressions.
 ghost use Rattle.std.specs.Prelude.{◌≡◌};
 ghost use Rattle.stmt_walk.specs.Outcomes.{to_walk, to_step, to_steps};
 ghost use Rattle.stmt_walk.specs.Walks.{stepped, walked};
@@ -16,7 +17,7 @@ use list_values::sizes::Sizing;
 use stmt_assignments::copies::copy_statement;
 use stmt_assignments::stores::store_statement;
 use stmt_branches::branches::{branch, cond_branch, label_statement};
-use stmt_simple::calls::{Called, called_of, delay_slot, macro_args, macro_at, user_op_statement};
+use stmt_simple::calls::{Called, MACROS, called_of, delay_slot, macro_args, macro_at, user_op_statement};
 use stmt_simple::simple::{
     build, export_statement, local_assignment, local_statement, unimplemented,
 };
@@ -147,7 +148,7 @@ fn body_at(at: usize, parameters: u64) -> usize
 fn first_ordinal(table: &[u16; table::LENGTH], id: u64) -> u64
     ensures { result ≡ first_ordinal table.now id }
 {
-    access::get(table, table::MACRO_ORDINALS + (id % 128) as usize) as u64
+    access::get(table, table::MACRO_ORDINALS + (id % MACROS) as usize) as u64
 }
 
 // The body of a macro, whose parameters are bound in the words of its scope.

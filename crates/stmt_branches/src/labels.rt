@@ -7,6 +7,7 @@ ghost use Rattle.stmt_branches.specs.Labels.{label_place, get_or_insert_label, p
 
 use codes::refusal::Refusal;
 use expr_scope::smalls::{LABELS, put_small, small};
+use expr_scope::symbols::NAMES;
 use list_pushes::push::State;
 use stmt_walk::walk::Walk;
 
@@ -20,7 +21,7 @@ const PLACED: u64 = 512;
 fn label_place(name: u64) -> usize
     ensures { result ≡ label_place name }
 {
-    LABELS + (name % 1024) as usize
+    LABELS + (name % NAMES) as usize
 }
 
 // The label of a name in a scope, else the next one, up to 256.

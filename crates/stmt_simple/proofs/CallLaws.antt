@@ -59,10 +59,6 @@ pub bind_names_law : (n i : ℕ) (s : List ℕ) (names : ℕ) (args q : List ℕ
 unfolding bind_names
 bind_names_law n i s names args q h e = run_end n i (bind_name s names) q _ h e
 
-pub macro_at_law : (t : List ℕ) (id r : ℕ) → r ≡ get_or t (3072 + id % 128) 0 → r ≡ macro_at t id
-unfolding macro_at
-macro_at_law t id r h = h
-
 pub ruleset args_laws = (args_start, args_end, args_stop, args_next)
 
 pub ruleset inputs_laws = (input_law, inputs_law, run_start, run_again)

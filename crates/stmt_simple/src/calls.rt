@@ -14,7 +14,7 @@ use codes::refusal::Refusal;
 use codes::{action_kind, header, operation, table};
 use expr_reading::read::read_operand;
 use expr_resolver::expr::{DEPTH, resolve_args};
-use expr_scope::args::arg_at;
+use expr_scope::args::{ARGS_WORDS, arg_at};
 use expr_scope::scope::{SLOT_A, SLOT_NAME, param_place};
 use expr_scope::symbols::{Symbol, lookup};
 use expr_terms::answers::after;
@@ -24,6 +24,9 @@ use list_values::section::Section;
 use list_values::value::{INPUT_0, absent, no_output, put, put_value, value_at};
 use stmt_walk::walk::Walk;
 
+// A file has at most so many macros.
+pub const MACROS: u64 = 128;
+
 // What a call statement calls: the delay slot, or a user op or a macro by its number.
 #[derive(Clone, Copy)]
 pub enum Called {
@@ -32,6 +35,7 @@ pub enum Called {
     Macro(u64),
 }
 
+// A statement calls no local, and a macro only a statement, so this is not the function of expressions.
 #[tactic(auto, unfolding(crate::specs::Calls::symbol_called))]
 fn symbol_called(symbol: Symbol) -> Result<Called, Refusal>
     ensures { to_called result ≡ symbol_called symbol }
@@ -164,7 +168,7 @@ pub fn user_op_statement(
 ) -> Result<(usize, Walk), Refusal>
     ensures { stepped (to_step walk result) actions.new temporaries.new ≡ user_op_statement section.entry.stream.now section.entry.table.now scope.now actions.old temporaries.old env pos id count (to_walk walk) }
 {
-    let mut args = [0u64; 64];
+    let mut args = [0u64; ARGS_WORDS];
     let (next, state) = resolve_args(
         DEPTH,
         section,
@@ -195,7 +199,7 @@ pub fn user_op_statement(
 pub fn macro_at(table: &[u16; table::LENGTH], id: u64) -> usize
     ensures { result ≡ macro_at table.now id }
 {
-    access::get(table, table::MACROS + (id % 128) as usize) as usize
+    access::get(table, table::MACROS + (id % MACROS) as usize) as usize
 }
 
 // Gives n arguments the names of the macro's parameters, which stand from a position on: each slot's first word.

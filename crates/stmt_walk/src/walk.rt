@@ -16,7 +16,9 @@ pub enum Export {
     RegisterRef { pointer: Value, size: u64 },
 }
 
-// The walk's state above that of expressions: labels given, labels placed, statements begun, the export.
+// The walk's state above that of expressions: labels given, labels placed, statements begun, the export. A step is given the
+// walk as it stood when its statement began, and beside it the state as expressions left it since: the state is put into the
+// walk once, where the statement ends, and a refusal names the statement by the walk alone.
 #[derive(Clone, Copy)]
 pub struct Walk {
     pub st: State,
