@@ -9,7 +9,7 @@ ghost use Rattle.expr_reading.specs.Reading.{needed_bytes, constant, set_size, s
 use codes::refusal::Refusal;
 use codes::{NONE, action_kind, operation, value_kind};
 use expr_scope::scope::{Access, Bits, ExprValue};
-use list_pushes::push::{Env, Operation, State, add_tmp, op, op_to, output_or, push};
+use list_pushes::push::{Context, Operation, State, add_tmp, op, op_to, output_or, push};
 use list_values::section::Section;
 use list_values::sizes::{record_errors, settle, size_of};
 use list_values::value::{Value, absent, local, slice_bytes, with_size};
@@ -102,20 +102,19 @@ pub fn take_stated(
 
 #[tactic(auto, unfolding(crate::specs::Reading::copy_to))]
 fn copy_to(
-    section: Section<'_>,
+    context: Context<'_>,
     actions: &mut [u64],
     temporaries: &mut [u64],
-    env: Env,
     to: Option<Value>,
     value: Value,
     state: State,
 ) -> Result<(Value, State), Refusal>
-    ensures { read (to_read result) actions.new temporaries.new ≡ copy_to section.entry.stream.now section.entry.table.now actions.old temporaries.old env (is_some to) (unwrap_or to absent) value state }
+    ensures { read (to_read result) actions.new temporaries.new ≡ copy_to context.entry.section.stream.now context.entry.section.table.now actions.old temporaries.old context.entry.env (is_some to) (unwrap_or to absent) value state }
 {
     match to {
         Some(output) => {
             let copy = Operation::unary(operation::COPY, value);
-            op_to(section, actions, temporaries, env, copy, output, state)
+            op_to(context, actions, temporaries, copy, output, state)
         }
         None => Ok((value, state)),
     }
@@ -140,83 +139,70 @@ pub fn sliced(value: Value, more: u64, size: u64, state: State) -> Result<(Value
 // An operation into a temporary, and then so many of its low bits.
 #[tactic(auto, unfolding(crate::specs::Reading::masked, list_pushes::specs::Pushes::on_read))]
 pub fn masked(
-    section: Section<'_>,
+    context: Context<'_>,
     actions: &mut [u64],
     temporaries: &mut [u64],
-    env: Env,
     operation: Operation,
     tmp: Value,
     bits: u64,
     state: State,
 ) -> Result<(Value, State), Refusal>
-    ensures { read (to_read result) actions.new temporaries.new ≡ masked section.entry.stream.now section.entry.table.now actions.old temporaries.old env operation tmp bits state }
+    ensures { read (to_read result) actions.new temporaries.new ≡ masked context.entry.section.stream.now context.entry.section.table.now actions.old temporaries.old context.entry.env operation tmp bits state }
 {
-    let (_, state) = op_to(section, actions, temporaries, env, operation, tmp, state)?;
+    let (_, state) = op_to(context, actions, temporaries, operation, tmp, state)?;
     let low = Operation::binary(operation::INT_AND, tmp, constant(access::mask(bits)));
-    op_to(section, actions, temporaries, env, low, tmp, state)
+    op_to(context, actions, temporaries, low, tmp, state)
 }
 
 #[tactic(auto, unfolding(crate::specs::Reading::shift_and_mask, crate::specs::Reading::shift_to, crate::specs::Reading::masked, list_pushes::specs::Pushes::on_tmp, list_pushes::specs::Pushes::on_read))]
 fn shift_and_mask(
-    section: Section<'_>,
+    context: Context<'_>,
     actions: &mut [u64],
     temporaries: &mut [u64],
-    env: Env,
     value: Value,
     bits: Bits,
     state: State,
 ) -> Result<(Value, State), Refusal>
-    ensures { read (to_read result) actions.new temporaries.new ≡ shift_and_mask section.entry.stream.now section.entry.table.now actions.old temporaries.old env value bits.from bits.count state }
+    ensures { read (to_read result) actions.new temporaries.new ≡ shift_and_mask context.entry.section.stream.now context.entry.section.table.now actions.old temporaries.old context.entry.env value bits.from bits.count state }
 {
-    let size = size_of(section, temporaries, value);
+    let size = size_of(context.section, temporaries, value);
     let (tmp, state) = add_tmp(temporaries, NONE, size, state)?;
     let shift = Operation::binary(operation::INT_RIGHT, value, constant(bits.from));
-    let (_, state) = masked(
-        section,
-        actions,
-        temporaries,
-        env,
-        shift,
-        tmp,
-        bits.count,
-        state,
-    )?;
+    let (_, state) = masked(context, actions, temporaries, shift, tmp, bits.count, state)?;
     Ok((with_size(tmp, needed_bytes(bits.count)), state))
 }
 
 #[tactic(auto, unfolding(crate::specs::Reading::part_of))]
 fn part_of(
-    section: Section<'_>,
+    context: Context<'_>,
     actions: &mut [u64],
     temporaries: &mut [u64],
-    env: Env,
     value: Value,
     bits: Bits,
     state: State,
 ) -> Result<(Value, State), Refusal>
-    ensures { read (to_read result) actions.new temporaries.new ≡ part_of section.entry.stream.now section.entry.table.now actions.old temporaries.old env value bits.from bits.count state }
+    ensures { read (to_read result) actions.new temporaries.new ≡ part_of context.entry.section.stream.now context.entry.section.table.now actions.old temporaries.old context.entry.env value bits.from bits.count state }
 {
     if byte_aligned(bits) {
         return sliced(value, bits.from / 8, bits.count / 8, state);
     }
-    shift_and_mask(section, actions, temporaries, env, value, bits, state)
+    shift_and_mask(context, actions, temporaries, value, bits, state)
 }
 
 #[tactic(auto, unfolding(crate::specs::Reading::read_slice, list_pushes::specs::Pushes::on_read))]
 pub fn read_slice(
-    section: Section<'_>,
+    context: Context<'_>,
     actions: &mut [u64],
     temporaries: &mut [u64],
-    env: Env,
     value: Value,
     bits: Bits,
     to: Option<Value>,
     state: State,
 ) -> Result<(Value, State), Refusal>
-    ensures { read (to_read result) actions.new temporaries.new ≡ read_slice section.entry.stream.now section.entry.table.now actions.old temporaries.old env value bits.from bits.count (is_some to) (unwrap_or to absent) state }
+    ensures { read (to_read result) actions.new temporaries.new ≡ read_slice context.entry.section.stream.now context.entry.section.table.now actions.old temporaries.old context.entry.env value bits.from bits.count (is_some to) (unwrap_or to absent) state }
 {
-    let (part, next) = part_of(section, actions, temporaries, env, value, bits, state)?;
-    copy_to(section, actions, temporaries, env, to, part, next)
+    let (part, next) = part_of(context, actions, temporaries, value, bits, state)?;
+    copy_to(context, actions, temporaries, to, part, next)
 }
 
 #[tactic(auto, unfolding(crate::specs::Reading::read_address, crate::specs::Reading::pushed_out, crate::specs::Reading::pushed_to, list_pushes::specs::Pushes::on_tmp))]
@@ -241,20 +227,19 @@ fn read_address(
 
 #[tactic(auto, unfolding(crate::specs::Reading::load, crate::specs::Reading::load_to, list_pushes::specs::Pushes::on_tmp))]
 fn load(
-    section: Section<'_>,
+    context: Context<'_>,
     actions: &mut [u64],
     temporaries: &mut [u64],
-    env: Env,
     from: Access,
     to: Option<Value>,
     state: State,
 ) -> Result<(Value, State), Refusal>
-    ensures { read (to_read result) actions.new temporaries.new ≡ load section.entry.stream.now section.entry.table.now actions.old temporaries.old env from.pointer from.size (is_some to) (unwrap_or to absent) state }
+    ensures { read (to_read result) actions.new temporaries.new ≡ load context.entry.section.stream.now context.entry.section.table.now actions.old temporaries.old context.entry.env from.pointer from.size (is_some to) (unwrap_or to absent) state }
 {
     let (value, next) = output_or(temporaries, to, NONE, state)?;
-    let out = take_stated(section, temporaries, value, from.size, next);
+    let out = take_stated(context.section, temporaries, value, from.size, next);
     let load = Operation::unary(operation::LOAD, from.pointer);
-    op_to(section, actions, temporaries, env, load, out.v, out.st)
+    op_to(context, actions, temporaries, load, out.v, out.st)
 }
 
 // Not one function with `load`: an operation's rule sizes what it loads, and this action has its size as its number.
@@ -281,36 +266,33 @@ fn load_register(
 
 #[tactic(auto, unfolding(crate::specs::Reading::read_value))]
 pub fn read_value(
-    section: Section<'_>,
+    context: Context<'_>,
     actions: &mut [u64],
     temporaries: &mut [u64],
-    env: Env,
     expr: ExprValue,
     to: Option<Value>,
     state: State,
 ) -> Result<(Value, State), Refusal>
-    ensures { read (to_read result) actions.new temporaries.new ≡ read_value section.entry.stream.now section.entry.table.now actions.old temporaries.old env expr (is_some to) (unwrap_or to absent) state }
+    ensures { read (to_read result) actions.new temporaries.new ≡ read_value context.entry.section.stream.now context.entry.section.table.now actions.old temporaries.old context.entry.env expr (is_some to) (unwrap_or to absent) state }
 {
     match expr {
-        ExprValue::Local(v) => copy_to(section, actions, temporaries, env, to, v, state),
-        ExprValue::Unbound(v) => copy_to(section, actions, temporaries, env, to, v, state),
+        ExprValue::Local(v) => copy_to(context, actions, temporaries, to, v, state),
+        ExprValue::Unbound(v) => copy_to(context, actions, temporaries, to, v, state),
         ExprValue::Const { value, size } => {
             let v = with_size(constant(value), size);
-            copy_to(section, actions, temporaries, env, to, v, state)
+            copy_to(context, actions, temporaries, to, v, state)
         }
-        ExprValue::Apply(operation) => {
-            op(section, actions, temporaries, env, operation, to, state)
-        }
-        ExprValue::RamRef(from) => load(section, actions, temporaries, env, from, to, state),
+        ExprValue::Apply(operation) => { op(context, actions, temporaries, operation, to, state) }
+        ExprValue::RamRef(from) => load(context, actions, temporaries, from, to, state),
         ExprValue::RegisterRef(from) => {
-            load_register(section, actions, temporaries, from, to, state)
+            load_register(context.section, actions, temporaries, from, to, state)
         }
         ExprValue::AddressOf { base, size } => {
             read_address(actions, temporaries, base, size, to, state)
         }
         ExprValue::BitRange { v, bits } => {
             // By a name of its own, so that the answers of the other arms need not go through memory.
-            let r = read_slice(section, actions, temporaries, env, v, bits, to, state);
+            let r = read_slice(context, actions, temporaries, v, bits, to, state);
             r
         }
     }
@@ -319,14 +301,13 @@ pub fn read_value(
 // Read as an operand, with no output given.
 #[tactic(auto, unfolding(crate::specs::Reading::read_operand))]
 pub fn read_operand(
-    section: Section<'_>,
+    context: Context<'_>,
     actions: &mut [u64],
     temporaries: &mut [u64],
-    env: Env,
     expr: ExprValue,
     state: State,
 ) -> Result<(Value, State), Refusal>
-    ensures { read (to_read result) actions.new temporaries.new ≡ read_operand section.entry.stream.now section.entry.table.now actions.old temporaries.old env expr state }
+    ensures { read (to_read result) actions.new temporaries.new ≡ read_operand context.entry.section.stream.now context.entry.section.table.now actions.old temporaries.old context.entry.env expr state }
 {
-    read_value(section, actions, temporaries, env, expr, None, state)
+    read_value(context, actions, temporaries, expr, None, state)
 }

@@ -20,8 +20,7 @@ use expr_terms::answers::{Operand, Resolved, after};
 use expr_terms::calls::{Callee, applied, call_user_op, callee_of, subpiece};
 use expr_terms::slices::slice_bits;
 use file_syntax::cursor::{Cursor, place_of};
-use list_pushes::push::{Env, Operation, State};
-use list_values::section::Section;
+use list_pushes::push::{Context, Operation, State};
 
 // How deep expressions are nested at most.
 pub const DEPTH: u64 = 32;
@@ -56,34 +55,37 @@ fn local_address(expr: ExprValue, size: u64, next: usize, state: State) -> Resul
 
 #[tactic(auto, unfolding(crate::specs::Expressions::address_of, crate::specs::Expressions::address_meant))]
 fn address_of(
-    section: Section<'_>,
+    context: Context<'_>,
     scope: &[u64],
     pos: usize,
-    env: Env,
     state: State,
 ) -> Result<Resolved, Refusal>
-    ensures { to_expr result ≡ address_of section.entry.stream.now section.entry.table.now scope.now pos env state }
+    ensures { to_expr result ≡ address_of context.entry.section.stream.now context.entry.section.table.now scope.now pos context.entry.env state }
 {
-    let base = resolve_ident(section, scope, env, u16_in(section.stream, pos, 3))?;
-    local_address(base, u16_in(section.stream, pos, 1), after(pos, 5), state)
+    let base = resolve_ident(context, scope, u16_in(context.section.stream, pos, 3))?;
+    local_address(
+        base,
+        u16_in(context.section.stream, pos, 1),
+        after(pos, 5),
+        state,
+    )
 }
 
 // The name at a position.
 #[tactic(auto, using(expr_scope::proofs::ScopeLaws::plain_means), unfolding(crate::specs::Expressions::means_at))]
 fn name_at(
-    section: Section<'_>,
+    context: Context<'_>,
     scope: &[u64],
     pos: usize,
-    env: Env,
     state: State,
 ) -> Result<Resolved, Refusal>
-    ensures { to_expr result ≡ means_at (resolve_ident section.entry.stream.now section.entry.table.now scope.now env (le16 section.entry.stream.now (pos + 1))) (after pos 3) state }
+    ensures { to_expr result ≡ means_at (resolve_ident context.entry.section.stream.now context.entry.section.table.now scope.now context.entry.env (le16 context.entry.section.stream.now (pos + 1))) (after pos 3) state }
 {
-    let name = u16_in(section.stream, pos, 1);
+    let name = u16_in(context.section.stream, pos, 1);
     let next = after(pos, 3);
-    let value = match plain_local(section, scope, env, name) {
+    let value = match plain_local(context, scope, name) {
         Some(local) => ExprValue::Local(local),
-        None => resolve_ident(section, scope, env, name)?,
+        None => resolve_ident(context, scope, name)?,
     };
     Ok(Resolved { next, value, state })
 }
@@ -92,25 +94,24 @@ fn name_at(
 #[tactic(auto, unfolding(crate::specs::Expressions::atom, crate::specs::Expressions::means_at))]
 fn atom(
     code: u64,
-    section: Section<'_>,
+    context: Context<'_>,
     scope: &[u64],
     pos: usize,
-    env: Env,
     state: State,
 ) -> Result<Resolved, Refusal>
-    ensures { to_expr result ≡ atom code section.entry.stream.now section.entry.table.now scope.now pos env state }
+    ensures { to_expr result ≡ atom code context.entry.section.stream.now context.entry.section.table.now scope.now pos context.entry.env state }
 {
     match code {
-        expression::IDENT => name_at(section, scope, pos, env, state),
+        expression::IDENT => name_at(context, scope, pos, state),
         expression::INTEGER => Ok(Resolved {
             next: after(pos, 9),
             value: ExprValue::Const {
-                value: access::u64_at(section.stream, after(pos, 1)),
+                value: access::u64_at(context.section.stream, after(pos, 1)),
                 size: NONE,
             },
             state,
         }),
-        _ => address_of(section, scope, pos, env, state),
+        _ => address_of(context, scope, pos, state),
     }
 }
 
@@ -182,51 +183,48 @@ fn part_at(code: u64) -> usize
 #[tactic(auto, unfolding(crate::specs::Expressions::with_part))]
 fn with_part(
     code: u64,
-    section: Section<'_>,
+    context: Context<'_>,
     actions: &mut [u64],
     temporaries: &mut [u64],
     pos: usize,
-    env: Env,
     part: Resolved,
 ) -> Result<Resolved, Refusal>
-    ensures { resolved (to_expr result) actions.new temporaries.new ≡ with_part code section.entry.stream.now section.entry.table.now actions.old temporaries.old pos env part.value part.next part.state }
+    ensures { resolved (to_expr result) actions.new temporaries.new ≡ with_part code context.entry.section.stream.now context.entry.section.table.now actions.old temporaries.old pos context.entry.env part.value part.next part.state }
 {
     let next = part.next;
     match code {
         expression::TRUNCATE => {
             let bits = Bits {
                 from: 0,
-                count: 8 * u16_in(section.stream, next, 0),
+                count: 8 * u16_in(context.section.stream, next, 0),
             };
             let next = after(next, 2);
             slice_bits(
-                section,
+                context,
                 actions,
                 temporaries,
-                env,
                 Resolved { next, ..part },
                 bits,
             )
         }
         expression::SLICE_BITS => {
             let bits = Bits {
-                from: u16_in(section.stream, next, 0),
-                count: u16_in(section.stream, next, 2),
+                from: u16_in(context.section.stream, next, 0),
+                count: u16_in(context.section.stream, next, 2),
             };
             let next = after(next, 4);
             slice_bits(
-                section,
+                context,
                 actions,
                 temporaries,
-                env,
                 Resolved { next, ..part },
                 bits,
             )
         }
         _ => {
-            let space = u16_in(section.stream, pos, 1);
-            let size = u16_in(section.stream, pos, 3);
-            resolve_address(section, actions, temporaries, env, space, size, part)
+            let space = u16_in(context.section.stream, pos, 1);
+            let size = u16_in(context.section.stream, pos, 3);
+            resolve_address(context, actions, temporaries, space, size, part)
         }
     }
 }
@@ -235,20 +233,19 @@ fn with_part(
 #[tactic(auto, using(crate::proofs::ExprLaws::plain_read, crate::proofs::ExprLaws::integer_read))]
 fn plain_operand(
     deep: u64,
-    section: Section<'_>,
+    context: Context<'_>,
     scope: &[u64],
     pos: usize,
-    env: Env,
     state: State,
 ) -> Option<Operand>
-    ensures { IfSome result (λ o. (a m : List ℕ) → operand (to_operand (Ok o)) a m ≡ expr_value (resolve_expr deep section.entry.stream.now section.entry.table.now scope.now env) section.entry.stream.now section.entry.table.now env pos a m state) }
+    ensures { IfSome result (λ o. (a m : List ℕ) → operand (to_operand (Ok o)) a m ≡ expr_value (resolve_expr deep context.entry.section.stream.now context.entry.section.table.now scope.now context.entry.env) context.entry.section.stream.now context.entry.section.table.now context.entry.env pos a m state) }
 {
     if deep == 0 {
         return None;
     }
-    match access::byte(section.stream, pos, 0) {
+    match access::byte(context.section.stream, pos, 0) {
         expression::IDENT => {
-            let value = plain_local(section, scope, env, u16_in(section.stream, pos, 1))?;
+            let value = plain_local(context, scope, u16_in(context.section.stream, pos, 1))?;
             Some(Operand {
                 value,
                 next: after(pos, 3),
@@ -256,7 +253,7 @@ fn plain_operand(
             })
         }
         expression::INTEGER => Some(Operand {
-            value: constant(access::u64_at(section.stream, after(pos, 1))),
+            value: constant(access::u64_at(context.section.stream, after(pos, 1))),
             next: after(pos, 9),
             state,
         }),
@@ -269,21 +266,20 @@ fn plain_operand(
 #[tactic(auto, unfolding(crate::specs::Expressions::expr_value, crate::specs::Expressions::value_then, expr_terms::specs::Answers::on_expr, expr_terms::specs::Answers::operand_of))]
 pub fn expr_value(
     deep: u64,
-    section: Section<'_>,
+    context: Context<'_>,
     scope: &[u64],
     pos: usize,
-    env: Env,
     actions: &mut [u64],
     temporaries: &mut [u64],
     state: State,
 ) -> Result<Operand, Refusal>
-    ensures { operand (to_operand result) actions.new temporaries.new ≡ expr_value (resolve_expr deep section.entry.stream.now section.entry.table.now scope.now env) section.entry.stream.now section.entry.table.now env pos actions.old temporaries.old state }
+    ensures { operand (to_operand result) actions.new temporaries.new ≡ expr_value (resolve_expr deep context.entry.section.stream.now context.entry.section.table.now scope.now context.entry.env) context.entry.section.stream.now context.entry.section.table.now context.entry.env pos actions.old temporaries.old state }
 {
-    if let Some(operand) = plain_operand(deep, section, scope, pos, env, state) {
+    if let Some(operand) = plain_operand(deep, context, scope, pos, state) {
         return Ok(operand);
     }
-    let expr = resolve_expr(deep, section, scope, pos, env, actions, temporaries, state)?;
-    let (value, state) = read_operand(section, actions, temporaries, env, expr.value, expr.state)?;
+    let expr = resolve_expr(deep, context, scope, pos, actions, temporaries, state)?;
+    let (value, state) = read_operand(context, actions, temporaries, expr.value, expr.state)?;
     Ok(Operand {
         value,
         next: expr.next,
@@ -297,52 +293,48 @@ pub fn expr_value(
 fn part(
     deep: u64,
     code: u64,
-    section: Section<'_>,
+    context: Context<'_>,
     scope: &[u64],
     pos: usize,
-    env: Env,
     actions: &mut [u64],
     temporaries: &mut [u64],
     state: State,
 ) -> Result<Resolved, Refusal>
-    ensures { resolved (to_expr result) actions.new temporaries.new ≡ part (resolve_expr deep section.entry.stream.now section.entry.table.now scope.now env) code section.entry.stream.now section.entry.table.now env pos actions.old temporaries.old state }
+    ensures { resolved (to_expr result) actions.new temporaries.new ≡ part (resolve_expr deep context.entry.section.stream.now context.entry.section.table.now scope.now context.entry.env) code context.entry.section.stream.now context.entry.section.table.now context.entry.env pos actions.old temporaries.old state }
 {
     let at = after(pos, part_at(code));
-    let part = resolve_expr(deep, section, scope, at, env, actions, temporaries, state)?;
-    with_part(code, section, actions, temporaries, pos, env, part)
+    let part = resolve_expr(deep, context, scope, at, actions, temporaries, state)?;
+    with_part(code, context, actions, temporaries, pos, part)
 }
 
 #[cycle(call_inbuilt_expr_value_part_resolve_args_resolve_call_resolve_expr_resolve_op_user_op)]
 #[tactic(auto, unfolding(crate::specs::Expressions::resolve_op, crate::specs::Expressions::binary, crate::specs::Expressions::apply2, expr_terms::specs::Answers::on_operand, expr_terms::specs::Answers::applied_to))]
 fn resolve_op(
     deep: u64,
-    section: Section<'_>,
+    context: Context<'_>,
     scope: &[u64],
     pos: usize,
-    env: Env,
     actions: &mut [u64],
     temporaries: &mut [u64],
     state: State,
 ) -> Result<Resolved, Refusal>
-    ensures { resolved (to_expr result) actions.new temporaries.new ≡ resolve_op (resolve_expr deep section.entry.stream.now section.entry.table.now scope.now env) section.entry.stream.now section.entry.table.now env pos actions.old temporaries.old state }
+    ensures { resolved (to_expr result) actions.new temporaries.new ≡ resolve_op (resolve_expr deep context.entry.section.stream.now context.entry.section.table.now scope.now context.entry.env) context.entry.section.stream.now context.entry.section.table.now context.entry.env pos actions.old temporaries.old state }
 {
-    let order = operands_of(section.stream, pos);
+    let order = operands_of(context.section.stream, pos);
     let first = expr_value(
         deep,
-        section,
+        context,
         scope,
         order.first,
-        env,
         actions,
         temporaries,
         state,
     )?;
     let second = expr_value(
         deep,
-        section,
+        context,
         scope,
         order.second,
-        env,
         actions,
         temporaries,
         first.state,
@@ -356,30 +348,28 @@ fn resolve_op(
 #[tactic(auto, unfolding(crate::specs::Expressions::call_inbuilt, crate::specs::Expressions::second_of, crate::specs::Expressions::apply1, crate::specs::Expressions::apply2, expr_terms::specs::Answers::on_operand, expr_terms::specs::Answers::applied_to))]
 fn call_inbuilt(
     deep: u64,
-    section: Section<'_>,
+    context: Context<'_>,
     scope: &[u64],
     pos: usize,
     op: u64,
     count: u64,
-    env: Env,
     actions: &mut [u64],
     temporaries: &mut [u64],
     state: State,
 ) -> Result<Resolved, Refusal>
-    ensures { resolved (to_expr result) actions.new temporaries.new ≡ call_inbuilt (resolve_expr deep section.entry.stream.now section.entry.table.now scope.now env) section.entry.stream.now section.entry.table.now env pos op count actions.old temporaries.old state }
+    ensures { resolved (to_expr result) actions.new temporaries.new ≡ call_inbuilt (resolve_expr deep context.entry.section.stream.now context.entry.section.table.now scope.now context.entry.env) context.entry.section.stream.now context.entry.section.table.now context.entry.env pos op count actions.old temporaries.old state }
 {
     let at = after(pos, 4);
-    let first = expr_value(deep, section, scope, at, env, actions, temporaries, state)?;
+    let first = expr_value(deep, context, scope, at, actions, temporaries, state)?;
     if count != 2 {
         let operation = Operation::unary(op, first.value);
         return Ok(applied(operation, first.next, first.state));
     }
     let second = expr_value(
         deep,
-        section,
+        context,
         scope,
         first.next,
-        env,
         actions,
         temporaries,
         first.state,
@@ -393,22 +383,21 @@ fn call_inbuilt(
 #[tactic(auto, using(crate::proofs::ExprLaws::args_laws))]
 pub fn resolve_args(
     deep: u64,
-    section: Section<'_>,
+    context: Context<'_>,
     scope: &[u64],
     pos: usize,
     count: u64,
-    env: Env,
     actions: &mut [u64],
     temporaries: &mut [u64],
     args: &mut [u64],
     state: State,
 ) -> Result<(usize, State), Refusal>
-    ensures { passed (to_args result) actions.new temporaries.new args.new ≡ resolve_args (resolve_expr deep section.entry.stream.now section.entry.table.now scope.now env) count 0 pos actions.old temporaries.old args.old state }
+    ensures { passed (to_args result) actions.new temporaries.new args.new ≡ resolve_args (resolve_expr deep context.entry.section.stream.now context.entry.section.table.now scope.now context.entry.env) count 0 pos actions.old temporaries.old args.old state }
 {
     let mut at = pos;
     let mut state = state;
     for i in 0..count {
-        let arg = resolve_expr(deep, section, scope, at, env, actions, temporaries, state)?;
+        let arg = resolve_expr(deep, context, scope, at, actions, temporaries, state)?;
         put_arg(args, i, arg.value);
         at = arg.next;
         state = arg.state;
@@ -420,70 +409,56 @@ pub fn resolve_args(
 #[tactic(auto, unfolding(crate::specs::Expressions::user_op, expr_terms::specs::Answers::on_args))]
 fn user_op(
     deep: u64,
-    section: Section<'_>,
+    context: Context<'_>,
     scope: &[u64],
     pos: usize,
     id: u64,
     count: u64,
-    env: Env,
     actions: &mut [u64],
     temporaries: &mut [u64],
     state: State,
 ) -> Result<Resolved, Refusal>
-    ensures { resolved (to_expr result) actions.new temporaries.new ≡ user_op (resolve_expr deep section.entry.stream.now section.entry.table.now scope.now env) section.entry.stream.now section.entry.table.now env pos id count actions.old temporaries.old state }
+    ensures { resolved (to_expr result) actions.new temporaries.new ≡ user_op (resolve_expr deep context.entry.section.stream.now context.entry.section.table.now scope.now context.entry.env) context.entry.section.stream.now context.entry.section.table.now context.entry.env pos id count actions.old temporaries.old state }
 {
     let mut args = [0u64; ARGS_WORDS];
     let (next, state) = resolve_args(
         deep,
-        section,
+        context,
         scope,
         after(pos, 4),
         count,
-        env,
         actions,
         temporaries,
         &mut args,
         state,
     )?;
-    call_user_op(
-        section,
-        actions,
-        temporaries,
-        &args,
-        count,
-        id,
-        next,
-        env,
-        state,
-    )
+    call_user_op(context, actions, temporaries, &args, count, id, next, state)
 }
 
 #[cycle(call_inbuilt_expr_value_part_resolve_args_resolve_call_resolve_expr_resolve_op_user_op)]
 #[tactic(auto, unfolding(crate::specs::Expressions::resolve_call, crate::specs::Expressions::call_named))]
 fn resolve_call(
     deep: u64,
-    section: Section<'_>,
+    context: Context<'_>,
     scope: &[u64],
     pos: usize,
-    env: Env,
     actions: &mut [u64],
     temporaries: &mut [u64],
     state: State,
 ) -> Result<Resolved, Refusal>
-    ensures { resolved (to_expr result) actions.new temporaries.new ≡ resolve_call (resolve_expr deep section.entry.stream.now section.entry.table.now scope.now env) section.entry.stream.now section.entry.table.now scope.now env pos actions.old temporaries.old state }
+    ensures { resolved (to_expr result) actions.new temporaries.new ≡ resolve_call (resolve_expr deep context.entry.section.stream.now context.entry.section.table.now scope.now context.entry.env) context.entry.section.stream.now context.entry.section.table.now scope.now context.entry.env pos actions.old temporaries.old state }
 {
-    let name = u16_in(section.stream, pos, 1);
-    let n = access::byte(section.stream, pos, 3);
-    match callee_of(section, name, n)? {
+    let name = u16_in(context.section.stream, pos, 1);
+    let n = access::byte(context.section.stream, pos, 3);
+    match callee_of(context.section, name, n)? {
         Callee::Inbuilt(op) => {
             call_inbuilt(
                 deep,
-                section,
+                context,
                 scope,
                 pos,
                 op,
                 n,
-                env,
                 actions,
                 temporaries,
                 state,
@@ -492,28 +467,17 @@ fn resolve_call(
         Callee::UserOp(id) => {
             user_op(
                 deep,
-                section,
+                context,
                 scope,
                 pos,
                 id,
                 n,
-                env,
                 actions,
                 temporaries,
                 state,
             )
         }
-        Callee::Local => subpiece(
-            section,
-            scope,
-            actions,
-            temporaries,
-            pos,
-            name,
-            n,
-            env,
-            state,
-        ),
+        Callee::Local => subpiece(context, scope, actions, temporaries, pos, name, n, state),
     }
 }
 
@@ -521,43 +485,32 @@ fn resolve_call(
 #[tactic(auto, using(crate::proofs::ExprLaws::deep_laws))]
 pub fn resolve_expr(
     deep: u64,
-    section: Section<'_>,
+    context: Context<'_>,
     scope: &[u64],
     pos: usize,
-    env: Env,
     actions: &mut [u64],
     temporaries: &mut [u64],
     state: State,
 ) -> Result<Resolved, Refusal>
-    ensures { resolved (to_expr result) actions.new temporaries.new ≡ resolve_expr deep section.entry.stream.now section.entry.table.now scope.now env pos actions.old temporaries.old state }
+    ensures { resolved (to_expr result) actions.new temporaries.new ≡ resolve_expr deep context.entry.section.stream.now context.entry.section.table.now scope.now context.entry.env pos actions.old temporaries.old state }
 {
     if deep == 0 {
         return Err(Refusal::OutsideLimit);
     }
-    let code = access::byte(section.stream, pos, 0);
+    let code = access::byte(context.section.stream, pos, 0);
     if code < expression::TRUNCATE {
-        return atom(code, section, scope, pos, env, state);
+        return atom(code, context, scope, pos, state);
     }
     if code == expression::OP {
-        return resolve_op(
-            deep - 1,
-            section,
-            scope,
-            pos,
-            env,
-            actions,
-            temporaries,
-            state,
-        );
+        return resolve_op(deep - 1, context, scope, pos, actions, temporaries, state);
     }
     if code < expression::CONSTANT_POOL_REF {
         return part(
             deep - 1,
             code,
-            section,
+            context,
             scope,
             pos,
-            env,
             actions,
             temporaries,
             state,
@@ -566,14 +519,5 @@ pub fn resolve_expr(
     if code == expression::CONSTANT_POOL_REF {
         return Err(Refusal::ConstantPool);
     }
-    resolve_call(
-        deep - 1,
-        section,
-        scope,
-        pos,
-        env,
-        actions,
-        temporaries,
-        state,
-    )
+    resolve_call(deep - 1, context, scope, pos, actions, temporaries, state)
 }

@@ -11,7 +11,7 @@ use crate::smalls::{put_small, small};
 use crate::symbols::{NAMES, Symbol, lookup};
 use codes::refusal::Refusal;
 use codes::{header, table, value_kind};
-use list_pushes::push::{Env, Operation, State, add_tmp};
+use list_pushes::push::{Context, Operation, State, add_tmp};
 use list_values::section::Section;
 use list_values::sizes::entry;
 use list_values::value::{Value, absent, get, local, put, put_value, value_at};
@@ -267,59 +267,49 @@ fn global_meaning(section: Section<'_>, symbol: Symbol) -> Result<ExprValue, Ref
 
 // inst_next, else inst_start, else a local, else a global.
 #[tactic(auto, unfolding(crate::specs::Scopes::inner_meaning, crate::specs::Scopes::found_or))]
-fn inner_meaning(
-    section: Section<'_>,
-    scope: &[u64],
-    env: Env,
-    name: u64,
-) -> Result<ExprValue, Refusal>
-    ensures { to_meaning result ≡ inner_meaning section.entry.stream.now section.entry.table.now scope.now env name }
+fn inner_meaning(context: Context<'_>, scope: &[u64], name: u64) -> Result<ExprValue, Refusal>
+    ensures { to_meaning result ≡ inner_meaning context.entry.section.stream.now context.entry.section.table.now scope.now context.entry.env name }
 {
-    if name == access::u16_at(section.stream, header::INST_NEXT) {
+    if name == access::u16_at(context.section.stream, header::INST_NEXT) {
         return Ok(ExprValue::Local(local(value_kind::INST_NEXT, 0)));
     }
-    if name == access::u16_at(section.stream, header::INST_START) {
+    if name == access::u16_at(context.section.stream, header::INST_START) {
         return Ok(ExprValue::Local(local(value_kind::INST_START, 0)));
     }
-    match lookup_local(section.table, scope, env.own, name) {
+    match lookup_local(context.section.table, scope, context.env.own, name) {
         Some(value) => Ok(ExprValue::Local(value)),
-        None => global_meaning(section, lookup(section.table, name)),
+        None => global_meaning(context.section, lookup(context.section.table, name)),
     }
 }
 
 #[tactic(auto, unfolding(crate::specs::Scopes::resolve_ident, crate::specs::Scopes::param_or))]
-pub fn resolve_ident(
-    section: Section<'_>,
-    scope: &[u64],
-    env: Env,
-    name: u64,
-) -> Result<ExprValue, Refusal>
-    ensures { to_meaning result ≡ resolve_ident section.entry.stream.now section.entry.table.now scope.now env name }
+pub fn resolve_ident(context: Context<'_>, scope: &[u64], name: u64) -> Result<ExprValue, Refusal>
+    ensures { to_meaning result ≡ resolve_ident context.entry.section.stream.now context.entry.section.table.now scope.now context.entry.env name }
 {
-    match find_param(scope, env.count, name) {
+    match find_param(scope, context.env.count, name) {
         Some(i) => Ok(ExprValue::from(slot_at(scope, param_place(i)))),
-        None => inner_meaning(section, scope, env, name),
+        None => inner_meaning(context, scope, name),
     }
 }
 
 // The local that a name means which is no parameter's: the usual case, in which the larger `ExprValue` need not be made.
 #[tactic(auto, unfolding(crate::specs::Scopes::plain_local, crate::specs::Scopes::local_of, crate::specs::Scopes::inner_meaning, crate::specs::Scopes::found_or, crate::specs::Scopes::global_meaning, crate::specs::Scopes::bit_range, crate::specs::Scopes::bits_at))]
-pub fn plain_local(section: Section<'_>, scope: &[u64], env: Env, name: u64) -> Option<Value>
-    ensures { to_found result ≡ plain_local section.entry.stream.now section.entry.table.now scope.now env name }
+pub fn plain_local(context: Context<'_>, scope: &[u64], name: u64) -> Option<Value>
+    ensures { to_found result ≡ plain_local context.entry.section.stream.now context.entry.section.table.now scope.now context.entry.env name }
 {
-    if find_param(scope, env.count, name).is_some() {
+    if find_param(scope, context.env.count, name).is_some() {
         return None;
     }
-    if name == access::u16_at(section.stream, header::INST_NEXT) {
+    if name == access::u16_at(context.section.stream, header::INST_NEXT) {
         return Some(local(value_kind::INST_NEXT, 0));
     }
-    if name == access::u16_at(section.stream, header::INST_START) {
+    if name == access::u16_at(context.section.stream, header::INST_START) {
         return Some(local(value_kind::INST_START, 0));
     }
-    if let Some(value) = lookup_local(section.table, scope, env.own, name) {
+    if let Some(value) = lookup_local(context.section.table, scope, context.env.own, name) {
         return Some(value);
     }
-    match lookup(section.table, name) {
+    match lookup(context.section.table, name) {
         Symbol::Register(i) => Some(local(value_kind::REGISTER, i)),
         Symbol::Undefined
         | Symbol::BitRange(_)
@@ -335,18 +325,17 @@ pub fn plain_local(section: Section<'_>, scope: &[u64], env: Env, name: u64) -> 
 // that the list of temporaries keeps.
 #[tactic(auto, unfolding(crate::specs::Scopes::named_tmp, crate::specs::Scopes::undeclared, list_pushes::specs::Pushes::on_tmp))]
 pub fn named_tmp(
-    table: &[u16; table::LENGTH],
+    context: Context<'_>,
     scope: &mut [u64],
     temporaries: &mut [u64],
-    env: Env,
     name: u64,
     size: u64,
     state: State,
 ) -> Result<(Value, State), Refusal>
-    ensures { read (to_read result) scope.new temporaries.new ≡ named_tmp table.now scope.old temporaries.old env name size state }
+    ensures { read (to_read result) scope.new temporaries.new ≡ named_tmp context.entry.section.table.now scope.old temporaries.old context.entry.env name size state }
 {
     let (value, next) = add_tmp(temporaries, name, size, state)?;
-    match lookup_local(table, scope, env.own, name) {
+    match lookup_local(context.section.table, scope, context.env.own, name) {
         Some(_) => Err(Refusal::Redeclared),
         None => {
             put_small(scope, (name % NAMES) as usize, next.temporaries as u64);

@@ -10,7 +10,7 @@ use codes::{header, table};
 use expr_reading::read::read_operand;
 use expr_scope::scope::{Access, ExprValue};
 use expr_scope::symbols::{Symbol, lookup};
-use list_pushes::push::Env;
+use list_pushes::push::Context;
 use list_values::section::Section;
 use list_values::sizes::entry;
 use list_values::value::with_size;
@@ -104,18 +104,17 @@ fn reference_to(kind: u64, size: u64, pointer: Operand) -> Result<Resolved, Refu
 
 #[tactic(auto, unfolding(crate::specs::Addresses::address_in, crate::specs::Addresses::in_space, crate::specs::Addresses::reference, crate::specs::Answers::expr_of))]
 fn address_in(
-    section: Section<'_>,
+    context: Context<'_>,
     actions: &mut [u64],
     temporaries: &mut [u64],
-    env: Env,
     space: u64,
     size: u64,
     part: Resolved,
 ) -> Result<Resolved, Refusal>
-    ensures { resolved (to_expr result) actions.new temporaries.new ≡ address_in section.entry.stream.now section.entry.table.now actions.old temporaries.old env space size part.value part.next part.state }
+    ensures { resolved (to_expr result) actions.new temporaries.new ≡ address_in context.entry.section.stream.now context.entry.section.table.now actions.old temporaries.old context.entry.env space size part.value part.next part.state }
 {
-    let kind = resolve_space(section, space)?;
-    let (value, state) = read_operand(section, actions, temporaries, env, part.value, part.state)?;
+    let kind = resolve_space(context.section, space)?;
+    let (value, state) = read_operand(context, actions, temporaries, part.value, part.state)?;
     let next = part.next;
     reference_to(kind, size, Operand { value, next, state })
 }
@@ -123,18 +122,17 @@ fn address_in(
 // In the const space a local or a constant is itself.
 #[tactic(auto, unfolding(crate::specs::Addresses::resolve_address))]
 pub fn resolve_address(
-    section: Section<'_>,
+    context: Context<'_>,
     actions: &mut [u64],
     temporaries: &mut [u64],
-    env: Env,
     space: u64,
     size: u64,
     part: Resolved,
 ) -> Result<Resolved, Refusal>
-    ensures { resolved (to_expr result) actions.new temporaries.new ≡ resolve_address section.entry.stream.now section.entry.table.now actions.old temporaries.old env space size part.value part.next part.state }
+    ensures { resolved (to_expr result) actions.new temporaries.new ≡ resolve_address context.entry.section.stream.now context.entry.section.table.now actions.old temporaries.old context.entry.env space size part.value part.next part.state }
 {
-    if space == access::u16_at(section.stream, header::CONST) {
+    if space == access::u16_at(context.section.stream, header::CONST) {
         return in_const_space(part, size);
     }
-    address_in(section, actions, temporaries, env, space, size, part)
+    address_in(context, actions, temporaries, space, size, part)
 }

@@ -17,7 +17,7 @@ use expr_reading::read::read_operand;
 use expr_scope::args::arg_at;
 use expr_scope::scope::{ExprValue, resolve_ident};
 use expr_scope::symbols::{NAMES, Symbol, lookup};
-use list_pushes::push::{Env, Operation, State, push_op};
+use list_pushes::push::{Context, Operation, State, push_op};
 use list_values::section::Section;
 use list_values::value::{Value, no_output};
 
@@ -81,49 +81,39 @@ pub fn callee_of(section: Section<'_>, name: u64, count: u64) -> Result<Callee, 
 
 #[tactic(auto, unfolding(crate::specs::Calls::pass_arg, list_pushes::specs::Pushes::on_read))]
 fn pass_arg(
-    section: Section<'_>,
+    context: Context<'_>,
     actions: &mut [u64],
     temporaries: &mut [u64],
     expr: ExprValue,
     index: u64,
-    env: Env,
     state: State,
 ) -> Result<State, Refusal>
-    ensures { pushed (to_pushed result) actions.new temporaries.new ≡ pass_arg section.entry.stream.now section.entry.table.now actions.old temporaries.old expr index env state }
+    ensures { pushed (to_pushed result) actions.new temporaries.new ≡ pass_arg context.entry.section.stream.now context.entry.section.table.now actions.old temporaries.old expr index context.entry.env state }
 {
-    let (value, state) = read_operand(section, actions, temporaries, env, expr, state)?;
+    let (value, state) = read_operand(context, actions, temporaries, expr, state)?;
     let arg = Operation {
         number: index,
         ..Operation::unary(operation::ARG, value)
     };
-    push_op(section, actions, temporaries, env, arg, no_output(), state)
+    push_op(context, actions, temporaries, arg, no_output(), state)
 }
 
 // The arguments from the third on, each followed by its Arg. Their slots go round after eight, so a slice of them would not
 // tell how many there are: the number stands beside.
 #[tactic(auto, using(crate::proofs::CallLaws::args_laws))]
 fn pass_args(
-    section: Section<'_>,
+    context: Context<'_>,
     actions: &mut [u64],
     temporaries: &mut [u64],
     args: &[u64],
     count: u64,
-    env: Env,
     state: State,
 ) -> Result<State, Refusal>
-    ensures { pushed (to_pushed result) actions.new temporaries.new ≡ pass_args section.entry.stream.now section.entry.table.now actions.old temporaries.old args.now count env state }
+    ensures { pushed (to_pushed result) actions.new temporaries.new ≡ pass_args context.entry.section.stream.now context.entry.section.table.now actions.old temporaries.old args.now count context.entry.env state }
 {
     let mut state = state;
     for i in 2..count {
-        state = pass_arg(
-            section,
-            actions,
-            temporaries,
-            arg_at(args, i),
-            i - 2,
-            env,
-            state,
-        )?;
+        state = pass_arg(context, actions, temporaries, arg_at(args, i), i - 2, state)?;
     }
     Ok(state)
 }
@@ -142,19 +132,18 @@ pub fn applied(operation: Operation, next: usize, state: State) -> Resolved
 // A user op of n arguments that are resolved: it has the first two as its inputs.
 #[tactic(auto, unfolding(crate::specs::Calls::call_user_op, crate::specs::Calls::user_op_some, crate::specs::Calls::user_op_two, list_pushes::specs::Pushes::on_pushed, list_pushes::specs::Pushes::on_read))]
 pub fn call_user_op(
-    section: Section<'_>,
+    context: Context<'_>,
     actions: &mut [u64],
     temporaries: &mut [u64],
     args: &[u64],
     count: u64,
     id: u64,
     next: usize,
-    env: Env,
     state: State,
 ) -> Result<Resolved, Refusal>
-    ensures { resolved (to_expr result) actions.new temporaries.new ≡ call_user_op section.entry.stream.now section.entry.table.now actions.old temporaries.old args.now count id next env state }
+    ensures { resolved (to_expr result) actions.new temporaries.new ≡ call_user_op context.entry.section.stream.now context.entry.section.table.now actions.old temporaries.old args.now count id next context.entry.env state }
 {
-    let state = pass_args(section, actions, temporaries, args, count, env, state)?;
+    let state = pass_args(context, actions, temporaries, args, count, state)?;
     let call = Operation {
         number: id,
         ..Operation::nullary(operation::PCODE_OP)
@@ -163,7 +152,7 @@ pub fn call_user_op(
         return Ok(applied(call, next, state));
     }
     let argument = arg_at(args, 0);
-    let (first, state) = read_operand(section, actions, temporaries, env, argument, state)?;
+    let (first, state) = read_operand(context, actions, temporaries, argument, state)?;
     let call = Operation {
         count: 1,
         first,
@@ -173,7 +162,7 @@ pub fn call_user_op(
         return Ok(applied(call, next, state));
     }
     let argument = arg_at(args, 1);
-    let (second, state) = read_operand(section, actions, temporaries, env, argument, state)?;
+    let (second, state) = read_operand(context, actions, temporaries, argument, state)?;
     let call = Operation {
         count: 2,
         second,
@@ -195,21 +184,20 @@ pub fn only_integer(stream: &[u8], pos: usize, count: u64) -> Option<u64>
 
 #[tactic(auto, unfolding(crate::specs::Calls::subpiece, crate::specs::Calls::subpiece_meant, crate::specs::Calls::subpiece_of, crate::specs::Calls::subpiece_from, crate::specs::Answers::expr_of))]
 pub fn subpiece(
-    section: Section<'_>,
+    context: Context<'_>,
     scope: &[u64],
     actions: &mut [u64],
     temporaries: &mut [u64],
     pos: usize,
     name: u64,
     count: u64,
-    env: Env,
     state: State,
 ) -> Result<Resolved, Refusal>
-    ensures { resolved (to_expr result) actions.new temporaries.new ≡ subpiece section.entry.stream.now section.entry.table.now scope.now actions.old temporaries.old pos name count env state }
+    ensures { resolved (to_expr result) actions.new temporaries.new ≡ subpiece context.entry.section.stream.now context.entry.section.table.now scope.now actions.old temporaries.old pos name count context.entry.env state }
 {
-    let meant = resolve_ident(section, scope, env, name)?;
-    let (value, state) = read_operand(section, actions, temporaries, env, meant, state)?;
-    match only_integer(section.stream, pos, count) {
+    let meant = resolve_ident(context, scope, name)?;
+    let (value, state) = read_operand(context, actions, temporaries, meant, state)?;
+    match only_integer(context.section.stream, pos, count) {
         Some(offset) if offset <= LAST_SUBPIECE => {
             let operation = Operation {
                 number: offset,

@@ -8,8 +8,7 @@ use crate::answers::{Resolved, given};
 use codes::refusal::Refusal;
 use expr_reading::read::{needed_bytes, read_operand, read_slice};
 use expr_scope::scope::{Bits, ExprValue};
-use list_pushes::push::Env;
-use list_values::section::Section;
+use list_pushes::push::Context;
 use list_values::value::Value;
 
 // So many bits of a number, from a bit on.
@@ -23,17 +22,16 @@ fn low_bits(number: u64, bits: Bits) -> u64
 
 #[tactic(auto, unfolding(crate::specs::Slices::slice_read, crate::specs::Slices::unbound_then, crate::specs::Answers::expr_of, list_pushes::specs::Pushes::on_read))]
 fn slice_read(
-    section: Section<'_>,
+    context: Context<'_>,
     actions: &mut [u64],
     temporaries: &mut [u64],
-    env: Env,
     part: Resolved,
     bits: Bits,
 ) -> Result<Resolved, Refusal>
-    ensures { resolved (to_expr result) actions.new temporaries.new ≡ slice_read section.entry.stream.now section.entry.table.now actions.old temporaries.old env part.value bits.from bits.count part.next part.state }
+    ensures { resolved (to_expr result) actions.new temporaries.new ≡ slice_read context.entry.section.stream.now context.entry.section.table.now actions.old temporaries.old context.entry.env part.value bits.from bits.count part.next part.state }
 {
-    let (whole, state) = read_operand(section, actions, temporaries, env, part.value, part.state)?;
-    let (slice, state) = read_slice(section, actions, temporaries, env, whole, bits, None, state)?;
+    let (whole, state) = read_operand(context, actions, temporaries, part.value, part.state)?;
+    let (slice, state) = read_slice(context, actions, temporaries, whole, bits, None, state)?;
     Ok(Resolved {
         value: ExprValue::Unbound(slice),
         state,
@@ -87,14 +85,13 @@ fn slice_range(value: Value, whole: Bits, bits: Bits, part: Resolved) -> Result<
 // Bits of a part that is resolved.
 #[tactic(auto, unfolding(crate::specs::Slices::slice_bits))]
 pub fn slice_bits(
-    section: Section<'_>,
+    context: Context<'_>,
     actions: &mut [u64],
     temporaries: &mut [u64],
-    env: Env,
     part: Resolved,
     bits: Bits,
 ) -> Result<Resolved, Refusal>
-    ensures { resolved (to_expr result) actions.new temporaries.new ≡ slice_bits section.entry.stream.now section.entry.table.now actions.old temporaries.old env part.value bits.from bits.count part.next part.state }
+    ensures { resolved (to_expr result) actions.new temporaries.new ≡ slice_bits context.entry.section.stream.now context.entry.section.table.now actions.old temporaries.old context.entry.env part.value bits.from bits.count part.next part.state }
 {
     match part.value {
         ExprValue::Local(v) => Ok(Resolved {
@@ -107,8 +104,6 @@ pub fn slice_bits(
         | ExprValue::Apply(_)
         | ExprValue::RamRef(_)
         | ExprValue::RegisterRef(_)
-        | ExprValue::AddressOf { .. } => {
-            slice_read(section, actions, temporaries, env, part, bits)
-        }
+        | ExprValue::AddressOf { .. } => { slice_read(context, actions, temporaries, part, bits) }
     }
 }

@@ -37,6 +37,13 @@ pub struct Env {
     pub count: usize,
 }
 
+// What a walk reads and does not change: the section, and what else it is given.
+#[derive(Clone, Copy)]
+pub struct Context<'a> {
+    pub section: Section<'a>,
+    pub env: Env,
+}
+
 // An operation by its code, with its number and at most two inputs. The code stays a number, as an action's kind does: both go
 // into the words of the lent list as they are.
 #[derive(Clone, Copy)]
@@ -201,52 +208,56 @@ fn update_last(
 
 #[tactic(auto, unfolding(crate::specs::Pushes::push_op, crate::specs::Pushes::on_push, crate::specs::Pushes::on_state))]
 pub fn push_op(
-    section: Section<'_>,
+    context: Context<'_>,
     actions: &mut [u64],
     temporaries: &mut [u64],
-    env: Env,
     operation: Operation,
     out: Value,
     state: State,
 ) -> Result<State, Refusal>
-    ensures { pushed (to_pushed result) actions.new temporaries.new ≡ push_op section.entry.stream.now section.entry.table.now actions.old temporaries.old env operation.code operation.number operation.count out operation.first operation.second state }
+    ensures { pushed (to_pushed result) actions.new temporaries.new ≡ push_op context.entry.section.stream.now context.entry.section.table.now actions.old temporaries.old context.entry.env operation.code operation.number operation.count out operation.first operation.second state }
 {
     let at = state.end;
     let next = push(actions, action_kind::OP, operation, out, state)?;
-    Ok(update_last(section, actions, temporaries, at, env.pointer, next))
+    Ok(update_last(
+        context.section,
+        actions,
+        temporaries,
+        at,
+        context.env.pointer,
+        next,
+    ))
 }
 
 // An operation with an output, and the output as its rule left it.
 #[tactic(auto, unfolding(crate::specs::Pushes::op_to, crate::specs::Pushes::on_pushed))]
 pub fn op_to(
-    section: Section<'_>,
+    context: Context<'_>,
     actions: &mut [u64],
     temporaries: &mut [u64],
-    env: Env,
     operation: Operation,
     to: Value,
     state: State,
 ) -> Result<(Value, State), Refusal>
-    ensures { read (to_read result) actions.new temporaries.new ≡ op_to section.entry.stream.now section.entry.table.now actions.old temporaries.old env operation.code operation.number operation.count to operation.first operation.second state }
+    ensures { read (to_read result) actions.new temporaries.new ≡ op_to context.entry.section.stream.now context.entry.section.table.now actions.old temporaries.old context.entry.env operation.code operation.number operation.count to operation.first operation.second state }
 {
     let at = state.end;
-    let next = push_op(section, actions, temporaries, env, operation, to, state)?;
+    let next = push_op(context, actions, temporaries, operation, to, state)?;
     Ok((value_at(actions, at, OUTPUT), next))
 }
 
 // The same, with a fresh temporary where no output is given.
 #[tactic(auto, unfolding(crate::specs::Pushes::op, crate::specs::Pushes::on_tmp))]
 pub fn op(
-    section: Section<'_>,
+    context: Context<'_>,
     actions: &mut [u64],
     temporaries: &mut [u64],
-    env: Env,
     operation: Operation,
     to: Option<Value>,
     state: State,
 ) -> Result<(Value, State), Refusal>
-    ensures { read (to_read result) actions.new temporaries.new ≡ op section.entry.stream.now section.entry.table.now actions.old temporaries.old env operation.code operation.number operation.count (is_some to) (unwrap_or to absent) operation.first operation.second state }
+    ensures { read (to_read result) actions.new temporaries.new ≡ op context.entry.section.stream.now context.entry.section.table.now actions.old temporaries.old context.entry.env operation.code operation.number operation.count (is_some to) (unwrap_or to absent) operation.first operation.second state }
 {
     let (value, next) = output_or(temporaries, to, NONE, state)?;
-    op_to(section, actions, temporaries, env, operation, value, next)
+    op_to(context, actions, temporaries, operation, value, next)
 }

@@ -12,7 +12,7 @@ ghost use Rattle.resolve_file.specs.Files.{pointer_size, at_start, start_env, wa
 use codes::refusal::Refusal;
 use codes::{NONE, action, header, table};
 use expr_scope::smalls::SCOPE_WORDS;
-use list_pushes::push::{Env, State};
+use list_pushes::push::{Context, Env, State};
 use list_values::section::Section;
 use list_values::sizes::{Sizing, entry};
 use list_values::value::place;
@@ -90,11 +90,10 @@ fn walk_section(
     let walk = at_start(subtables);
     body(
         DEPTH,
-        section,
+        Context { section, env },
         &mut scope,
         actions,
         temporaries,
-        env,
         pos,
         count,
         ordinal,

@@ -16,8 +16,7 @@ use expr_reading::read::{byte_aligned, constant, masked, read_operand, read_valu
 use expr_resolver::expr::{DEPTH, resolve_expr};
 use expr_scope::scope::{Bits, ExprValue, named_tmp, plain_local, resolve_ident};
 use expr_terms::answers::{Operand, Resolved, after, given};
-use list_pushes::push::{Env, Operation, State, add_tmp, op_to};
-use list_values::section::Section;
+use list_pushes::push::{Context, Operation, State, add_tmp, op_to};
 use list_values::sizes::size_of;
 use list_values::value::Value;
 use stmt_walk::walk::Walk;
@@ -34,31 +33,29 @@ fn mask_but(bits: Bits) -> u64
 // The bits of the value shifted to their place, and merged with the rest.
 #[tactic(auto, unfolding(crate::specs::Copies::merge_bits, list_pushes::specs::Pushes::on_read))]
 fn merge_bits(
-    section: Section<'_>,
+    context: Context<'_>,
     actions: &mut [u64],
     temporaries: &mut [u64],
-    env: Env,
     to: Value,
     prev: Value,
     tmp: Value,
     from: u64,
     state: State,
 ) -> Result<(Value, State), Refusal>
-    ensures { read (to_read result) actions.new temporaries.new ≡ merge_bits section.entry.stream.now section.entry.table.now actions.old temporaries.old env to prev tmp from state }
+    ensures { read (to_read result) actions.new temporaries.new ≡ merge_bits context.entry.section.stream.now context.entry.section.table.now actions.old temporaries.old context.entry.env to prev tmp from state }
 {
     let shift = Operation::binary(operation::INT_LEFT, tmp, constant(from));
-    let (_, state) = op_to(section, actions, temporaries, env, shift, tmp, state)?;
+    let (_, state) = op_to(context, actions, temporaries, shift, tmp, state)?;
     let merge = Operation::binary(operation::INT_OR, prev, tmp);
-    op_to(section, actions, temporaries, env, merge, to, state)
+    op_to(context, actions, temporaries, merge, to, state)
 }
 
 // The value's bits in a temporary, and from there in their place.
 #[tactic(auto, unfolding(crate::specs::Copies::insert_in, crate::specs::Copies::extend_bits, expr_reading::specs::Reading::masked, list_pushes::specs::Pushes::on_read))]
 fn insert_in(
-    section: Section<'_>,
+    context: Context<'_>,
     actions: &mut [u64],
     temporaries: &mut [u64],
-    env: Env,
     value: Value,
     to: Value,
     prev: Value,
@@ -66,24 +63,22 @@ fn insert_in(
     bits: Bits,
     state: State,
 ) -> Result<(Value, State), Refusal>
-    ensures { read (to_read result) actions.new temporaries.new ≡ insert_in section.entry.stream.now section.entry.table.now actions.old temporaries.old env value to prev tmp bits.from bits.count state }
+    ensures { read (to_read result) actions.new temporaries.new ≡ insert_in context.entry.section.stream.now context.entry.section.table.now actions.old temporaries.old context.entry.env value to prev tmp bits.from bits.count state }
 {
     let extend = Operation::unary(operation::ZERO_EXTEND, value);
     let (_, state) = masked(
-        section,
+        context,
         actions,
         temporaries,
-        env,
         extend,
         tmp,
         bits.count,
         state,
     )?;
     merge_bits(
-        section,
+        context,
         actions,
         temporaries,
-        env,
         to,
         prev,
         tmp,
@@ -94,25 +89,23 @@ fn insert_in(
 
 #[tactic(auto, unfolding(crate::specs::Copies::insert_bits, list_pushes::specs::Pushes::on_tmp))]
 fn insert_bits(
-    section: Section<'_>,
+    context: Context<'_>,
     actions: &mut [u64],
     temporaries: &mut [u64],
-    env: Env,
     value: Value,
     to: Value,
     prev: Value,
     bits: Bits,
     state: State,
 ) -> Result<(Value, State), Refusal>
-    ensures { read (to_read result) actions.new temporaries.new ≡ insert_bits section.entry.stream.now section.entry.table.now actions.old temporaries.old env value to prev bits.from bits.count state }
+    ensures { read (to_read result) actions.new temporaries.new ≡ insert_bits context.entry.section.stream.now context.entry.section.table.now actions.old temporaries.old context.entry.env value to prev bits.from bits.count state }
 {
-    let size = size_of(section, temporaries, to);
+    let size = size_of(context.section, temporaries, to);
     let (tmp, state) = add_tmp(temporaries, NONE, size, state)?;
     insert_in(
-        section,
+        context,
         actions,
         temporaries,
-        env,
         value,
         to,
         prev,
@@ -125,10 +118,9 @@ fn insert_bits(
 // The bits of the target that stay, in a temporary; then those of the value.
 #[tactic(auto, unfolding(crate::specs::Copies::keep_bits, list_pushes::specs::Pushes::on_read))]
 fn keep_bits(
-    section: Section<'_>,
+    context: Context<'_>,
     actions: &mut [u64],
     temporaries: &mut [u64],
-    env: Env,
     value: Value,
     to: Value,
     prev: Value,
@@ -136,134 +128,109 @@ fn keep_bits(
     state: State,
 ) -> Result<(Value, State), Refusal>
     requires { bits.from < 64 }
-    ensures { read (to_read result) actions.new temporaries.new ≡ keep_bits section.entry.stream.now section.entry.table.now actions.old temporaries.old env value to prev bits.from bits.count state }
+    ensures { read (to_read result) actions.new temporaries.new ≡ keep_bits context.entry.section.stream.now context.entry.section.table.now actions.old temporaries.old context.entry.env value to prev bits.from bits.count state }
 {
     let kept = Operation::binary(operation::INT_AND, to, constant(mask_but(bits)));
-    let (_, state) = op_to(section, actions, temporaries, env, kept, prev, state)?;
-    insert_bits(
-        section,
-        actions,
-        temporaries,
-        env,
-        value,
-        to,
-        prev,
-        bits,
-        state,
-    )
+    let (_, state) = op_to(context, actions, temporaries, kept, prev, state)?;
+    insert_bits(context, actions, temporaries, value, to, prev, bits, state)
 }
 
 #[tactic(auto, unfolding(crate::specs::Copies::write_bits, list_pushes::specs::Pushes::on_tmp))]
 fn write_bits(
-    section: Section<'_>,
+    context: Context<'_>,
     actions: &mut [u64],
     temporaries: &mut [u64],
-    env: Env,
     value: Value,
     to: Value,
     bits: Bits,
     state: State,
 ) -> Result<(Value, State), Refusal>
-    ensures { read (to_read result) actions.new temporaries.new ≡ write_bits section.entry.stream.now section.entry.table.now actions.old temporaries.old env value to bits.from bits.count state }
+    ensures { read (to_read result) actions.new temporaries.new ≡ write_bits context.entry.section.stream.now context.entry.section.table.now actions.old temporaries.old context.entry.env value to bits.from bits.count state }
 {
     if 64 <= bits.from {
         return Err(Refusal::ShiftTooFar);
     }
-    let size = size_of(section, temporaries, to);
+    let size = size_of(context.section, temporaries, to);
     let (prev, state) = add_tmp(temporaries, NONE, size, state)?;
-    keep_bits(
-        section,
-        actions,
-        temporaries,
-        env,
-        value,
-        to,
-        prev,
-        bits,
-        state,
-    )
+    keep_bits(context, actions, temporaries, value, to, prev, bits, state)
 }
 
 #[tactic(auto, unfolding(crate::specs::Copies::copy_bits, list_pushes::specs::Pushes::on_read))]
 fn copy_bits(
-    section: Section<'_>,
+    context: Context<'_>,
     actions: &mut [u64],
     temporaries: &mut [u64],
-    env: Env,
     expr: ExprValue,
     to: Value,
     bits: Bits,
     state: State,
 ) -> Result<(Value, State), Refusal>
-    ensures { read (to_read result) actions.new temporaries.new ≡ copy_bits section.entry.stream.now section.entry.table.now actions.old temporaries.old env expr to bits.from bits.count state }
+    ensures { read (to_read result) actions.new temporaries.new ≡ copy_bits context.entry.section.stream.now context.entry.section.table.now actions.old temporaries.old context.entry.env expr to bits.from bits.count state }
 {
-    let (value, state) = read_operand(section, actions, temporaries, env, expr, state)?;
-    write_bits(section, actions, temporaries, env, value, to, bits, state)
+    let (value, state) = read_operand(context, actions, temporaries, expr, state)?;
+    write_bits(context, actions, temporaries, value, to, bits, state)
 }
 
 // A range of whole bytes is a slice of the target.
 #[tactic(auto, unfolding(crate::specs::Copies::copy_bytes, crate::specs::Copies::read_sliced))]
 fn copy_bytes(
-    section: Section<'_>,
+    context: Context<'_>,
     actions: &mut [u64],
     temporaries: &mut [u64],
-    env: Env,
     expr: ExprValue,
     to: Value,
     bits: Bits,
     state: State,
 ) -> Result<(Value, State), Refusal>
-    ensures { read (to_read result) actions.new temporaries.new ≡ copy_bytes section.entry.stream.now section.entry.table.now actions.old temporaries.old env expr to bits.from bits.count state }
+    ensures { read (to_read result) actions.new temporaries.new ≡ copy_bytes context.entry.section.stream.now context.entry.section.table.now actions.old temporaries.old context.entry.env expr to bits.from bits.count state }
 {
     let (slice, state) = sliced(to, bits.from / 8, bits.count / 8, state)?;
-    read_value(section, actions, temporaries, env, expr, Some(slice), state)
+    read_value(context, actions, temporaries, expr, Some(slice), state)
 }
 
 #[tactic(auto, unfolding(crate::specs::Copies::copy_range))]
 fn copy_range(
-    section: Section<'_>,
+    context: Context<'_>,
     actions: &mut [u64],
     temporaries: &mut [u64],
-    env: Env,
     expr: ExprValue,
     to: Value,
     bits: Bits,
     state: State,
 ) -> Result<(Value, State), Refusal>
-    ensures { read (to_read result) actions.new temporaries.new ≡ copy_range section.entry.stream.now section.entry.table.now actions.old temporaries.old env expr to bits.from bits.count state }
+    ensures { read (to_read result) actions.new temporaries.new ≡ copy_range context.entry.section.stream.now context.entry.section.table.now actions.old temporaries.old context.entry.env expr to bits.from bits.count state }
 {
     if byte_aligned(bits) {
-        return copy_bytes(section, actions, temporaries, env, expr, to, bits, state);
+        return copy_bytes(context, actions, temporaries, expr, to, bits, state);
     }
-    copy_bits(section, actions, temporaries, env, expr, to, bits, state)
+    copy_bits(context, actions, temporaries, expr, to, bits, state)
 }
 
 // The source is read into a local, or into a place in RAM or a range of bits of one.
 #[tactic(auto, unfolding(crate::specs::Copies::copy_into, crate::specs::Copies::copy_ram, list_pushes::specs::Pushes::on_read, stmt_walk::specs::Walks::step_read, stmt_walk::specs::Walks::read_then))]
 fn copy_into(
-    section: Section<'_>,
+    context: Context<'_>,
     actions: &mut [u64],
     temporaries: &mut [u64],
-    env: Env,
     source: ExprValue,
     target: Resolved,
     walk: Walk,
 ) -> Result<(usize, Walk), Refusal>
-    ensures { stepped (to_step walk result) actions.new temporaries.new ≡ copy_into section.entry.stream.now section.entry.table.now actions.old temporaries.old env source target.value target.next target.state (to_walk walk) }
+    ensures { stepped (to_step walk result) actions.new temporaries.new ≡ copy_into context.entry.section.stream.now context.entry.section.table.now actions.old temporaries.old context.entry.env source target.value target.next target.state (to_walk walk) }
 {
     let next = target.next;
     let state = target.state;
     let (_, st) = match target.value {
         ExprValue::Local(v) => {
-            read_value(section, actions, temporaries, env, source, Some(v), state)?
+            read_value(context, actions, temporaries, source, Some(v), state)?
         }
         ExprValue::BitRange { v, bits } => {
-            copy_range(section, actions, temporaries, env, source, v, bits, state)?
+            copy_range(context, actions, temporaries, source, v, bits, state)?
         }
         ExprValue::RamRef(to) => {
-            let (value, state) = read_operand(section, actions, temporaries, env, source, state)?;
+            let (value, state) = read_operand(context, actions, temporaries, source, state)?;
             let stored = Operand { value, next, state };
-            return store(section, actions, temporaries, env, to, stored, walk);
+            return store(context, actions, temporaries, to, stored, walk);
         }
         ExprValue::Unbound(_)
         | ExprValue::Const { .. }
@@ -311,19 +278,18 @@ fn after_target(stream: &[u8], pos: usize) -> usize
 
 #[tactic(auto, unfolding(crate::specs::Copies::new_target, list_pushes::specs::Pushes::on_read))]
 fn new_target(
-    section: Section<'_>,
+    context: Context<'_>,
     scope: &mut [u64],
     temporaries: &mut [u64],
-    env: Env,
     pos: usize,
     name: u64,
     state: State,
 ) -> Result<Resolved, Refusal>
-    ensures { resolved (to_expr result) scope.new temporaries.new ≡ new_target section.entry.stream.now section.entry.table.now scope.old temporaries.old env pos name state }
+    ensures { resolved (to_expr result) scope.new temporaries.new ≡ new_target context.entry.section.stream.now context.entry.section.table.now scope.old temporaries.old context.entry.env pos name state }
 {
-    let size = target_size(section.stream, pos);
-    let next = after_target(section.stream, pos);
-    let (tmp, state) = named_tmp(section.table, scope, temporaries, env, name, size, state)?;
+    let size = target_size(context.section.stream, pos);
+    let next = after_target(context.section.stream, pos);
+    let (tmp, state) = named_tmp(context, scope, temporaries, name, size, state)?;
     Ok(Resolved {
         next,
         value: ExprValue::Local(tmp),
@@ -333,20 +299,14 @@ fn new_target(
 
 // A bare name that is a plain local's, the usual target.
 #[tactic(auto, using(crate::proofs::CopyLaws::plain_given))]
-fn plain_target(
-    section: Section<'_>,
-    scope: &[u64],
-    env: Env,
-    pos: usize,
-    state: State,
-) -> Option<Resolved>
-    ensures { IfSome result (λ r. (a m : List ℕ) → targeted (to_expr (Ok r)) scope.now a m ≡ resolve_dst section.entry.stream.now section.entry.table.now scope.now a m env pos state) }
+fn plain_target(context: Context<'_>, scope: &[u64], pos: usize, state: State) -> Option<Resolved>
+    ensures { IfSome result (λ r. (a m : List ℕ) → targeted (to_expr (Ok r)) scope.now a m ≡ resolve_dst context.entry.section.stream.now context.entry.section.table.now scope.now a m context.entry.env pos state) }
 {
-    if access::byte(section.stream, pos, 0) != expression::IDENT {
+    if access::byte(context.section.stream, pos, 0) != expression::IDENT {
         return None;
     }
-    let name = given(u16_in(section.stream, pos, 1))?;
-    let local = plain_local(section, scope, env, name)?;
+    let name = given(u16_in(context.section.stream, pos, 1))?;
+    let local = plain_local(context, scope, name)?;
     Some(Resolved {
         next: after(pos, 3),
         value: ExprValue::Local(local),
@@ -357,81 +317,60 @@ fn plain_target(
 // An unknown or disallowed name as target becomes a temporary.
 #[tactic(auto, unfolding(crate::specs::Copies::resolve_dst, crate::specs::Copies::beside_a, crate::specs::Copies::in_scope, crate::specs::Copies::is_new, crate::specs::Copies::is_wrong, expr_terms::specs::Answers::given))]
 fn resolve_dst(
-    section: Section<'_>,
+    context: Context<'_>,
     scope: &mut [u64],
     actions: &mut [u64],
     temporaries: &mut [u64],
-    env: Env,
     pos: usize,
     state: State,
 ) -> Result<Resolved, Refusal>
-    ensures { targeted (to_expr result) scope.new actions.new temporaries.new ≡ resolve_dst section.entry.stream.now section.entry.table.now scope.old actions.old temporaries.old env pos state }
+    ensures { targeted (to_expr result) scope.new actions.new temporaries.new ≡ resolve_dst context.entry.section.stream.now context.entry.section.table.now scope.old actions.old temporaries.old context.entry.env pos state }
 {
-    if let Some(target) = plain_target(section, scope, env, pos, state) {
+    if let Some(target) = plain_target(context, scope, pos, state) {
         return Ok(target);
     }
-    match target_name(section.stream, pos) {
-        Some(name) if resolve_ident(section, scope, env, name).is_err() => {
-            new_target(section, scope, temporaries, env, pos, name, state)
+    match target_name(context.section.stream, pos) {
+        Some(name) if resolve_ident(context, scope, name).is_err() => {
+            new_target(context, scope, temporaries, pos, name, state)
         }
-        _ => resolve_expr(DEPTH, section, scope, pos, env, actions, temporaries, state),
+        _ => resolve_expr(DEPTH, context, scope, pos, actions, temporaries, state),
     }
 }
 
 #[tactic(auto, unfolding(crate::specs::Copies::copy_target, crate::specs::Copies::on_target, stmt_walk::specs::Walks::beside_p))]
 fn copy_target(
-    section: Section<'_>,
+    context: Context<'_>,
     scope: &mut [u64],
     actions: &mut [u64],
     temporaries: &mut [u64],
-    env: Env,
     source: Resolved,
     walk: Walk,
 ) -> Result<(usize, Walk), Refusal>
-    ensures { walked (to_step walk result) scope.new actions.new temporaries.new ≡ copy_target section.entry.stream.now section.entry.table.now scope.old actions.old temporaries.old env source.value source.next source.state (to_walk walk) }
+    ensures { walked (to_step walk result) scope.new actions.new temporaries.new ≡ copy_target context.entry.section.stream.now context.entry.section.table.now scope.old actions.old temporaries.old context.entry.env source.value source.next source.state (to_walk walk) }
 {
     let target = resolve_dst(
-        section,
+        context,
         scope,
         actions,
         temporaries,
-        env,
         source.next,
         source.state,
     )?;
-    copy_into(
-        section,
-        actions,
-        temporaries,
-        env,
-        source.value,
-        target,
-        walk,
-    )
+    copy_into(context, actions, temporaries, source.value, target, walk)
 }
 
 #[tactic(auto, unfolding(crate::specs::Copies::copy_statement, expr_terms::specs::Answers::on_expr))]
 pub fn copy_statement(
-    section: Section<'_>,
+    context: Context<'_>,
     scope: &mut [u64],
     actions: &mut [u64],
     temporaries: &mut [u64],
-    env: Env,
     pos: usize,
     walk: Walk,
 ) -> Result<(usize, Walk), Refusal>
-    ensures { walked (to_step walk result) scope.new actions.new temporaries.new ≡ copy_statement section.entry.stream.now section.entry.table.now scope.old actions.old temporaries.old env pos (to_walk walk) }
+    ensures { walked (to_step walk result) scope.new actions.new temporaries.new ≡ copy_statement context.entry.section.stream.now context.entry.section.table.now scope.old actions.old temporaries.old context.entry.env pos (to_walk walk) }
 {
     let at = after(pos, 1);
-    let source = resolve_expr(
-        DEPTH,
-        section,
-        scope,
-        at,
-        env,
-        actions,
-        temporaries,
-        walk.st,
-    )?;
-    copy_target(section, scope, actions, temporaries, env, source, walk)
+    let source = resolve_expr(DEPTH, context, scope, at, actions, temporaries, walk.st)?;
+    copy_target(context, scope, actions, temporaries, source, walk)
 }

@@ -12,34 +12,31 @@ use expr_resolver::expr::{DEPTH, expr_value, resolve_expr, skip_expr};
 use expr_scope::scope::{Access, ExprValue};
 use expr_terms::address::resolve_address;
 use expr_terms::answers::{Operand, Resolved, after};
-use list_pushes::push::{Env, Operation, push, push_op};
+use list_pushes::push::{Context, Operation, push, push_op};
 use list_values::section::Section;
 use list_values::value::{Value, absent, no_output};
 use stmt_walk::walk::Walk;
 
 #[tactic(auto, unfolding(crate::specs::Stores::store, crate::specs::Stores::store_stated, stmt_walk::specs::Walks::step_pushed, stmt_walk::specs::Walks::pushed_then))]
 pub fn store(
-    section: Section<'_>,
+    context: Context<'_>,
     actions: &mut [u64],
     temporaries: &mut [u64],
-    env: Env,
     to: Access,
     stored: Operand,
     walk: Walk,
 ) -> Result<(usize, Walk), Refusal>
-    ensures { stepped (to_step walk result) actions.new temporaries.new ≡ store section.entry.stream.now section.entry.table.now actions.old temporaries.old env to.pointer to.size stored.value stored.next stored.state (to_walk walk) }
+    ensures { stepped (to_step walk result) actions.new temporaries.new ≡ store context.entry.section.stream.now context.entry.section.table.now actions.old temporaries.old context.entry.env to.pointer to.size stored.value stored.next stored.state (to_walk walk) }
 {
-    let stated = take_stated(section, temporaries, stored.value, to.size, stored.state);
-    let store = Operation::binary(operation::STORE, to.pointer, stated.v);
-    let st = push_op(
-        section,
-        actions,
+    let stated = take_stated(
+        context.section,
         temporaries,
-        env,
-        store,
-        no_output(),
-        stated.st,
-    )?;
+        stored.value,
+        to.size,
+        stored.state,
+    );
+    let store = Operation::binary(operation::STORE, to.pointer, stated.v);
+    let st = push_op(context, actions, temporaries, store, no_output(), stated.st)?;
     Ok((stored.next, Walk { st, ..walk }))
 }
 
@@ -72,20 +69,19 @@ fn store_register(
 
 #[tactic(auto, unfolding(crate::specs::Stores::store_at))]
 fn store_at(
-    section: Section<'_>,
+    context: Context<'_>,
     actions: &mut [u64],
     temporaries: &mut [u64],
-    env: Env,
     expr: ExprValue,
     stored: Operand,
     walk: Walk,
 ) -> Result<(usize, Walk), Refusal>
-    ensures { stepped (to_step walk result) actions.new temporaries.new ≡ store_at section.entry.stream.now section.entry.table.now actions.old temporaries.old env expr stored.value stored.next stored.state (to_walk walk) }
+    ensures { stepped (to_step walk result) actions.new temporaries.new ≡ store_at context.entry.section.stream.now context.entry.section.table.now actions.old temporaries.old context.entry.env expr stored.value stored.next stored.state (to_walk walk) }
 {
     match expr {
-        ExprValue::RamRef(to) => store(section, actions, temporaries, env, to, stored, walk),
+        ExprValue::RamRef(to) => store(context, actions, temporaries, to, stored, walk),
         ExprValue::RegisterRef(to) => store_register(
-            section,
+            context.section,
             actions,
             temporaries,
             to,
@@ -104,56 +100,53 @@ fn store_at(
 // In the space and of the size that stand at a position.
 #[tactic(auto, unfolding(crate::specs::Stores::store_in, expr_terms::specs::Answers::on_expr))]
 fn store_in(
-    section: Section<'_>,
+    context: Context<'_>,
     actions: &mut [u64],
     temporaries: &mut [u64],
-    env: Env,
     pos: usize,
     expr: ExprValue,
     stored: Operand,
     walk: Walk,
 ) -> Result<(usize, Walk), Refusal>
-    ensures { stepped (to_step walk result) actions.new temporaries.new ≡ store_in section.entry.stream.now section.entry.table.now actions.old temporaries.old env pos expr stored.value stored.next stored.state (to_walk walk) }
+    ensures { stepped (to_step walk result) actions.new temporaries.new ≡ store_in context.entry.section.stream.now context.entry.section.table.now actions.old temporaries.old context.entry.env pos expr stored.value stored.next stored.state (to_walk walk) }
 {
-    let space = u16_in(section.stream, pos, 1);
-    let size = u16_in(section.stream, pos, 3);
+    let space = u16_in(context.section.stream, pos, 1);
+    let size = u16_in(context.section.stream, pos, 3);
     let pointer = Resolved {
         next: stored.next,
         value: expr,
         state: stored.state,
     };
-    let to = resolve_address(section, actions, temporaries, env, space, size, pointer)?;
+    let to = resolve_address(context, actions, temporaries, space, size, pointer)?;
     let stored = Operand {
         next: to.next,
         state: to.state,
         ..stored
     };
-    store_at(section, actions, temporaries, env, to.value, stored, walk)
+    store_at(context, actions, temporaries, to.value, stored, walk)
 }
 
 #[tactic(auto, unfolding(crate::specs::Stores::store_pointer, expr_terms::specs::Answers::on_expr))]
 fn store_pointer(
-    section: Section<'_>,
+    context: Context<'_>,
     scope: &[u64],
     actions: &mut [u64],
     temporaries: &mut [u64],
-    env: Env,
     pos: usize,
     stored: Operand,
     walk: Walk,
 ) -> Result<(usize, Walk), Refusal>
-    ensures { stepped (to_step walk result) actions.new temporaries.new ≡ store_pointer section.entry.stream.now section.entry.table.now scope.now actions.old temporaries.old env pos stored.value stored.next stored.state (to_walk walk) }
+    ensures { stepped (to_step walk result) actions.new temporaries.new ≡ store_pointer context.entry.section.stream.now context.entry.section.table.now scope.now actions.old temporaries.old context.entry.env pos stored.value stored.next stored.state (to_walk walk) }
 {
     let at = after(pos, 5);
     let state = stored.state;
-    let pointer = resolve_expr(DEPTH, section, scope, at, env, actions, temporaries, state)?;
+    let pointer = resolve_expr(DEPTH, context, scope, at, actions, temporaries, state)?;
     let state = pointer.state;
     let stored = Operand { state, ..stored };
     store_in(
-        section,
+        context,
         actions,
         temporaries,
-        env,
         pos,
         pointer.value,
         stored,
@@ -164,27 +157,25 @@ fn store_pointer(
 // The value stands behind the pointer.
 #[tactic(auto, unfolding(crate::specs::Stores::store_statement, expr_terms::specs::Answers::on_operand))]
 pub fn store_statement(
-    section: Section<'_>,
+    context: Context<'_>,
     scope: &[u64],
     actions: &mut [u64],
     temporaries: &mut [u64],
-    env: Env,
     pos: usize,
     walk: Walk,
 ) -> Result<(usize, Walk), Refusal>
-    ensures { stepped (to_step walk result) actions.new temporaries.new ≡ store_statement section.entry.stream.now section.entry.table.now scope.now actions.old temporaries.old env pos (to_walk walk) }
+    ensures { stepped (to_step walk result) actions.new temporaries.new ≡ store_statement context.entry.section.stream.now context.entry.section.table.now scope.now actions.old temporaries.old context.entry.env pos (to_walk walk) }
 {
     let pointer = after(pos, 5);
-    let value_at = skip_expr(section.stream, pointer);
+    let value_at = skip_expr(context.section.stream, pointer);
     let stored = expr_value(
         DEPTH,
-        section,
+        context,
         scope,
         value_at,
-        env,
         actions,
         temporaries,
         walk.st,
     )?;
-    store_pointer(section, scope, actions, temporaries, env, pos, stored, walk)
+    store_pointer(context, scope, actions, temporaries, pos, stored, walk)
 }

@@ -11,13 +11,14 @@ use codes::refusal::Refusal;
 use codes::{statement, table};
 use expr_scope::smalls::SCOPE_WORDS;
 use expr_terms::answers::after;
-use list_pushes::push::{Env, State};
-use list_values::section::Section;
+use list_pushes::push::{Context, Env, State};
 use list_values::sizes::Sizing;
 use stmt_assignments::copies::copy_statement;
 use stmt_assignments::stores::store_statement;
 use stmt_branches::branches::{branch, cond_branch, label_statement};
-use stmt_simple::calls::{Called, MACROS, called_of, delay_slot, macro_args, macro_at, user_op_statement};
+use stmt_simple::calls::{
+    Called, MACROS, called_of, delay_slot, macro_args, macro_at, user_op_statement,
+};
 use stmt_simple::simple::{
     build, export_statement, local_assignment, local_statement, unimplemented,
 };
@@ -28,28 +29,25 @@ const MOST_STATEMENTS: u64 = 4096;
 #[tactic(auto, unfolding(crate::specs::Statements::simple, crate::specs::Statements::beside_a, stmt_walk::specs::Walks::beside_p, list_values::specs::Base::then_l))]
 fn simple(
     code: u64,
-    section: Section<'_>,
+    context: Context<'_>,
     scope: &mut [u64],
     actions: &mut [u64],
     temporaries: &mut [u64],
-    env: Env,
     pos: usize,
     walk: Walk,
 ) -> Result<(usize, Walk), Refusal>
-    ensures { walked (to_step walk result) scope.new actions.new temporaries.new ≡ simple code section.entry.stream.now section.entry.table.now scope.old actions.old temporaries.old env pos (to_walk walk) }
+    ensures { walked (to_step walk result) scope.new actions.new temporaries.new ≡ simple code context.entry.section.stream.now context.entry.section.table.now scope.old actions.old temporaries.old context.entry.env pos (to_walk walk) }
 {
     match code {
-        statement::UNIMPLEMENTED => { unimplemented(section, actions, temporaries, env, pos, walk) }
-        statement::EXPORT => {
-            export_statement(section, scope, actions, temporaries, env, pos, walk)
-        }
-        statement::LOCAL => local_statement(section, scope, temporaries, env, pos, walk),
+        statement::UNIMPLEMENTED => { unimplemented(context, actions, temporaries, pos, walk) }
+        statement::EXPORT => { export_statement(context, scope, actions, temporaries, pos, walk) }
+        statement::LOCAL => local_statement(context, scope, temporaries, pos, walk),
         statement::LOCAL_ASSIGNMENT => {
-            local_assignment(section, scope, actions, temporaries, env, pos, walk)
+            local_assignment(context, scope, actions, temporaries, pos, walk)
         }
-        statement::BUILD => build(section, actions, pos, walk),
-        statement::COPY => copy_statement(section, scope, actions, temporaries, env, pos, walk),
-        _ => store_statement(section, scope, actions, temporaries, env, pos, walk),
+        statement::BUILD => build(context.section, actions, pos, walk),
+        statement::COPY => copy_statement(context, scope, actions, temporaries, pos, walk),
+        _ => store_statement(context, scope, actions, temporaries, pos, walk),
     }
 }
 
@@ -57,33 +55,29 @@ fn simple(
 #[tactic(auto, unfolding(crate::specs::Statements::other_statement))]
 fn other_statement(
     code: u64,
-    section: Section<'_>,
+    context: Context<'_>,
     scope: &mut [u64],
     actions: &mut [u64],
     temporaries: &mut [u64],
-    env: Env,
     pos: usize,
     walk: Walk,
 ) -> Result<(usize, Walk), Stopped>
-    ensures { walked (to_steps result) scope.new actions.new temporaries.new ≡ other_statement code section.entry.stream.now section.entry.table.now scope.old actions.old temporaries.old env pos (to_walk walk) }
+    ensures { walked (to_steps result) scope.new actions.new temporaries.new ≡ other_statement code context.entry.section.stream.now context.entry.section.table.now scope.old actions.old temporaries.old context.entry.env pos (to_walk walk) }
 {
     match code {
-        statement::BRANCH => branch(section, scope, actions, temporaries, env, pos, walk),
-        statement::COND_BRANCH => {
-            cond_branch(section, scope, actions, temporaries, env, pos, walk)
-        }
+        statement::BRANCH => branch(context, scope, actions, temporaries, pos, walk),
+        statement::COND_BRANCH => { cond_branch(context, scope, actions, temporaries, pos, walk) }
         statement::LABEL => label_statement(
-            section,
+            context,
             scope,
             actions,
             temporaries,
-            env,
             pos,
             walk,
         ).map_err(|refusal| stop(walk, refusal)),
-        _ => simple(code, section, scope, actions, temporaries, env, pos, walk).map_err(
-            |refusal| stop(walk, refusal),
-        ),
+        _ => simple(code, context, scope, actions, temporaries, pos, walk).map_err(|refusal| stop(
+            walk, refusal,
+        )),
     }
 }
 
@@ -156,35 +150,36 @@ fn first_ordinal(table: &[u16; table::LENGTH], id: u64) -> u64
 #[tactic(auto, using(crate::proofs::StatementLaws::enter_laws))]
 fn enter(
     deep: u64,
-    section: Section<'_>,
+    context: Context<'_>,
     scope: &mut [u64],
     actions: &mut [u64],
     temporaries: &mut [u64],
-    env: Env,
     id: u64,
     arguments: u64,
     next: usize,
     state: State,
     walk: Walk,
 ) -> Result<(usize, Walk), Stopped>
-    ensures { walked (to_steps result) scope.new actions.new temporaries.new ≡ enter_macro deep section.entry.stream.now section.entry.table.now scope.old actions.old temporaries.old env id arguments next state (to_walk walk) }
+    ensures { walked (to_steps result) scope.new actions.new temporaries.new ≡ enter_macro deep context.entry.section.stream.now context.entry.section.table.now scope.old actions.old temporaries.old context.entry.env id arguments next state (to_walk walk) }
 {
     if deep == 0 {
         return Err(stop(walk, Refusal::MacroTooDeep));
     }
-    let start = body_at(macro_at(section.table, id), arguments);
-    let count = u16_in(section.stream, start, 0);
-    let inner = macro_env(env, arguments);
-    let first = first_ordinal(section.table, id);
+    let start = body_at(macro_at(context.section.table, id), arguments);
+    let count = u16_in(context.section.stream, start, 0);
+    let inner = macro_env(context.env, arguments);
+    let first = first_ordinal(context.section.table, id);
     let from = after(start, 2);
     let walk = Walk { st: state, ..walk };
     let (_, walk) = body(
         deep - 1,
-        section,
+        Context {
+            env: inner,
+            ..context
+        },
         scope,
         actions,
         temporaries,
-        inner,
         from,
         count,
         first,
@@ -197,26 +192,24 @@ fn enter(
 #[tactic(auto, unfolding(crate::specs::Statements::macro_statement, expr_terms::specs::Answers::on_args, stmt_walk::specs::Walks::without_p))]
 fn macro_statement(
     deep: u64,
-    section: Section<'_>,
+    context: Context<'_>,
     scope: &[u64],
     actions: &mut [u64],
     temporaries: &mut [u64],
-    env: Env,
     pos: usize,
     id: u64,
     arguments: u64,
     walk: Walk,
 ) -> Result<(usize, Walk), Stopped>
-    ensures { stepped (to_steps result) actions.new temporaries.new ≡ macro_statement (enter_macro deep section.entry.stream.now section.entry.table.now) section.entry.stream.now section.entry.table.now scope.now actions.old temporaries.old env pos id arguments (to_walk walk) }
+    ensures { stepped (to_steps result) actions.new temporaries.new ≡ macro_statement (enter_macro deep context.entry.section.stream.now context.entry.section.table.now) context.entry.section.stream.now context.entry.section.table.now scope.now actions.old temporaries.old context.entry.env pos id arguments (to_walk walk) }
 {
     let mut inner = [0u64; SCOPE_WORDS];
     let (next, state) = macro_args(
-        section,
+        context,
         scope,
         actions,
         temporaries,
         &mut inner,
-        env,
         pos,
         id,
         arguments,
@@ -225,11 +218,10 @@ fn macro_statement(
     .map_err(|refusal| stop(walk, refusal))?;
     enter(
         deep,
-        section,
+        context,
         &mut inner,
         actions,
         temporaries,
-        env,
         id,
         arguments,
         next,
@@ -242,40 +234,28 @@ fn macro_statement(
 #[tactic(auto, unfolding(crate::specs::Statements::call_statement, crate::specs::Statements::call_named, list_values::specs::Base::then_l))]
 fn call_statement(
     deep: u64,
-    section: Section<'_>,
+    context: Context<'_>,
     scope: &[u64],
     actions: &mut [u64],
     temporaries: &mut [u64],
-    env: Env,
     pos: usize,
     walk: Walk,
 ) -> Result<(usize, Walk), Stopped>
-    ensures { stepped (to_steps result) actions.new temporaries.new ≡ call_statement (enter_macro deep section.entry.stream.now section.entry.table.now) section.entry.stream.now section.entry.table.now scope.now actions.old temporaries.old env pos (to_walk walk) }
+    ensures { stepped (to_steps result) actions.new temporaries.new ≡ call_statement (enter_macro deep context.entry.section.stream.now context.entry.section.table.now) context.entry.section.stream.now context.entry.section.table.now scope.now actions.old temporaries.old context.entry.env pos (to_walk walk) }
 {
-    let n = access::byte(section.stream, pos, 3);
-    let name = u16_in(section.stream, pos, 1);
-    match called_of(section, name).map_err(|refusal| stop(walk, refusal))? {
-        Called::DelaySlot => delay_slot(section.stream, actions, pos, n, walk).map_err(
+    let n = access::byte(context.section.stream, pos, 3);
+    let name = u16_in(context.section.stream, pos, 1);
+    match called_of(context.section, name).map_err(|refusal| stop(walk, refusal))? {
+        Called::DelaySlot => delay_slot(context.section.stream, actions, pos, n, walk).map_err(
             |refusal| stop(walk, refusal),
         ),
         Called::UserOp(id) => {
-            user_op_statement(section, scope, actions, temporaries, env, pos, id, n, walk).map_err(
+            user_op_statement(context, scope, actions, temporaries, pos, id, n, walk).map_err(
                 |refusal| stop(walk, refusal),
             )
         }
         Called::Macro(id) => {
-            macro_statement(
-                deep,
-                section,
-                scope,
-                actions,
-                temporaries,
-                env,
-                pos,
-                id,
-                n,
-                walk,
-            )
+            macro_statement(deep, context, scope, actions, temporaries, pos, id, n, walk)
         }
     }
 }
@@ -284,23 +264,22 @@ fn call_statement(
 #[tactic(auto, unfolding(crate::specs::Statements::resolve_statement, crate::specs::Statements::statement_begun, crate::specs::Statements::statement_by, stmt_walk::specs::Walks::beside_p))]
 fn statement(
     deep: u64,
-    section: Section<'_>,
+    context: Context<'_>,
     scope: &mut [u64],
     actions: &mut [u64],
     temporaries: &mut [u64],
-    env: Env,
     pos: usize,
     ordinal: u64,
     walk: Walk,
 ) -> Result<(usize, Walk), Stopped>
-    ensures { walked (to_steps result) scope.new actions.new temporaries.new ≡ resolve_statement (enter_macro deep section.entry.stream.now section.entry.table.now) section.entry.stream.now section.entry.table.now env pos ordinal scope.old actions.old temporaries.old (to_walk walk) }
+    ensures { walked (to_steps result) scope.new actions.new temporaries.new ≡ resolve_statement (enter_macro deep context.entry.section.stream.now context.entry.section.table.now) context.entry.section.stream.now context.entry.section.table.now context.entry.env pos ordinal scope.old actions.old temporaries.old (to_walk walk) }
 {
     let walk = begin(walk, ordinal)?;
-    let code = access::byte(section.stream, pos, 0);
+    let code = access::byte(context.section.stream, pos, 0);
     if code == statement::CALL {
-        return call_statement(deep, section, scope, actions, temporaries, env, pos, walk);
+        return call_statement(deep, context, scope, actions, temporaries, pos, walk);
     }
-    other_statement(code, section, scope, actions, temporaries, env, pos, walk)
+    other_statement(code, context, scope, actions, temporaries, pos, walk)
 }
 
 // Whether a statement that begins at a position ends behind it, inside the stream, as every one of an accepted stream does.
@@ -318,35 +297,24 @@ fn forward(pos: usize, next: usize, len: usize) -> bool
 #[tactic(auto, using(crate::proofs::StatementLaws::body_laws))]
 pub fn body(
     deep: u64,
-    section: Section<'_>,
+    context: Context<'_>,
     scope: &mut [u64],
     actions: &mut [u64],
     temporaries: &mut [u64],
-    env: Env,
     pos: usize,
     count: u64,
     ordinal: u64,
     walk: Walk,
 ) -> Result<(usize, Walk), Stopped>
-    ensures { walked (to_steps result) scope.new actions.new temporaries.new ≡ resolve_body deep section.entry.stream.now section.entry.table.now scope.old actions.old temporaries.old env pos count ordinal (to_walk walk) }
+    ensures { walked (to_steps result) scope.new actions.new temporaries.new ≡ resolve_body deep context.entry.section.stream.now context.entry.section.table.now scope.old actions.old temporaries.old context.entry.env pos count ordinal (to_walk walk) }
 {
     let mut at = pos;
     let mut walk = walk;
     let mut i = 0;
     while i < count {
         let own = std::num::wrapping_add_u64(ordinal, i);
-        let (next, walked) = statement(
-            deep,
-            section,
-            scope,
-            actions,
-            temporaries,
-            env,
-            at,
-            own,
-            walk,
-        )?;
-        if !forward(at, next, section.stream.len()) {
+        let (next, walked) = statement(deep, context, scope, actions, temporaries, at, own, walk)?;
+        if !forward(at, next, context.section.stream.len()) {
             return Err(stop(walked, Refusal::Malformed));
         }
         at = next;

@@ -13,77 +13,64 @@ use expr_reading::read::{constant, read_operand};
 use expr_resolver::expr::{DEPTH, expr_value};
 use expr_scope::scope::{ExprValue, resolve_ident};
 use expr_terms::answers::{Operand, after};
-use list_pushes::push::{Env, Operation, push_op};
-use list_values::section::Section;
+use list_pushes::push::{Context, Operation, push_op};
 use list_values::value::{Value, no_output};
 use stmt_walk::walk::{Stopped, Walk, stop};
 
 #[tactic(auto, unfolding(crate::specs::Branches::push_label, stmt_walk::specs::Walks::step_pushed, stmt_walk::specs::Walks::pushed_then))]
 fn push_label(
-    section: Section<'_>,
+    context: Context<'_>,
     actions: &mut [u64],
     temporaries: &mut [u64],
-    env: Env,
     id: u64,
     next: usize,
     walk: Walk,
 ) -> Result<(usize, Walk), Refusal>
-    ensures { stepped (to_step walk result) actions.new temporaries.new ≡ push_label section.entry.stream.now section.entry.table.now actions.old temporaries.old env id next (to_walk walk) }
+    ensures { stepped (to_step walk result) actions.new temporaries.new ≡ push_label context.entry.section.stream.now context.entry.section.table.now actions.old temporaries.old context.entry.env id next (to_walk walk) }
 {
     let label = Operation {
         number: id,
         ..Operation::nullary(operation::PCODE_LABEL)
     };
-    let state = push_op(
-        section,
-        actions,
-        temporaries,
-        env,
-        label,
-        no_output(),
-        walk.st,
-    )?;
+    let state = push_op(context, actions, temporaries, label, no_output(), walk.st)?;
     Ok((next, labelled(walk, state, id, 1)))
 }
 
 #[tactic(auto, unfolding(crate::specs::Branches::label_statement, crate::specs::Labels::on_label, stmt_walk::specs::Walks::beside_p))]
 pub fn label_statement(
-    section: Section<'_>,
+    context: Context<'_>,
     scope: &mut [u64],
     actions: &mut [u64],
     temporaries: &mut [u64],
-    env: Env,
     pos: usize,
     walk: Walk,
 ) -> Result<(usize, Walk), Refusal>
-    ensures { walked (to_step walk result) scope.new actions.new temporaries.new ≡ label_statement section.entry.stream.now section.entry.table.now scope.old actions.old temporaries.old env pos (to_walk walk) }
+    ensures { walked (to_step walk result) scope.new actions.new temporaries.new ≡ label_statement context.entry.section.stream.now context.entry.section.table.now scope.old actions.old temporaries.old context.entry.env pos (to_walk walk) }
 {
-    let id = resolve_label(scope, u16_in(section.stream, pos, 1), walk.labels)?;
-    push_label(section, actions, temporaries, env, id, after(pos, 3), walk)
+    let id = resolve_label(scope, u16_in(context.section.stream, pos, 1), walk.labels)?;
+    push_label(context, actions, temporaries, id, after(pos, 3), walk)
 }
 
 #[tactic(auto, unfolding(crate::specs::Branches::branch_to, stmt_walk::specs::Walks::step_pushed, stmt_walk::specs::Walks::pushed_then))]
 fn branch_to(
-    section: Section<'_>,
+    context: Context<'_>,
     actions: &mut [u64],
     temporaries: &mut [u64],
-    env: Env,
     cond: Operand,
     address: Value,
     walk: Walk,
 ) -> Result<(usize, Walk), Refusal>
-    ensures { stepped (to_step walk result) actions.new temporaries.new ≡ branch_to section.entry.stream.now section.entry.table.now actions.old temporaries.old env cond.value address cond.next cond.state (to_walk walk) }
+    ensures { stepped (to_step walk result) actions.new temporaries.new ≡ branch_to context.entry.section.stream.now context.entry.section.table.now actions.old temporaries.old context.entry.env cond.value address cond.next cond.state (to_walk walk) }
 {
     let hint = cond.next;
     let branch = Operation {
-        number: access::byte(section.stream, hint, 0),
+        number: access::byte(context.section.stream, hint, 0),
         ..Operation::binary(operation::BRANCH, cond.value, address)
     };
     let st = push_op(
-        section,
+        context,
         actions,
         temporaries,
-        env,
         branch,
         no_output(),
         cond.state,
@@ -93,15 +80,14 @@ fn branch_to(
 
 #[tactic(auto, unfolding(crate::specs::Branches::branch_label, stmt_walk::specs::Walks::step_pushed, stmt_walk::specs::Walks::pushed_then))]
 fn branch_label(
-    section: Section<'_>,
+    context: Context<'_>,
     actions: &mut [u64],
     temporaries: &mut [u64],
-    env: Env,
     id: u64,
     cond: Operand,
     walk: Walk,
 ) -> Result<(usize, Walk), Stopped>
-    ensures { stepped (to_steps result) actions.new temporaries.new ≡ branch_label section.entry.stream.now section.entry.table.now actions.old temporaries.old env id cond.value cond.next cond.state (to_walk walk) }
+    ensures { stepped (to_steps result) actions.new temporaries.new ≡ branch_label context.entry.section.stream.now context.entry.section.table.now actions.old temporaries.old context.entry.env id cond.value cond.next cond.state (to_walk walk) }
 {
     let here = labelled(walk, cond.state, id, 0);
     let branch = Operation {
@@ -109,10 +95,9 @@ fn branch_label(
         ..Operation::binary(operation::PCODE_BRANCH, cond.value, constant(0))
     };
     let st = push_op(
-        section,
+        context,
         actions,
         temporaries,
-        env,
         branch,
         no_output(),
         cond.state,
@@ -124,24 +109,22 @@ fn branch_label(
 // The label's name stands where the condition ends.
 #[tactic(auto, unfolding(crate::specs::Branches::label_branch, crate::specs::Labels::on_label, stmt_walk::specs::Walks::beside_p))]
 fn label_branch(
-    section: Section<'_>,
+    context: Context<'_>,
     scope: &mut [u64],
     actions: &mut [u64],
     temporaries: &mut [u64],
-    env: Env,
     cond: Operand,
     walk: Walk,
 ) -> Result<(usize, Walk), Stopped>
-    ensures { walked (to_steps result) scope.new actions.new temporaries.new ≡ label_branch section.entry.stream.now section.entry.table.now scope.old actions.old temporaries.old env cond.next cond.value cond.state (to_walk walk) }
+    ensures { walked (to_steps result) scope.new actions.new temporaries.new ≡ label_branch context.entry.section.stream.now context.entry.section.table.now scope.old actions.old temporaries.old context.entry.env cond.next cond.value cond.state (to_walk walk) }
 {
-    let name = u16_in(section.stream, cond.next, 1);
+    let name = u16_in(context.section.stream, cond.next, 1);
     let id = get_or_insert_label(scope, name, walk.labels).map_err(|refusal| stop(walk, refusal))?;
     let next = after(cond.next, 4);
     branch_label(
-        section,
+        context,
         actions,
         temporaries,
-        env,
         id,
         Operand { next, ..cond },
         walk,
@@ -150,20 +133,15 @@ fn label_branch(
 
 // What a jump goes to: a name, or an integer with a size.
 #[tactic(auto, unfolding(crate::specs::Branches::jump_value))]
-fn jump_value(
-    section: Section<'_>,
-    scope: &[u64],
-    pos: usize,
-    env: Env,
-) -> Result<ExprValue, Refusal>
-    ensures { to_meaning result ≡ jump_value section.entry.stream.now section.entry.table.now scope.now pos env }
+fn jump_value(context: Context<'_>, scope: &[u64], pos: usize) -> Result<ExprValue, Refusal>
+    ensures { to_meaning result ≡ jump_value context.entry.section.stream.now context.entry.section.table.now scope.now pos context.entry.env }
 {
-    if access::byte(section.stream, pos, 0) == statement::JUMP_IDENT {
-        return resolve_ident(section, scope, env, u16_in(section.stream, pos, 1));
+    if access::byte(context.section.stream, pos, 0) == statement::JUMP_IDENT {
+        return resolve_ident(context, scope, u16_in(context.section.stream, pos, 1));
     }
     Ok(ExprValue::Const {
-        value: access::u64_at(section.stream, after(pos, 1)),
-        size: u16_in(section.stream, pos, 9),
+        value: access::u64_at(context.section.stream, after(pos, 1)),
+        size: u16_in(context.section.stream, pos, 9),
     })
 }
 
@@ -194,20 +172,19 @@ fn direct_address(value: Value, pointer: u64) -> Value
 
 #[tactic(auto, unfolding(crate::specs::Branches::direct))]
 fn direct(
-    section: Section<'_>,
+    context: Context<'_>,
     actions: &mut [u64],
     temporaries: &mut [u64],
-    env: Env,
     expr: ExprValue,
     cond: Operand,
     walk: Walk,
 ) -> Result<(usize, Walk), Refusal>
-    ensures { stepped (to_step walk result) actions.new temporaries.new ≡ direct section.entry.stream.now section.entry.table.now actions.old temporaries.old env expr cond.value cond.next cond.state (to_walk walk) }
+    ensures { stepped (to_step walk result) actions.new temporaries.new ≡ direct context.entry.section.stream.now context.entry.section.table.now actions.old temporaries.old context.entry.env expr cond.value cond.next cond.state (to_walk walk) }
 {
     match expr {
         ExprValue::Local(v) => {
-            let address = direct_address(v, env.pointer);
-            branch_to(section, actions, temporaries, env, cond, address, walk)
+            let address = direct_address(v, context.env.pointer);
+            branch_to(context, actions, temporaries, cond, address, walk)
         }
         ExprValue::Unbound(_)
         | ExprValue::Const { .. }
@@ -221,22 +198,20 @@ fn direct(
 
 #[tactic(auto, unfolding(crate::specs::Branches::indirect, list_pushes::specs::Pushes::on_read))]
 fn indirect(
-    section: Section<'_>,
+    context: Context<'_>,
     actions: &mut [u64],
     temporaries: &mut [u64],
-    env: Env,
     expr: ExprValue,
     cond: Operand,
     walk: Walk,
 ) -> Result<(usize, Walk), Refusal>
-    ensures { stepped (to_step walk result) actions.new temporaries.new ≡ indirect section.entry.stream.now section.entry.table.now actions.old temporaries.old env expr cond.value cond.next cond.state (to_walk walk) }
+    ensures { stepped (to_step walk result) actions.new temporaries.new ≡ indirect context.entry.section.stream.now context.entry.section.table.now actions.old temporaries.old context.entry.env expr cond.value cond.next cond.state (to_walk walk) }
 {
-    let (address, state) = read_operand(section, actions, temporaries, env, expr, cond.state)?;
+    let (address, state) = read_operand(context, actions, temporaries, expr, cond.state)?;
     branch_to(
-        section,
+        context,
         actions,
         temporaries,
-        env,
         Operand { state, ..cond },
         address,
         walk,
@@ -246,45 +221,42 @@ fn indirect(
 #[tactic(auto, unfolding(crate::specs::Branches::jump_to))]
 fn jump_to(
     code: u64,
-    section: Section<'_>,
+    context: Context<'_>,
     actions: &mut [u64],
     temporaries: &mut [u64],
-    env: Env,
     expr: ExprValue,
     cond: Operand,
     walk: Walk,
 ) -> Result<(usize, Walk), Refusal>
-    ensures { stepped (to_step walk result) actions.new temporaries.new ≡ jump_to code section.entry.stream.now section.entry.table.now actions.old temporaries.old env expr cond.value cond.next cond.state (to_walk walk) }
+    ensures { stepped (to_step walk result) actions.new temporaries.new ≡ jump_to code context.entry.section.stream.now context.entry.section.table.now actions.old temporaries.old context.entry.env expr cond.value cond.next cond.state (to_walk walk) }
 {
     if code == statement::DST_DIRECT {
-        return direct(section, actions, temporaries, env, expr, cond, walk);
+        return direct(context, actions, temporaries, expr, cond, walk);
     }
-    indirect(section, actions, temporaries, env, expr, cond, walk)
+    indirect(context, actions, temporaries, expr, cond, walk)
 }
 
 // Where a jump goes stands where the condition ends.
 #[tactic(auto, unfolding(crate::specs::Branches::jump, crate::specs::Branches::jump_meant))]
 fn jump(
-    section: Section<'_>,
+    context: Context<'_>,
     scope: &[u64],
     actions: &mut [u64],
     temporaries: &mut [u64],
-    env: Env,
     cond: Operand,
     walk: Walk,
 ) -> Result<(usize, Walk), Refusal>
-    ensures { stepped (to_step walk result) actions.new temporaries.new ≡ jump section.entry.stream.now section.entry.table.now scope.now actions.old temporaries.old env cond.next cond.value cond.state (to_walk walk) }
+    ensures { stepped (to_step walk result) actions.new temporaries.new ≡ jump context.entry.section.stream.now context.entry.section.table.now scope.now actions.old temporaries.old context.entry.env cond.next cond.value cond.state (to_walk walk) }
 {
     let target = after(cond.next, 1);
-    let code = access::byte(section.stream, cond.next, 0);
-    let expr = jump_value(section, scope, target, env)?;
-    let next = after_jump(section.stream, target);
+    let code = access::byte(context.section.stream, cond.next, 0);
+    let expr = jump_value(context, scope, target)?;
+    let next = after_jump(context.section.stream, target);
     jump_to(
         code,
-        section,
+        context,
         actions,
         temporaries,
-        env,
         expr,
         Operand { next, ..cond },
         walk,
@@ -293,67 +265,54 @@ fn jump(
 
 #[tactic(auto, unfolding(crate::specs::Branches::resolve_branch, stmt_walk::specs::Walks::beside_p))]
 fn resolve_branch(
-    section: Section<'_>,
+    context: Context<'_>,
     scope: &mut [u64],
     actions: &mut [u64],
     temporaries: &mut [u64],
-    env: Env,
     cond: Operand,
     walk: Walk,
 ) -> Result<(usize, Walk), Stopped>
-    ensures { walked (to_steps result) scope.new actions.new temporaries.new ≡ resolve_branch section.entry.stream.now section.entry.table.now scope.old actions.old temporaries.old env cond.next cond.value cond.state (to_walk walk) }
+    ensures { walked (to_steps result) scope.new actions.new temporaries.new ≡ resolve_branch context.entry.section.stream.now context.entry.section.table.now scope.old actions.old temporaries.old context.entry.env cond.next cond.value cond.state (to_walk walk) }
 {
-    if access::byte(section.stream, cond.next, 0) == statement::DST_LABEL {
-        return label_branch(section, scope, actions, temporaries, env, cond, walk);
+    if access::byte(context.section.stream, cond.next, 0) == statement::DST_LABEL {
+        return label_branch(context, scope, actions, temporaries, cond, walk);
     }
-    jump(section, scope, actions, temporaries, env, cond, walk).map_err(|refusal| stop(
-        walk, refusal,
-    ))
+    jump(context, scope, actions, temporaries, cond, walk).map_err(|refusal| stop(walk, refusal))
 }
 
 #[tactic(auto, unfolding(crate::specs::Branches::branch))]
 pub fn branch(
-    section: Section<'_>,
+    context: Context<'_>,
     scope: &mut [u64],
     actions: &mut [u64],
     temporaries: &mut [u64],
-    env: Env,
     pos: usize,
     walk: Walk,
 ) -> Result<(usize, Walk), Stopped>
-    ensures { walked (to_steps result) scope.new actions.new temporaries.new ≡ branch section.entry.stream.now section.entry.table.now scope.old actions.old temporaries.old env pos (to_walk walk) }
+    ensures { walked (to_steps result) scope.new actions.new temporaries.new ≡ branch context.entry.section.stream.now context.entry.section.table.now scope.old actions.old temporaries.old context.entry.env pos (to_walk walk) }
 {
     let always = Operand {
         value: constant(1),
         next: after(pos, 1),
         state: walk.st,
     };
-    resolve_branch(section, scope, actions, temporaries, env, always, walk)
+    resolve_branch(context, scope, actions, temporaries, always, walk)
 }
 
 #[tactic(auto, unfolding(crate::specs::Branches::cond_branch, expr_terms::specs::Answers::on_operand))]
 pub fn cond_branch(
-    section: Section<'_>,
+    context: Context<'_>,
     scope: &mut [u64],
     actions: &mut [u64],
     temporaries: &mut [u64],
-    env: Env,
     pos: usize,
     walk: Walk,
 ) -> Result<(usize, Walk), Stopped>
-    ensures { walked (to_steps result) scope.new actions.new temporaries.new ≡ cond_branch section.entry.stream.now section.entry.table.now scope.old actions.old temporaries.old env pos (to_walk walk) }
+    ensures { walked (to_steps result) scope.new actions.new temporaries.new ≡ cond_branch context.entry.section.stream.now context.entry.section.table.now scope.old actions.old temporaries.old context.entry.env pos (to_walk walk) }
 {
     let at = after(pos, 1);
-    let cond = expr_value(
-        DEPTH,
-        section,
-        scope,
-        at,
-        env,
-        actions,
-        temporaries,
-        walk.st,
-    )
-    .map_err(|refusal| stop(walk, refusal))?;
-    resolve_branch(section, scope, actions, temporaries, env, cond, walk)
+    let cond = expr_value(DEPTH, context, scope, at, actions, temporaries, walk.st).map_err(
+        |refusal| stop(walk, refusal),
+    )?;
+    resolve_branch(context, scope, actions, temporaries, cond, walk)
 }

@@ -19,7 +19,7 @@ use expr_scope::scope::{SLOT_A, SLOT_NAME, param_place};
 use expr_scope::symbols::{Symbol, lookup};
 use expr_terms::answers::after;
 use expr_terms::calls::only_integer;
-use list_pushes::push::{Env, Operation, State, push};
+use list_pushes::push::{Context, Operation, State, push};
 use list_values::section::Section;
 use list_values::value::{INPUT_0, absent, no_output, put, put_value, value_at};
 use stmt_walk::walk::Walk;
@@ -86,20 +86,19 @@ pub fn delay_slot(
 // parameters do, so these loops count arguments, and their number stands beside the words.
 #[tactic(auto, using(crate::proofs::CallLaws::args_laws))]
 fn read_args(
-    section: Section<'_>,
+    context: Context<'_>,
     actions: &mut [u64],
     temporaries: &mut [u64],
     args: &mut [u64],
     count: u64,
-    env: Env,
     state: State,
 ) -> Result<State, Refusal>
-    ensures { args_read (to_pushed result) actions.new temporaries.new args.new ≡ read_args count 0 section.entry.stream.now section.entry.table.now actions.old temporaries.old args.old env state }
+    ensures { args_read (to_pushed result) actions.new temporaries.new args.new ≡ read_args count 0 context.entry.section.stream.now context.entry.section.table.now actions.old temporaries.old args.old context.entry.env state }
 {
     let mut state = state;
     for i in 0..count {
         let arg = arg_at(args, i);
-        let (value, next) = read_operand(section, actions, temporaries, env, arg, state)?;
+        let (value, next) = read_operand(context, actions, temporaries, arg, state)?;
         put_value(args, param_place(i as usize), SLOT_A, value);
         state = next;
     }
@@ -139,58 +138,46 @@ fn push_user_op(
 
 #[tactic(auto, unfolding(crate::specs::Calls::user_op_args, crate::specs::Calls::user_op_read, list_values::specs::Base::then_l))]
 fn user_op_args(
-    section: Section<'_>,
+    context: Context<'_>,
     actions: &mut [u64],
     temporaries: &mut [u64],
     args: &mut [u64],
     id: u64,
     count: u64,
-    env: Env,
     state: State,
 ) -> Result<State, Refusal>
-    ensures { args_read (to_pushed result) actions.new temporaries.new args.new ≡ user_op_args section.entry.stream.now section.entry.table.now actions.old temporaries.old args.old id count env state }
+    ensures { args_read (to_pushed result) actions.new temporaries.new args.new ≡ user_op_args context.entry.section.stream.now context.entry.section.table.now actions.old temporaries.old args.old id count context.entry.env state }
 {
-    let next = read_args(section, actions, temporaries, args, count, env, state)?;
+    let next = read_args(context, actions, temporaries, args, count, state)?;
     push_user_op(actions, args, id, count, next)
 }
 
 #[tactic(auto, unfolding(crate::specs::Calls::user_op_statement, crate::specs::Calls::step_args, expr_terms::specs::Answers::on_args, stmt_walk::specs::Walks::pushed_then))]
 pub fn user_op_statement(
-    section: Section<'_>,
+    context: Context<'_>,
     scope: &[u64],
     actions: &mut [u64],
     temporaries: &mut [u64],
-    env: Env,
     pos: usize,
     id: u64,
     count: u64,
     walk: Walk,
 ) -> Result<(usize, Walk), Refusal>
-    ensures { stepped (to_step walk result) actions.new temporaries.new ≡ user_op_statement section.entry.stream.now section.entry.table.now scope.now actions.old temporaries.old env pos id count (to_walk walk) }
+    ensures { stepped (to_step walk result) actions.new temporaries.new ≡ user_op_statement context.entry.section.stream.now context.entry.section.table.now scope.now actions.old temporaries.old context.entry.env pos id count (to_walk walk) }
 {
     let mut args = [0u64; ARGS_WORDS];
     let (next, state) = resolve_args(
         DEPTH,
-        section,
+        context,
         scope,
         after(pos, 4),
         count,
-        env,
         actions,
         temporaries,
         &mut args,
         walk.st,
     )?;
-    let st = user_op_args(
-        section,
-        actions,
-        temporaries,
-        &mut args,
-        id,
-        count,
-        env,
-        state,
-    )?;
+    let st = user_op_args(context, actions, temporaries, &mut args, id, count, state)?;
     Ok((next, Walk { st, ..walk }))
 }
 
@@ -233,32 +220,30 @@ fn counted(
 // The arguments of a macro call, as its parameters.
 #[tactic(auto, unfolding(crate::specs::Calls::macro_args, crate::specs::Calls::macro_counted))]
 pub fn macro_args(
-    section: Section<'_>,
+    context: Context<'_>,
     scope: &[u64],
     actions: &mut [u64],
     temporaries: &mut [u64],
     args: &mut [u64],
-    env: Env,
     pos: usize,
     id: u64,
     count: u64,
     state: State,
 ) -> Result<(usize, State), Refusal>
-    ensures { passed (to_args result) actions.new temporaries.new args.new ≡ macro_args section.entry.stream.now section.entry.table.now scope.now actions.old temporaries.old args.old env pos id count state }
+    ensures { passed (to_args result) actions.new temporaries.new args.new ≡ macro_args context.entry.section.stream.now context.entry.section.table.now scope.now actions.old temporaries.old args.old context.entry.env pos id count state }
 {
     let (next, state) = resolve_args(
         DEPTH,
-        section,
+        context,
         scope,
         after(pos, 4),
         count,
-        env,
         actions,
         temporaries,
         args,
         state,
     )?;
-    let names = after(macro_at(section.table, id), 1);
-    bind_names(section.stream, args, names, count as usize);
-    counted(section, id, count, next, state)
+    let names = after(macro_at(context.section.table, id), 1);
+    bind_names(context.section.stream, args, names, count as usize);
+    counted(context.section, id, count, next, state)
 }

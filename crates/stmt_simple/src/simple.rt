@@ -13,7 +13,7 @@ use expr_resolver::expr::{DEPTH, resolve_expr};
 use expr_scope::scope::{Access, ExprValue, named_tmp};
 use expr_scope::symbols::{Symbol, lookup};
 use expr_terms::answers::{Resolved, after};
-use list_pushes::push::{Env, Operation, State, push, push_op};
+use list_pushes::push::{Context, Operation, State, push, push_op};
 use list_values::section::Section;
 use list_values::sizes::entry;
 use list_values::value::{Value, absent, no_output};
@@ -21,39 +21,29 @@ use stmt_walk::walk::{Export, Walk};
 
 #[tactic(auto, unfolding(crate::specs::Simple::unimplemented, stmt_walk::specs::Walks::step_pushed, stmt_walk::specs::Walks::pushed_then))]
 pub fn unimplemented(
-    section: Section<'_>,
+    context: Context<'_>,
     actions: &mut [u64],
     temporaries: &mut [u64],
-    env: Env,
     pos: usize,
     walk: Walk,
 ) -> Result<(usize, Walk), Refusal>
-    ensures { stepped (to_step walk result) actions.new temporaries.new ≡ unimplemented section.entry.stream.now section.entry.table.now actions.old temporaries.old env pos (to_walk walk) }
+    ensures { stepped (to_step walk result) actions.new temporaries.new ≡ unimplemented context.entry.section.stream.now context.entry.section.table.now actions.old temporaries.old context.entry.env pos (to_walk walk) }
 {
     let invalid = Operation::nullary(operation::INVALID);
-    let st = push_op(
-        section,
-        actions,
-        temporaries,
-        env,
-        invalid,
-        no_output(),
-        walk.st,
-    )?;
+    let st = push_op(context, actions, temporaries, invalid, no_output(), walk.st)?;
     Ok((after(pos, 1), Walk { st, ..walk }))
 }
 
 // A reference stays one, anything else is read.
 #[tactic(auto, unfolding(crate::specs::Simple::export_of, crate::specs::Simple::export_read, crate::specs::Simple::export_value, stmt_walk::specs::Walks::step_read))]
 fn export_of(
-    section: Section<'_>,
+    context: Context<'_>,
     actions: &mut [u64],
     temporaries: &mut [u64],
-    env: Env,
     expr: Resolved,
     walk: Walk,
 ) -> Result<(usize, Walk), Refusal>
-    ensures { stepped (to_step walk result) actions.new temporaries.new ≡ export_of section.entry.stream.now section.entry.table.now actions.old temporaries.old env expr.value expr.next expr.state (to_walk walk) }
+    ensures { stepped (to_step walk result) actions.new temporaries.new ≡ export_of context.entry.section.stream.now context.entry.section.table.now actions.old temporaries.old context.entry.env expr.value expr.next expr.state (to_walk walk) }
 {
     let Resolved { next, value, state } = expr;
     let (export, st) = match value {
@@ -68,7 +58,7 @@ fn export_of(
         | ExprValue::Apply(_)
         | ExprValue::AddressOf { .. }
         | ExprValue::BitRange { .. } => {
-            let (read, st) = read_operand(section, actions, temporaries, env, value, state)?;
+            let (read, st) = read_operand(context, actions, temporaries, value, state)?;
             (Export::Value(read), st)
         }
     };
@@ -78,68 +68,55 @@ fn export_of(
 
 #[tactic(auto, unfolding(crate::specs::Simple::export_statement, expr_terms::specs::Answers::on_expr))]
 pub fn export_statement(
-    section: Section<'_>,
+    context: Context<'_>,
     scope: &[u64],
     actions: &mut [u64],
     temporaries: &mut [u64],
-    env: Env,
     pos: usize,
     walk: Walk,
 ) -> Result<(usize, Walk), Refusal>
-    ensures { stepped (to_step walk result) actions.new temporaries.new ≡ export_statement section.entry.stream.now section.entry.table.now scope.now actions.old temporaries.old env pos (to_walk walk) }
+    ensures { stepped (to_step walk result) actions.new temporaries.new ≡ export_statement context.entry.section.stream.now context.entry.section.table.now scope.now actions.old temporaries.old context.entry.env pos (to_walk walk) }
 {
     let at = after(pos, 1);
-    let expr = resolve_expr(
-        DEPTH,
-        section,
-        scope,
-        at,
-        env,
-        actions,
-        temporaries,
-        walk.st,
-    )?;
-    export_of(section, actions, temporaries, env, expr, walk)
+    let expr = resolve_expr(DEPTH, context, scope, at, actions, temporaries, walk.st)?;
+    export_of(context, actions, temporaries, expr, walk)
 }
 
 #[tactic(auto, unfolding(crate::specs::Simple::local_statement, stmt_walk::specs::Walks::step_read, stmt_walk::specs::Walks::read_then))]
 pub fn local_statement(
-    section: Section<'_>,
+    context: Context<'_>,
     scope: &mut [u64],
     temporaries: &mut [u64],
-    env: Env,
     pos: usize,
     walk: Walk,
 ) -> Result<(usize, Walk), Refusal>
-    ensures { stepped (to_step walk result) scope.new temporaries.new ≡ local_statement section.entry.stream.now section.entry.table.now scope.old temporaries.old env pos (to_walk walk) }
+    ensures { stepped (to_step walk result) scope.new temporaries.new ≡ local_statement context.entry.section.stream.now context.entry.section.table.now scope.old temporaries.old context.entry.env pos (to_walk walk) }
 {
-    let name = u16_in(section.stream, pos, 1);
-    let size = u16_in(section.stream, pos, 3);
-    let (_, st) = named_tmp(section.table, scope, temporaries, env, name, size, walk.st)?;
+    let name = u16_in(context.section.stream, pos, 1);
+    let size = u16_in(context.section.stream, pos, 3);
+    let (_, st) = named_tmp(context, scope, temporaries, name, size, walk.st)?;
     Ok((after(pos, 5), Walk { st, ..walk }))
 }
 
 // An expression at a position read into a target.
 #[tactic(auto, unfolding(crate::specs::Simple::assign, expr_terms::specs::Answers::on_expr, stmt_walk::specs::Walks::step_read, stmt_walk::specs::Walks::read_then))]
 fn assign(
-    section: Section<'_>,
+    context: Context<'_>,
     scope: &[u64],
     actions: &mut [u64],
     temporaries: &mut [u64],
-    env: Env,
     pos: usize,
     to: Value,
     state: State,
     walk: Walk,
 ) -> Result<(usize, Walk), Refusal>
-    ensures { stepped (to_step walk result) actions.new temporaries.new ≡ assign section.entry.stream.now section.entry.table.now scope.now actions.old temporaries.old env pos to state (to_walk walk) }
+    ensures { stepped (to_step walk result) actions.new temporaries.new ≡ assign context.entry.section.stream.now context.entry.section.table.now scope.now actions.old temporaries.old context.entry.env pos to state (to_walk walk) }
 {
-    let expr = resolve_expr(DEPTH, section, scope, pos, env, actions, temporaries, state)?;
+    let expr = resolve_expr(DEPTH, context, scope, pos, actions, temporaries, state)?;
     let (_, st) = read_value(
-        section,
+        context,
         actions,
         temporaries,
-        env,
         expr.value,
         Some(to),
         expr.state,
@@ -149,31 +126,20 @@ fn assign(
 
 #[tactic(auto, unfolding(crate::specs::Simple::local_assignment, list_pushes::specs::Pushes::on_read, stmt_walk::specs::Walks::beside_p))]
 pub fn local_assignment(
-    section: Section<'_>,
+    context: Context<'_>,
     scope: &mut [u64],
     actions: &mut [u64],
     temporaries: &mut [u64],
-    env: Env,
     pos: usize,
     walk: Walk,
 ) -> Result<(usize, Walk), Refusal>
-    ensures { walked (to_step walk result) scope.new actions.new temporaries.new ≡ local_assignment section.entry.stream.now section.entry.table.now scope.old actions.old temporaries.old env pos (to_walk walk) }
+    ensures { walked (to_step walk result) scope.new actions.new temporaries.new ≡ local_assignment context.entry.section.stream.now context.entry.section.table.now scope.old actions.old temporaries.old context.entry.env pos (to_walk walk) }
 {
-    let name = u16_in(section.stream, pos, 1);
-    let size = u16_in(section.stream, pos, 3);
-    let (to, state) = named_tmp(section.table, scope, temporaries, env, name, size, walk.st)?;
+    let name = u16_in(context.section.stream, pos, 1);
+    let size = u16_in(context.section.stream, pos, 3);
+    let (to, state) = named_tmp(context, scope, temporaries, name, size, walk.st)?;
     let at = after(pos, 5);
-    assign(
-        section,
-        scope,
-        actions,
-        temporaries,
-        env,
-        at,
-        to,
-        state,
-        walk,
-    )
+    assign(context, scope, actions, temporaries, at, to, state, walk)
 }
 
 // The first of n subtables that has this table.

@@ -29,7 +29,7 @@ abbrev pub decreases-user_op : goal.decreases-user_op
 decreases-user_op l = 4 * l.deep + 2
 
 abbrev pub invariant-resolve_args-loop-i : goal.invariant-resolve_args-loop-i
-invariant-resolve_args-loop-i l = (length l.actions ≡ length l.initial.actions) × (length l.temporaries ≡ length l.initial.temporaries) × (length l.args ≡ length l.initial.args) × (spec.resolve_args (spec.resolve_expr l.deep l.section.stream.now l.section.table.now l.scope l.env) (l.count - l.i) l.i l.at l.actions l.temporaries l.args l.state ≡ spec.resolve_args (spec.resolve_expr l.deep l.section.stream.now l.section.table.now l.scope l.env) l.count 0 l.initial.at l.initial.actions l.initial.temporaries l.initial.args l.initial.state)
+invariant-resolve_args-loop-i l = (length l.actions ≡ length l.initial.actions) × (length l.temporaries ≡ length l.initial.temporaries) × (length l.args ≡ length l.initial.args) × (spec.resolve_args (spec.resolve_expr l.deep l.context.section.stream.now l.context.section.table.now l.scope l.context.env) (l.count - l.i) l.i l.at l.actions l.temporaries l.args l.state ≡ spec.resolve_args (spec.resolve_expr l.deep l.context.section.stream.now l.context.section.table.now l.scope l.context.env) l.count 0 l.initial.at l.initial.actions l.initial.temporaries l.initial.args l.initial.state)
 
 abbrev pub decreases-resolve_args-loop-i : goal.decreases-resolve_args-loop-i
 decreases-resolve_args-loop-i l = l.count - l.i

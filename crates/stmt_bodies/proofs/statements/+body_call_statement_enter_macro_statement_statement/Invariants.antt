@@ -20,7 +20,7 @@ decreases-statement l = 5 * l.deep + 3
 
 abbrev pub invariant-body-loop-i : goal.invariant-body-loop-i
 invariant-body-loop-i l = (length l.scope ≡ length l.initial.scope) × (length l.actions ≡ length l.initial.actions) × (length l.temporaries ≡ length l.initial.temporaries)
-    × (resolve_all (resolve_statement (enter_macro l.deep l.section.stream.now l.section.table.now) l.section.stream.now l.section.table.now l.env) (length l.section.stream.now) (l.count - l.i) l.i l.ordinal l.at l.scope l.actions l.temporaries (to_walk l.walk) ≡ resolve_body l.deep l.section.stream.now l.section.table.now l.initial.scope l.initial.actions l.initial.temporaries l.env l.pos l.count l.ordinal (to_walk l.initial.walk))
+    × (resolve_all (resolve_statement (enter_macro l.deep l.context.section.stream.now l.context.section.table.now) l.context.section.stream.now l.context.section.table.now l.context.env) (length l.context.section.stream.now) (l.count - l.i) l.i l.ordinal l.at l.scope l.actions l.temporaries (to_walk l.walk) ≡ resolve_body l.deep l.context.section.stream.now l.context.section.table.now l.initial.scope l.initial.actions l.initial.temporaries l.context.env l.pos l.count l.ordinal (to_walk l.initial.walk))
 
 abbrev pub decreases-body-loop-i : goal.decreases-body-loop-i
-decreases-body-loop-i l = length l.section.stream.now - l.at
+decreases-body-loop-i l = length l.context.section.stream.now - l.at
