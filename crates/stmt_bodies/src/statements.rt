@@ -167,16 +167,16 @@ fn enter(
     }
     let start = body_at(macro_at(context.section.table, id), arguments);
     let count = u16_in(context.section.stream, start, 0);
-    let inner = macro_env(context.env, arguments);
+    let inner = Context {
+        env: macro_env(context.env, arguments),
+        ..context
+    };
     let first = first_ordinal(context.section.table, id);
     let from = after(start, 2);
     let walk = Walk { st: state, ..walk };
     let (_, walk) = body(
         deep - 1,
-        Context {
-            env: inner,
-            ..context
-        },
+        inner,
         scope,
         actions,
         temporaries,
