@@ -16,11 +16,12 @@ use expr_reading::read::{constant, read_operand};
 use expr_scope::args::{ARGS_WORDS, put_arg};
 use expr_scope::scope::{Bits, ExprValue, plain_local, resolve_ident};
 use expr_terms::address::resolve_address;
-use expr_terms::answers::{Operand, Resolved, after};
+use expr_terms::answers::{Resolved, after};
 use expr_terms::calls::{Callee, applied, call_user_op, callee_of, subpiece};
 use expr_terms::slices::slice_bits;
 use file_syntax::cursor::{Cursor, place_of};
 use list_pushes::push::{Context, Operation, State};
+use list_values::value::Value;
 
 // How deep expressions are nested at most.
 pub const DEPTH: u64 = 32;
@@ -34,7 +35,12 @@ pub struct Order {
 }
 
 #[tactic(auto, unfolding(crate::specs::Expressions::local_address))]
-fn local_address(expr: ExprValue, size: u64, next: usize, state: State) -> Result<Resolved, Refusal>
+fn local_address(
+    expr: ExprValue,
+    size: u64,
+    next: usize,
+    state: State,
+) -> Result<Resolved<ExprValue>, Refusal>
     ensures { to_expr result ≡ local_address expr size next state }
 {
     match expr {
@@ -59,7 +65,7 @@ fn address_of(
     scope: &[u64],
     pos: usize,
     state: State,
-) -> Result<Resolved, Refusal>
+) -> Result<Resolved<ExprValue>, Refusal>
     ensures { to_expr result ≡ address_of context.entry.section.stream.now context.entry.section.table.now scope.now pos context.entry.env state }
 {
     let base = resolve_ident(context, scope, u16_in(context.section.stream, pos, 3))?;
@@ -78,7 +84,7 @@ fn name_at(
     scope: &[u64],
     pos: usize,
     state: State,
-) -> Result<Resolved, Refusal>
+) -> Result<Resolved<ExprValue>, Refusal>
     ensures { to_expr result ≡ means_at (resolve_ident context.entry.section.stream.now context.entry.section.table.now scope.now context.entry.env (le16 context.entry.section.stream.now (pos + 1))) (after pos 3) state }
 {
     let name = u16_in(context.section.stream, pos, 1);
@@ -98,7 +104,7 @@ fn atom(
     scope: &[u64],
     pos: usize,
     state: State,
-) -> Result<Resolved, Refusal>
+) -> Result<Resolved<ExprValue>, Refusal>
     ensures { to_expr result ≡ atom code context.entry.section.stream.now context.entry.section.table.now scope.now pos context.entry.env state }
 {
     match code {
@@ -187,8 +193,8 @@ fn with_part(
     actions: &mut [u64],
     temporaries: &mut [u64],
     pos: usize,
-    part: Resolved,
-) -> Result<Resolved, Refusal>
+    part: Resolved<ExprValue>,
+) -> Result<Resolved<ExprValue>, Refusal>
     ensures { resolved (to_expr result) actions.new temporaries.new ≡ with_part code context.entry.section.stream.now context.entry.section.table.now actions.old temporaries.old pos context.entry.env part.value part.next part.state }
 {
     let next = part.next;
@@ -237,7 +243,7 @@ fn plain_operand(
     scope: &[u64],
     pos: usize,
     state: State,
-) -> Option<Operand>
+) -> Option<Resolved<Value>>
     ensures { IfSome result (λ o. (a m : List ℕ) → operand (to_operand (Ok o)) a m ≡ expr_value (resolve_expr deep context.entry.section.stream.now context.entry.section.table.now scope.now context.entry.env) context.entry.section.stream.now context.entry.section.table.now context.entry.env pos a m state) }
 {
     if deep == 0 {
@@ -246,13 +252,13 @@ fn plain_operand(
     match access::byte(context.section.stream, pos, 0) {
         expression::IDENT => {
             let value = plain_local(context, scope, u16_in(context.section.stream, pos, 1))?;
-            Some(Operand {
+            Some(Resolved {
                 value,
                 next: after(pos, 3),
                 state,
             })
         }
-        expression::INTEGER => Some(Operand {
+        expression::INTEGER => Some(Resolved {
             value: constant(access::u64_at(context.section.stream, after(pos, 1))),
             next: after(pos, 9),
             state,
@@ -272,7 +278,7 @@ pub fn expr_value(
     actions: &mut [u64],
     temporaries: &mut [u64],
     state: State,
-) -> Result<Operand, Refusal>
+) -> Result<Resolved<Value>, Refusal>
     ensures { operand (to_operand result) actions.new temporaries.new ≡ expr_value (resolve_expr deep context.entry.section.stream.now context.entry.section.table.now scope.now context.entry.env) context.entry.section.stream.now context.entry.section.table.now context.entry.env pos actions.old temporaries.old state }
 {
     if let Some(operand) = plain_operand(deep, context, scope, pos, state) {
@@ -280,7 +286,7 @@ pub fn expr_value(
     }
     let expr = resolve_expr(deep, context, scope, pos, actions, temporaries, state)?;
     let (value, state) = read_operand(context, actions, temporaries, expr.value, expr.state)?;
-    Ok(Operand {
+    Ok(Resolved {
         value,
         next: expr.next,
         state,
@@ -299,7 +305,7 @@ fn part(
     actions: &mut [u64],
     temporaries: &mut [u64],
     state: State,
-) -> Result<Resolved, Refusal>
+) -> Result<Resolved<ExprValue>, Refusal>
     ensures { resolved (to_expr result) actions.new temporaries.new ≡ part (resolve_expr deep context.entry.section.stream.now context.entry.section.table.now scope.now context.entry.env) code context.entry.section.stream.now context.entry.section.table.now context.entry.env pos actions.old temporaries.old state }
 {
     let at = after(pos, part_at(code));
@@ -317,7 +323,7 @@ fn resolve_op(
     actions: &mut [u64],
     temporaries: &mut [u64],
     state: State,
-) -> Result<Resolved, Refusal>
+) -> Result<Resolved<ExprValue>, Refusal>
     ensures { resolved (to_expr result) actions.new temporaries.new ≡ resolve_op (resolve_expr deep context.entry.section.stream.now context.entry.section.table.now scope.now context.entry.env) context.entry.section.stream.now context.entry.section.table.now context.entry.env pos actions.old temporaries.old state }
 {
     let order = operands_of(context.section.stream, pos);
@@ -356,7 +362,7 @@ fn call_inbuilt(
     actions: &mut [u64],
     temporaries: &mut [u64],
     state: State,
-) -> Result<Resolved, Refusal>
+) -> Result<Resolved<ExprValue>, Refusal>
     ensures { resolved (to_expr result) actions.new temporaries.new ≡ call_inbuilt (resolve_expr deep context.entry.section.stream.now context.entry.section.table.now scope.now context.entry.env) context.entry.section.stream.now context.entry.section.table.now context.entry.env pos op count actions.old temporaries.old state }
 {
     let at = after(pos, 4);
@@ -417,7 +423,7 @@ fn user_op(
     actions: &mut [u64],
     temporaries: &mut [u64],
     state: State,
-) -> Result<Resolved, Refusal>
+) -> Result<Resolved<ExprValue>, Refusal>
     ensures { resolved (to_expr result) actions.new temporaries.new ≡ user_op (resolve_expr deep context.entry.section.stream.now context.entry.section.table.now scope.now context.entry.env) context.entry.section.stream.now context.entry.section.table.now context.entry.env pos id count actions.old temporaries.old state }
 {
     let mut args = [0u64; ARGS_WORDS];
@@ -445,7 +451,7 @@ fn resolve_call(
     actions: &mut [u64],
     temporaries: &mut [u64],
     state: State,
-) -> Result<Resolved, Refusal>
+) -> Result<Resolved<ExprValue>, Refusal>
     ensures { resolved (to_expr result) actions.new temporaries.new ≡ resolve_call (resolve_expr deep context.entry.section.stream.now context.entry.section.table.now scope.now context.entry.env) context.entry.section.stream.now context.entry.section.table.now scope.now context.entry.env pos actions.old temporaries.old state }
 {
     let name = u16_in(context.section.stream, pos, 1);
@@ -491,7 +497,7 @@ pub fn resolve_expr(
     actions: &mut [u64],
     temporaries: &mut [u64],
     state: State,
-) -> Result<Resolved, Refusal>
+) -> Result<Resolved<ExprValue>, Refusal>
     ensures { resolved (to_expr result) actions.new temporaries.new ≡ resolve_expr deep context.entry.section.stream.now context.entry.section.table.now scope.now context.entry.env pos actions.old temporaries.old state }
 {
     if deep == 0 {

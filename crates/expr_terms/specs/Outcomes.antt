@@ -7,14 +7,13 @@ use Rattle.list_values.specs.declared.value.Value as values
 use Rattle.list_pushes.specs.declared.push.State.{State}
 use Rattle.expr_scope.specs.declared.scope.ExprValue.{ExprValue}
 use Rattle.expr_terms.specs.declared.answers.Resolved.{Resolved}
-use Rattle.expr_terms.specs.declared.answers.Operand as operands
 use Rattle.expr_terms.specs.declared.calls.Callee as callees
 
 pub data Expr : Type 0 where
   Value : ℕ → ExprValue → State → Expr
   No : ℕ → Expr
 
-abbrev pub to_expr : Result Resolved Refusal → Expr
+abbrev pub to_expr : Result (Resolved ExprValue) Refusal → Expr
 to_expr (Ok r) = Expr.Value r.next r.value r.state
 to_expr (Err refusal) = Expr.No (number refusal)
 
@@ -22,7 +21,7 @@ pub data Operand : Type 0 where
   Value : values.Value → ℕ → State → Operand
   No : ℕ → Operand
 
-abbrev pub to_operand : Result operands.Operand Refusal → Operand
+abbrev pub to_operand : Result (Resolved values.Value) Refusal → Operand
 to_operand (Ok o) = Operand.Value o.value o.next o.state
 to_operand (Err refusal) = Operand.No (number refusal)
 

@@ -4,7 +4,7 @@ ghost use Rattle.expr_terms.specs.Outcomes.{to_expr, to_space};
 ghost use Rattle.expr_terms.specs.Answers.{resolved};
 ghost use Rattle.expr_terms.specs.Addresses.{or_size, in_const_space, kind_of_space, named_space, resolve_space, reference_to, address_in, resolve_address};
 
-use crate::answers::{Operand, Resolved, given};
+use crate::answers::{Resolved, given};
 use codes::refusal::Refusal;
 use codes::{header, table};
 use expr_reading::read::read_operand;
@@ -13,7 +13,7 @@ use expr_scope::symbols::{Symbol, lookup};
 use list_pushes::push::Context;
 use list_values::section::Section;
 use list_values::sizes::entry;
-use list_values::value::with_size;
+use list_values::value::{Value, with_size};
 
 // Two of the three kinds of a space, which stay the bytes that the file has: what an address is by its kind is told in one
 // place.
@@ -29,7 +29,7 @@ fn or_size(size: u64, other: u64) -> u64
 }
 
 #[tactic(auto, unfolding(crate::specs::Addresses::in_const_space))]
-fn in_const_space(part: Resolved, size: u64) -> Result<Resolved, Refusal>
+fn in_const_space(part: Resolved<ExprValue>, size: u64) -> Result<Resolved<ExprValue>, Refusal>
     ensures { to_expr result ≡ in_const_space part.value size part.next part.state }
 {
     let value = match part.value {
@@ -85,10 +85,14 @@ fn resolve_space(section: Section<'_>, name: u64) -> Result<u64, Refusal>
 }
 
 #[tactic(auto, unfolding(crate::specs::Addresses::reference_to))]
-fn reference_to(kind: u64, size: u64, pointer: Operand) -> Result<Resolved, Refusal>
+fn reference_to(
+    kind: u64,
+    size: u64,
+    pointer: Resolved<Value>,
+) -> Result<Resolved<ExprValue>, Refusal>
     ensures { to_expr result ≡ reference_to kind size pointer.next pointer.value pointer.state }
 {
-    let Operand {
+    let Resolved {
         value: pointer,
         next,
         state,
@@ -109,14 +113,14 @@ fn address_in(
     temporaries: &mut [u64],
     space: u64,
     size: u64,
-    part: Resolved,
-) -> Result<Resolved, Refusal>
+    part: Resolved<ExprValue>,
+) -> Result<Resolved<ExprValue>, Refusal>
     ensures { resolved (to_expr result) actions.new temporaries.new ≡ address_in context.entry.section.stream.now context.entry.section.table.now actions.old temporaries.old context.entry.env space size part.value part.next part.state }
 {
     let kind = resolve_space(context.section, space)?;
     let (value, state) = read_operand(context, actions, temporaries, part.value, part.state)?;
     let next = part.next;
-    reference_to(kind, size, Operand { value, next, state })
+    reference_to(kind, size, Resolved { value, next, state })
 }
 
 // In the const space a local or a constant is itself.
@@ -127,8 +131,8 @@ pub fn resolve_address(
     temporaries: &mut [u64],
     space: u64,
     size: u64,
-    part: Resolved,
-) -> Result<Resolved, Refusal>
+    part: Resolved<ExprValue>,
+) -> Result<Resolved<ExprValue>, Refusal>
     ensures { resolved (to_expr result) actions.new temporaries.new ≡ resolve_address context.entry.section.stream.now context.entry.section.table.now actions.old temporaries.old context.entry.env space size part.value part.next part.state }
 {
     if space == access::u16_at(context.section.stream, header::CONST) {

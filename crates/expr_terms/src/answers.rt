@@ -3,24 +3,14 @@ ghost use Rattle.std.specs.Prelude.{◌≡◌};
 ghost use Rattle.expr_terms.specs.Answers.{given, after};
 
 use codes::NONE;
-use expr_scope::scope::ExprValue;
 use list_pushes::push::State;
-use list_values::value::Value;
 
-// An expression that is resolved: where it ends, what it means, and the state then. The place comes first: so the value
-// begins on a boundary of 16 bytes, which makes copies of it faster.
+// What an expression is resolved to, or read into: where it ends, what it is, and the state then. The place comes first: so the
+// value begins on a boundary of 16 bytes, which makes copies of it faster.
 #[derive(Clone, Copy)]
-pub struct Resolved {
+pub struct Resolved<T> {
     pub next: usize,
-    pub value: ExprValue,
-    pub state: State,
-}
-
-// An expression that is read: its value, where it ends, and the state then.
-#[derive(Clone, Copy)]
-pub struct Operand {
-    pub value: Value,
-    pub next: usize,
+    pub value: T,
     pub state: State,
 }
 

@@ -119,7 +119,7 @@ fn pass_args(
 }
 
 // An operation on values, as an expression.
-pub fn applied(operation: Operation, next: usize, state: State) -> Resolved
+pub fn applied(operation: Operation, next: usize, state: State) -> Resolved<ExprValue>
     ensures { to_expr (Ok result) ≡ applied operation.code operation.number operation.count operation.first operation.second next state }
 {
     Resolved {
@@ -140,7 +140,7 @@ pub fn call_user_op(
     id: u64,
     next: usize,
     state: State,
-) -> Result<Resolved, Refusal>
+) -> Result<Resolved<ExprValue>, Refusal>
     ensures { resolved (to_expr result) actions.new temporaries.new ≡ call_user_op context.entry.section.stream.now context.entry.section.table.now actions.old temporaries.old args.now count id next context.entry.env state }
 {
     let state = pass_args(context, actions, temporaries, args, count, state)?;
@@ -192,7 +192,7 @@ pub fn subpiece(
     name: u64,
     count: u64,
     state: State,
-) -> Result<Resolved, Refusal>
+) -> Result<Resolved<ExprValue>, Refusal>
     ensures { resolved (to_expr result) actions.new temporaries.new ≡ subpiece context.entry.section.stream.now context.entry.section.table.now scope.now actions.old temporaries.old pos name count context.entry.env state }
 {
     let meant = resolve_ident(context, scope, name)?;

@@ -25,9 +25,9 @@ fn slice_read(
     context: Context<'_>,
     actions: &mut [u64],
     temporaries: &mut [u64],
-    part: Resolved,
+    part: Resolved<ExprValue>,
     bits: Bits,
-) -> Result<Resolved, Refusal>
+) -> Result<Resolved<ExprValue>, Refusal>
     ensures { resolved (to_expr result) actions.new temporaries.new ≡ slice_read context.entry.section.stream.now context.entry.section.table.now actions.old temporaries.old context.entry.env part.value bits.from bits.count part.next part.state }
 {
     let (whole, state) = read_operand(context, actions, temporaries, part.value, part.state)?;
@@ -48,7 +48,12 @@ fn const_bytes(size: u64) -> u64
 }
 
 #[tactic(auto, unfolding(crate::specs::Slices::slice_const, crate::specs::Slices::const_bytes))]
-fn slice_const(number: u64, size: u64, bits: Bits, part: Resolved) -> Result<Resolved, Refusal>
+fn slice_const(
+    number: u64,
+    size: u64,
+    bits: Bits,
+    part: Resolved<ExprValue>,
+) -> Result<Resolved<ExprValue>, Refusal>
     ensures { to_expr result ≡ slice_const number size bits.from bits.count part.next part.state }
 {
     if 8 * const_bytes(size) < bits.from % 65536 + bits.count % 65536 {
@@ -66,7 +71,12 @@ fn slice_const(number: u64, size: u64, bits: Bits, part: Resolved) -> Result<Res
 }
 
 #[tactic(auto, unfolding(crate::specs::Slices::slice_range))]
-fn slice_range(value: Value, whole: Bits, bits: Bits, part: Resolved) -> Result<Resolved, Refusal>
+fn slice_range(
+    value: Value,
+    whole: Bits,
+    bits: Bits,
+    part: Resolved<ExprValue>,
+) -> Result<Resolved<ExprValue>, Refusal>
     ensures { to_expr result ≡ slice_range value whole.from whole.count bits.from bits.count part.next part.state }
 {
     if whole.count < bits.from % 65536 + bits.count % 65536 {
@@ -88,9 +98,9 @@ pub fn slice_bits(
     context: Context<'_>,
     actions: &mut [u64],
     temporaries: &mut [u64],
-    part: Resolved,
+    part: Resolved<ExprValue>,
     bits: Bits,
-) -> Result<Resolved, Refusal>
+) -> Result<Resolved<ExprValue>, Refusal>
     ensures { resolved (to_expr result) actions.new temporaries.new ≡ slice_bits context.entry.section.stream.now context.entry.section.table.now actions.old temporaries.old context.entry.env part.value bits.from bits.count part.next part.state }
 {
     match part.value {

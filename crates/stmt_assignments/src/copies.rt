@@ -15,7 +15,7 @@ use codes::{NONE, expression, operation};
 use expr_reading::read::{byte_aligned, constant, masked, read_operand, read_value, sliced};
 use expr_resolver::expr::{DEPTH, resolve_expr};
 use expr_scope::scope::{Bits, ExprValue, named_tmp, plain_local, resolve_ident};
-use expr_terms::answers::{Operand, Resolved, after, given};
+use expr_terms::answers::{Resolved, after, given};
 use list_pushes::push::{Context, Operation, State, add_tmp, op_to};
 use list_values::sizes::size_of;
 use list_values::value::Value;
@@ -213,7 +213,7 @@ fn copy_into(
     actions: &mut [u64],
     temporaries: &mut [u64],
     source: ExprValue,
-    target: Resolved,
+    target: Resolved<ExprValue>,
     walk: Walk,
 ) -> Result<(usize, Walk), Refusal>
     ensures { stepped (to_step walk result) actions.new temporaries.new ≡ copy_into context.entry.section.stream.now context.entry.section.table.now actions.old temporaries.old context.entry.env source target.value target.next target.state (to_walk walk) }
@@ -229,7 +229,7 @@ fn copy_into(
         }
         ExprValue::RamRef(to) => {
             let (value, state) = read_operand(context, actions, temporaries, source, state)?;
-            let stored = Operand { value, next, state };
+            let stored = Resolved { value, next, state };
             return store(context, actions, temporaries, to, stored, walk);
         }
         ExprValue::Unbound(_)
@@ -284,7 +284,7 @@ fn new_target(
     pos: usize,
     name: u64,
     state: State,
-) -> Result<Resolved, Refusal>
+) -> Result<Resolved<ExprValue>, Refusal>
     ensures { resolved (to_expr result) scope.new temporaries.new ≡ new_target context.entry.section.stream.now context.entry.section.table.now scope.old temporaries.old context.entry.env pos name state }
 {
     let size = target_size(context.section.stream, pos);
@@ -299,7 +299,12 @@ fn new_target(
 
 // A bare name that is a plain local's, the usual target.
 #[tactic(auto, using(crate::proofs::CopyLaws::plain_given))]
-fn plain_target(context: Context<'_>, scope: &[u64], pos: usize, state: State) -> Option<Resolved>
+fn plain_target(
+    context: Context<'_>,
+    scope: &[u64],
+    pos: usize,
+    state: State,
+) -> Option<Resolved<ExprValue>>
     ensures { IfSome result (λ r. (a m : List ℕ) → targeted (to_expr (Ok r)) scope.now a m ≡ resolve_dst context.entry.section.stream.now context.entry.section.table.now scope.now a m context.entry.env pos state) }
 {
     if access::byte(context.section.stream, pos, 0) != expression::IDENT {
@@ -323,7 +328,7 @@ fn resolve_dst(
     temporaries: &mut [u64],
     pos: usize,
     state: State,
-) -> Result<Resolved, Refusal>
+) -> Result<Resolved<ExprValue>, Refusal>
     ensures { targeted (to_expr result) scope.new actions.new temporaries.new ≡ resolve_dst context.entry.section.stream.now context.entry.section.table.now scope.old actions.old temporaries.old context.entry.env pos state }
 {
     if let Some(target) = plain_target(context, scope, pos, state) {
@@ -343,7 +348,7 @@ fn copy_target(
     scope: &mut [u64],
     actions: &mut [u64],
     temporaries: &mut [u64],
-    source: Resolved,
+    source: Resolved<ExprValue>,
     walk: Walk,
 ) -> Result<(usize, Walk), Refusal>
     ensures { walked (to_step walk result) scope.new actions.new temporaries.new ≡ copy_target context.entry.section.stream.now context.entry.section.table.now scope.old actions.old temporaries.old context.entry.env source.value source.next source.state (to_walk walk) }

@@ -11,7 +11,7 @@ use expr_reading::read::{set_stated, take_stated};
 use expr_resolver::expr::{DEPTH, expr_value, resolve_expr, skip_expr};
 use expr_scope::scope::{Access, ExprValue};
 use expr_terms::address::resolve_address;
-use expr_terms::answers::{Operand, Resolved, after};
+use expr_terms::answers::{Resolved, after};
 use list_pushes::push::{Context, Operation, push, push_op};
 use list_values::section::Section;
 use list_values::value::{Value, absent, no_output};
@@ -23,7 +23,7 @@ pub fn store(
     actions: &mut [u64],
     temporaries: &mut [u64],
     to: Access,
-    stored: Operand,
+    stored: Resolved<Value>,
     walk: Walk,
 ) -> Result<(usize, Walk), Refusal>
     ensures { stepped (to_step walk result) actions.new temporaries.new ≡ store context.entry.section.stream.now context.entry.section.table.now actions.old temporaries.old context.entry.env to.pointer to.size stored.value stored.next stored.state (to_walk walk) }
@@ -47,7 +47,7 @@ fn store_register(
     actions: &mut [u64],
     temporaries: &mut [u64],
     to: Access,
-    stored: Operand,
+    stored: Resolved<Value>,
     walk: Walk,
 ) -> Result<(usize, Walk), Refusal>
     ensures { stepped (to_step walk result) actions.new temporaries.new ≡ store_register section.entry.stream.now section.entry.table.now actions.old temporaries.old to.pointer to.size stored.value stored.next stored.state (to_walk walk) }
@@ -73,7 +73,7 @@ fn store_at(
     actions: &mut [u64],
     temporaries: &mut [u64],
     expr: ExprValue,
-    stored: Operand,
+    stored: Resolved<Value>,
     walk: Walk,
 ) -> Result<(usize, Walk), Refusal>
     ensures { stepped (to_step walk result) actions.new temporaries.new ≡ store_at context.entry.section.stream.now context.entry.section.table.now actions.old temporaries.old context.entry.env expr stored.value stored.next stored.state (to_walk walk) }
@@ -105,7 +105,7 @@ fn store_in(
     temporaries: &mut [u64],
     pos: usize,
     expr: ExprValue,
-    stored: Operand,
+    stored: Resolved<Value>,
     walk: Walk,
 ) -> Result<(usize, Walk), Refusal>
     ensures { stepped (to_step walk result) actions.new temporaries.new ≡ store_in context.entry.section.stream.now context.entry.section.table.now actions.old temporaries.old context.entry.env pos expr stored.value stored.next stored.state (to_walk walk) }
@@ -118,7 +118,7 @@ fn store_in(
         state: stored.state,
     };
     let to = resolve_address(context, actions, temporaries, space, size, pointer)?;
-    let stored = Operand {
+    let stored = Resolved {
         next: to.next,
         state: to.state,
         ..stored
@@ -133,7 +133,7 @@ fn store_pointer(
     actions: &mut [u64],
     temporaries: &mut [u64],
     pos: usize,
-    stored: Operand,
+    stored: Resolved<Value>,
     walk: Walk,
 ) -> Result<(usize, Walk), Refusal>
     ensures { stepped (to_step walk result) actions.new temporaries.new ≡ store_pointer context.entry.section.stream.now context.entry.section.table.now scope.now actions.old temporaries.old context.entry.env pos stored.value stored.next stored.state (to_walk walk) }
@@ -142,7 +142,7 @@ fn store_pointer(
     let state = stored.state;
     let pointer = resolve_expr(DEPTH, context, scope, at, actions, temporaries, state)?;
     let state = pointer.state;
-    let stored = Operand { state, ..stored };
+    let stored = Resolved { state, ..stored };
     store_in(
         context,
         actions,

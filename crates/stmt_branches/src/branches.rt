@@ -12,7 +12,7 @@ use codes::{operation, statement, value_kind};
 use expr_reading::read::{constant, read_operand};
 use expr_resolver::expr::{DEPTH, expr_value};
 use expr_scope::scope::{ExprValue, resolve_ident};
-use expr_terms::answers::{Operand, after};
+use expr_terms::answers::{Resolved, after};
 use list_pushes::push::{Context, Operation, push_op};
 use list_values::value::{Value, no_output};
 use stmt_walk::walk::{Stopped, Walk, stop};
@@ -56,7 +56,7 @@ fn branch_to(
     context: Context<'_>,
     actions: &mut [u64],
     temporaries: &mut [u64],
-    cond: Operand,
+    cond: Resolved<Value>,
     address: Value,
     walk: Walk,
 ) -> Result<(usize, Walk), Refusal>
@@ -84,7 +84,7 @@ fn branch_label(
     actions: &mut [u64],
     temporaries: &mut [u64],
     id: u64,
-    cond: Operand,
+    cond: Resolved<Value>,
     walk: Walk,
 ) -> Result<(usize, Walk), Stopped>
     ensures { stepped (to_steps result) actions.new temporaries.new ≡ branch_label context.entry.section.stream.now context.entry.section.table.now actions.old temporaries.old context.entry.env id cond.value cond.next cond.state (to_walk walk) }
@@ -113,7 +113,7 @@ fn label_branch(
     scope: &mut [u64],
     actions: &mut [u64],
     temporaries: &mut [u64],
-    cond: Operand,
+    cond: Resolved<Value>,
     walk: Walk,
 ) -> Result<(usize, Walk), Stopped>
     ensures { walked (to_steps result) scope.new actions.new temporaries.new ≡ label_branch context.entry.section.stream.now context.entry.section.table.now scope.old actions.old temporaries.old context.entry.env cond.next cond.value cond.state (to_walk walk) }
@@ -126,7 +126,7 @@ fn label_branch(
         actions,
         temporaries,
         id,
-        Operand { next, ..cond },
+        Resolved { next, ..cond },
         walk,
     )
 }
@@ -176,7 +176,7 @@ fn direct(
     actions: &mut [u64],
     temporaries: &mut [u64],
     expr: ExprValue,
-    cond: Operand,
+    cond: Resolved<Value>,
     walk: Walk,
 ) -> Result<(usize, Walk), Refusal>
     ensures { stepped (to_step walk result) actions.new temporaries.new ≡ direct context.entry.section.stream.now context.entry.section.table.now actions.old temporaries.old context.entry.env expr cond.value cond.next cond.state (to_walk walk) }
@@ -202,7 +202,7 @@ fn indirect(
     actions: &mut [u64],
     temporaries: &mut [u64],
     expr: ExprValue,
-    cond: Operand,
+    cond: Resolved<Value>,
     walk: Walk,
 ) -> Result<(usize, Walk), Refusal>
     ensures { stepped (to_step walk result) actions.new temporaries.new ≡ indirect context.entry.section.stream.now context.entry.section.table.now actions.old temporaries.old context.entry.env expr cond.value cond.next cond.state (to_walk walk) }
@@ -212,7 +212,7 @@ fn indirect(
         context,
         actions,
         temporaries,
-        Operand { state, ..cond },
+        Resolved { state, ..cond },
         address,
         walk,
     )
@@ -225,7 +225,7 @@ fn jump_to(
     actions: &mut [u64],
     temporaries: &mut [u64],
     expr: ExprValue,
-    cond: Operand,
+    cond: Resolved<Value>,
     walk: Walk,
 ) -> Result<(usize, Walk), Refusal>
     ensures { stepped (to_step walk result) actions.new temporaries.new ≡ jump_to code context.entry.section.stream.now context.entry.section.table.now actions.old temporaries.old context.entry.env expr cond.value cond.next cond.state (to_walk walk) }
@@ -243,7 +243,7 @@ fn jump(
     scope: &[u64],
     actions: &mut [u64],
     temporaries: &mut [u64],
-    cond: Operand,
+    cond: Resolved<Value>,
     walk: Walk,
 ) -> Result<(usize, Walk), Refusal>
     ensures { stepped (to_step walk result) actions.new temporaries.new ≡ jump context.entry.section.stream.now context.entry.section.table.now scope.now actions.old temporaries.old context.entry.env cond.next cond.value cond.state (to_walk walk) }
@@ -258,7 +258,7 @@ fn jump(
         actions,
         temporaries,
         expr,
-        Operand { next, ..cond },
+        Resolved { next, ..cond },
         walk,
     )
 }
@@ -269,7 +269,7 @@ fn resolve_branch(
     scope: &mut [u64],
     actions: &mut [u64],
     temporaries: &mut [u64],
-    cond: Operand,
+    cond: Resolved<Value>,
     walk: Walk,
 ) -> Result<(usize, Walk), Stopped>
     ensures { walked (to_steps result) scope.new actions.new temporaries.new ≡ resolve_branch context.entry.section.stream.now context.entry.section.table.now scope.old actions.old temporaries.old context.entry.env cond.next cond.value cond.state (to_walk walk) }
@@ -291,7 +291,7 @@ pub fn branch(
 ) -> Result<(usize, Walk), Stopped>
     ensures { walked (to_steps result) scope.new actions.new temporaries.new ≡ branch context.entry.section.stream.now context.entry.section.table.now scope.old actions.old temporaries.old context.entry.env pos (to_walk walk) }
 {
-    let always = Operand {
+    let always = Resolved {
         value: constant(1),
         next: after(pos, 1),
         state: walk.st,

@@ -40,7 +40,7 @@ fn export_of(
     context: Context<'_>,
     actions: &mut [u64],
     temporaries: &mut [u64],
-    expr: Resolved,
+    expr: Resolved<ExprValue>,
     walk: Walk,
 ) -> Result<(usize, Walk), Refusal>
     ensures { stepped (to_step walk result) actions.new temporaries.new ≡ export_of context.entry.section.stream.now context.entry.section.table.now actions.old temporaries.old context.entry.env expr.value expr.next expr.state (to_walk walk) }
