@@ -1,4 +1,5 @@
 -- The end of each action: its sizes fixed, and a subpiece turned into a copy; or a refusal.
+use Rattle.std.proofs.lemmas.Bool.Decides.{nat_tests}
 use Prim.Native.Nat.{ℕ, suc, ◌+◌, ◌*◌, ◌%◌, ◌^◌, ◌≤◌, ◌<◌}
 use mathlib.Core.Path.{◌≡◌, refl, sym, ◌∙◌, ap, subst}
 use mathlib.Core.Bool.{Bool, true, false}
@@ -7,7 +8,7 @@ use mathlib.Core.Option.{Option, none, some}
 use native.Mathlib.Omega.{arith}
 use lib.ListN.{length, get_or, set, drop, length-append, length-set}
 use lib.Dec.{eqb, leb}
-use borrow.Author.Tests.{ne_eqb, eq-eqb, eqb-true, eqb-false, leb-true}
+use borrow.Author.Tests.{ne_eqb, leb-true}
 use Rattle.prelude.specs.Base as definition
 use Rattle.prelude.specs.Base.{or_else, and_then, any, when◌then◌else◌}
 use Rattle.definition.specs.Refusals.{refusal_number, subpiece_size, offset_too_far}
@@ -84,11 +85,7 @@ pub record Piece (number : ℕ) (inputs : List Value) (output : Option Value) : 
   pub small : number < 65536
 
 pub test_sym : (m n : ℕ) → eqb m n ≡ eqb n m
-test_sym m n = go (eqb m n) refl
-  where
-    go : (b : Bool) → eqb m n ≡ b → b ≡ eqb n m
-    go true p = sym (eq-eqb n m (sym (eqb-true m n p)))
-    go false p = sym (ne_eqb n m (λ e. eqb-false m n p (sym e)))
+test_sym m n = grind (arith, nat_tests)
 
 module _ (pre post : List ℕ) (at0 : ℕ) (begins : length pre ≡ at0) where
   set_at : (ws : List ℕ) (i v : ℕ) → i < length ws → set (pre ++ (ws ++ post)) (at0 + i) v ≡ pre ++ (set ws i v ++ post)

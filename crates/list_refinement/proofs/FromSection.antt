@@ -1,4 +1,5 @@
 -- The sizes that the stream and the table hold, where they hold the section.
+use Rattle.std.proofs.lemmas.Bool.Decides.{nat_tests}
 use Prim.Native.Nat.{ℕ, ◌+◌, ◌*◌, ◌%◌, ◌≤◌, ◌<◌}
 use mathlib.Core.Path.{◌≡◌, refl, sym, ◌∙◌}
 use mathlib.Core.Bool.{Bool, true, false}
@@ -42,12 +43,7 @@ size_at_lem s t k i n h j l =
 small_at : {A : Type 0} (x : Option A) (f : A → Option ℕ) → ((a : A) (n : ℕ) → x ≡ some a → f a ≡ some n → n < 65535)
     → or_else 0 (and_then x f) < 65535
 unfolding and_then or_else
-small_at none f h = omega arith
-small_at (some a) f h = go (f a) refl
-  where
-    go : (y : Option ℕ) → f a ≡ y → or_else 0 y < 65535
-    go none e = omega arith
-    go (some n) e = h a n refl e
+small_at x f h1 = grind (arith, nat_tests)
 
 -- Each subtable names one of the tables.
 pub record TablesNamed (sec : Section) : Type 0 where

@@ -1,4 +1,5 @@
 -- Temporaries and pushes: what the words answer is what the definition answers.
+use Rattle.std.proofs.lemmas.Bool.Decides.{nat_tests}
 use Prim.Native.Nat.{ℕ, suc, ◌+◌, ◌*◌, ◌^◌, ◌≤◌, ◌<◌, min}
 use mathlib.Core.Path.{◌≡◌, refl, sym, ◌∙◌, ap, subst}
 use mathlib.Core.Bool.{Bool, true, false}
@@ -8,7 +9,7 @@ use native.Mathlib.Omega.{arith}
 use lib.ListN.{length, get_or, set, drop, length-append, length-drop}
 use lib.Seq.{set_at, drop-cons}
 use lib.Dec.{leb, ltb}
-use borrow.Author.Tests.{le-leb, lt-leb, ltb-true, ltb-false, leb-true, leb-false}
+use borrow.Author.Tests.{le-leb, lt-leb, ltb-true, leb-true, leb-false}
 use Rattle.prelude.specs.Base.{or_else, is_some, when◌then◌else◌}
 use Rattle.definition.specs.Refusals.{refusal_number, list_full, too_many_temporaries}
 use Rattle.definition.specs.Operations.{Operation, operation_number}
@@ -82,12 +83,7 @@ IsGiven none v = Unit {0}
 IsGiven (some u) v = v ≡ enc_v u
 
 tmp_test : (n k : ℕ) → leb (n + 1) (min k 512) ≡ (when ltb n k then ltb n 512 else false)
-tmp_test n k = go (ltb n k) (ltb n 512) refl refl
-  where
-    go : (b c : Bool) → ltb n k ≡ b → ltb n 512 ≡ c → leb (n + 1) (min k 512) ≡ (when b then c else false)
-    go true true p q = let h = ltb-true n k p in let j = ltb-true n 512 q in le-leb (n + 1) (min k 512) (omega arith)
-    go true false p q = let j = ltb-false n 512 q in lt-leb (n + 1) (min k 512) (omega arith)
-    go false c p q = let h = ltb-false n k p in lt-leb (n + 1) (min k 512) (omega arith)
+tmp_test n k = grind (arith, nat_tests)
 
 module _ (e : Env) (s : State) (front tail rest : List ℕ) (lent : Lent e front tail rest) (stands : Stands tail rest s) where
   abbrev ts : List Temporary

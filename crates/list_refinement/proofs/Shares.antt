@@ -1,4 +1,5 @@
 -- Two or three operands that have one size, and an operand that takes a size where it has none.
+use Rattle.std.proofs.lemmas.Bool.Decides.{nat_tests}
 use Prim.Native.Nat.{ℕ, suc, ◌<◌}
 use mathlib.Core.Path.{◌≡◌, refl, ◌∙◌}
 use mathlib.Core.Bool.{Bool, true, false}
@@ -7,7 +8,7 @@ use mathlib.Core.Option.{Option, none, some}
 use native.Mathlib.Omega.{arith}
 use lib.ListN.{length}
 use lib.Dec.{eqb}
-use borrow.Author.Tests.{ne_eqb, eq-eqb, eqb-true}
+use borrow.Author.Tests.{ne_eqb, eq-eqb}
 use Rattle.prelude.specs.Base as definition
 use Rattle.prelude.specs.Base.{◌or◌, or_else, and_then, first, when◌then◌else◌, contains}
 use Rattle.definition.specs.Value.{Kind, Value, SemanticAction}
@@ -55,13 +56,7 @@ same_test n = eq-eqb n n refl
 equal_test : (n : ℕ) (b c : Option ℕ) → n < 65535 → or_else 0 b < 65535 → or_else 0 c < 65535
     → (when eqb n (or_none b) then eqb (or_none b) (or_none c) else false) ≡ (when contains n b then contains n c else false)
 unfolding or_none or_else contains
-equal_test n none c l lb lc = rw (small_test n l)
-equal_test n (some m) none l lb lc = rw (small_test m lb)
-equal_test n (some m) (some k) l lb lc = go (eqb n m) refl
-  where
-    go : (u : Bool) → eqb n m ≡ u → (when u then eqb m k else false) ≡ (when u then eqb n k else false)
-    go true e = let q : n ≡ m = eqb-true n m e in rw q
-    go false e = refl
+equal_test n b c h1 h2 h3 = grind (arith, nat_tests)
 
 module _ (s t : List ℕ) (sec : Section) (holds : SizesHold s t sec) (tail : List ℕ) (pre post : List ℕ) (place : ℕ)
     (begins : length pre ≡ place) where
