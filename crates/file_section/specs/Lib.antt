@@ -2,5 +2,6 @@
 pub mod Names
 pub mod Chains
 pub mod Headers
+pub mod Kinds
 pub mod Lists
 pub mod Stream

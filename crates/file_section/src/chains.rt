@@ -1,5 +1,7 @@
 // Chains of the names whose spellings have the same hash: of 1,280 numbers the one at j is 1 + the name before name j on its
-// chain, and the one at 1,024 + h is 1 + the last name whose hash is h; 0 for none.
+// chain, and the one at 1,024 + h is 1 + the last name whose hash is h; 0 for none. Indices in fixed memory, since the library
+// lends no heap. `Linked` and `Hashed` are asked of functions and are no invariants of a type: they speak of the stream and of
+// the table too, which others hold.
 ghost use Rattle.std.specs.Prelude.{◌≡◌, ◌+◌, ◌<◌, get_or};
 ghost use Rattle.file_section.specs.Chains.{key, spread, Hashed, link};
 

@@ -23,7 +23,8 @@ const FIELDS: u64 = 65;
 
 const SUBTABLES: u64 = 33;
 
-// A count, which is below the limit.
+// A count, which is below the limit. The counts are read a line each, whose name says which of them it is: a loop over the
+// limits would have no names.
 fn count(stream: &[u8], limit: u64, cursor: Cursor) -> Result<Cursor, Refused>
     ensures { to_cursor result ≡ u16 stream.now limit 4 (good cursor) }
 {

@@ -2,43 +2,78 @@
 // globals from 1,024 on, fields and subtables from 2,048 on.
 ghost use Rattle.std.specs.Prelude.{◌≡◌, ◌<◌};
 ghost use Rattle.file_section.specs.Names.{reading};
+ghost use Rattle.file_section.specs.Kinds.{number};
 ghost use Rattle.file_section.specs.Lists.{slot, stamp, mark, named, after, params, macro_head, noted, macro, entry, list, lists};
 ghost use Rattle.file_syntax.specs.Reads.{good, to_cursor};
 
 use crate::names::low;
 use codes::limit::STATEMENTS;
 use codes::refusal::Refusal;
-use codes::{header, symbol_kind, table};
+use codes::{header, table};
 use file_syntax::cursor::{
     Cursor, Refused, below, bits, code, last_number, name, place_of, refuse, size, size_or,
     small_count,
 };
 use file_syntax::statements::body;
 
-// The number of the list of fields, behind those of the globals.
-const FIELDS: u64 = 7;
-
-// Where list k marks a name.
-#[tactic(auto, unfolding(crate::specs::Lists::slot))]
-fn slot(kind: u64, name: u64) -> usize
-    ensures { result ≡ slot kind name }
-{
-    if kind < FIELDS {
-        return table::GLOBALS + (name % 65536) as usize;
-    }
-    table::LOCALS + (name % 65536) as usize
+// The lists, in the header's order.
+#[derive(Clone, Copy, Debug, PartialEq, Eq)]
+pub enum Kind {
+    Spaces = 0,
+    Registers = 1,
+    BitRanges = 2,
+    Tables = 3,
+    UserOps = 4,
+    Macros = 5,
+    Others = 6,
+    Fields = 7,
+    Subtables = 8,
 }
 
-// What list k marks the name of its entry i with.
-#[tactic(auto, unfolding(crate::specs::Lists::stamp))]
-fn stamp(kind: u64, index: u64) -> u16
-    requires { (kind < 9) × (index < 65536) }
-    ensures { result ≡ stamp kind index }
-{
-    if kind < FIELDS {
-        return ((1 + kind + 8 * index) % 65536) as u16;
+const KINDS: [Kind; 9] = [
+    Kind::Spaces,
+    Kind::Registers,
+    Kind::BitRanges,
+    Kind::Tables,
+    Kind::UserOps,
+    Kind::Macros,
+    Kind::Others,
+    Kind::Fields,
+    Kind::Subtables,
+];
+
+impl From<Kind> for usize {
+    ghost from_gives = { λ kind place. place ≡ number kind };
+
+    fn from(kind: Kind) -> usize {
+        kind as usize
     }
-    ((kind - 6 + 2 * index) % 65536) as u16
+}
+
+// Where a list marks a name.
+#[tactic(auto, unfolding(crate::specs::Lists::slot))]
+fn slot(kind: Kind, name: u64) -> usize
+    ensures { result ≡ slot (number kind) name }
+{
+    let name = (name % 65536) as usize;
+    match kind {
+        Kind::Fields | Kind::Subtables => table::LOCALS + name,
+        _ => table::GLOBALS + name,
+    }
+}
+
+// What a list marks the name of its entry i with.
+#[tactic(auto, unfolding(crate::specs::Lists::stamp))]
+fn stamp(kind: Kind, index: usize) -> u16
+    requires { index < 65536 }
+    ensures { result ≡ stamp (number kind) index }
+{
+    let word = match kind {
+        Kind::Fields => 1 + 2 * index,
+        Kind::Subtables => 2 + 2 * index,
+        _ => 1 + usize::from(kind) + 8 * index,
+    };
+    low(word)
 }
 
 #[tactic(auto, unfolding(crate::specs::Lists::mark))]
@@ -52,45 +87,42 @@ fn mark(at: usize, value: u16, cursor: Cursor, table: &mut [u16]) -> Result<Curs
     Ok(cursor)
 }
 
-// The name of entry i of list k.
+// The name of entry i of a list.
 #[tactic(auto, using(crate::proofs::RefusedLaws::passing), unfolding(crate::specs::Lists::named))]
 fn named(
-    kind: u64,
+    kind: Kind,
     stream: &[u8],
     index: usize,
     so_far: Result<Cursor, Refused>,
     table: &mut [u16],
 ) -> Result<Cursor, Refused>
-    requires { (kind < 9) × (index < 65536) }
-    ensures { reading (to_cursor result) table.new ≡ named kind stream.now index (reading (to_cursor so_far) table.old) }
+    requires { index < 65536 }
+    ensures { reading (to_cursor result) table.new ≡ named (number kind) stream.now index (reading (to_cursor so_far) table.old) }
 {
     let names = access::u16_at(stream, header::NAMES);
     let found = name(stream, names, so_far?)?;
     let place = slot(kind, found.val);
-    mark(place, stamp(kind, index as u64), found, table)
+    mark(place, stamp(kind, index), found, table)
 }
 
-// What follows the name in an entry of list k that is no macro.
+// What follows the name in an entry of a list that is no macro.
 #[tactic(auto, using(crate::proofs::RefusedLaws::passing), unfolding(crate::specs::Lists::after, crate::specs::Lists::after_name, crate::specs::Lists::which_of))]
-fn after(kind: u64, stream: &[u8], cursor: Cursor) -> Result<Cursor, Refused>
-    ensures { to_cursor result ≡ after kind stream.now (good cursor) }
+fn after(kind: Kind, stream: &[u8], cursor: Cursor) -> Result<Cursor, Refused>
+    ensures { to_cursor result ≡ after (number kind) stream.now (good cursor) }
 {
     match kind {
-        symbol_kind::SPACE => size(stream, code(stream, 3, cursor)?),
-        symbol_kind::REGISTER => size(stream, cursor),
-        symbol_kind::BIT_RANGE => {
+        Kind::Spaces => size(stream, code(stream, 3, cursor)?),
+        Kind::Registers => size(stream, cursor),
+        Kind::BitRanges => {
             let registers = access::u16_at(stream, header::REGISTERS);
             bits(
                 stream,
                 below::<u16>(stream, registers, Refusal::NamesNothing, cursor)?,
             )
         }
-        symbol_kind::TABLE => size_or(stream, cursor),
-        symbol_kind::USER_OP => Ok(cursor),
-        symbol_kind::MACRO => Ok(cursor),
-        symbol_kind::OTHER => Ok(cursor),
-        FIELDS => size_or(stream, cursor),
-        _ => {
+        Kind::Tables | Kind::Fields => size_or(stream, cursor),
+        Kind::UserOps | Kind::Macros | Kind::Others => Ok(cursor),
+        Kind::Subtables => {
             let tables = access::u16_at(stream, header::TABLES);
             below::<u16>(stream, tables, Refusal::NamesNothing, cursor)
         }
@@ -153,42 +185,43 @@ fn macro_entry(
     body(stream, names, begun.val, begun)
 }
 
-// Entry i of list k.
+// Entry i of a list.
 #[tactic(auto, using(crate::proofs::RefusedLaws::passing), unfolding(crate::specs::Lists::entry, crate::specs::Lists::rest_of))]
 fn entry(
-    kind: u64,
+    kind: Kind,
     stream: &[u8],
     index: usize,
     so_far: Result<Cursor, Refused>,
     table: &mut [u16],
 ) -> Result<Cursor, Refused>
-    requires { (kind < 9) × (index < 65536) }
-    ensures { reading (to_cursor result) table.new ≡ entry kind stream.now index (reading (to_cursor so_far) table.old) }
+    requires { index < 65536 }
+    ensures { reading (to_cursor result) table.new ≡ entry (number kind) stream.now index (reading (to_cursor so_far) table.old) }
 {
     let marked = named(kind, stream, index, so_far, table);
-    if kind == symbol_kind::MACRO {
+    if let Kind::Macros = kind {
         let names = access::u16_at(stream, header::NAMES);
         return macro_entry(stream, names, index, marked, table);
     }
     after(kind, stream, marked?)
 }
 
-// List k, whose count stands in the header.
+// A list, whose count stands in the header.
 #[tactic(auto, using(crate::proofs::ListLaws::list_laws))]
 fn list(
-    kind: usize,
+    kind: Kind,
     stream: &[u8],
     so_far: Result<Cursor, Refused>,
     table: &mut [u16],
 ) -> Result<Cursor, Refused>
-    requires { kind < 9 }
-    ensures { reading (to_cursor result) table.new ≡ list stream.now kind (reading (to_cursor so_far) table.old) }
+    ensures { reading (to_cursor result) table.new ≡ list stream.now (number kind) (reading (to_cursor so_far) table.old) }
 {
-    access::put(table, table::LISTS + kind, low(place_of(so_far)));
-    let n = access::u16_at(stream, header::SPACES + 2 * kind) as usize;
+    let place = usize::from(kind);
+    access::put(table, table::LISTS + place, low(place_of(so_far)));
+    let n = access::u16_at(stream, header::SPACES + 2 * place) as usize;
     let mut so_far = so_far;
+    // A refused entry goes on, since the table's promise says what the later ones leave in it too.
     for i in 0..n {
-        so_far = entry(kind as u64, stream, i, so_far, table);
+        so_far = entry(kind, stream, i, so_far, table);
     }
     so_far
 }
@@ -203,8 +236,8 @@ pub fn lists(
     ensures { reading (to_cursor result) table.new ≡ lists stream.now (reading (to_cursor so_far) table.old) }
 {
     let mut so_far = so_far;
-    for k in 0..9 {
-        so_far = list(k, stream, so_far, table);
+    for &kind in &KINDS {
+        so_far = list(kind, stream, so_far, table);
     }
     so_far
 }

@@ -12,7 +12,7 @@ use file_syntax::cursor::{Cursor, Refused, below, place_of, refuse, skip};
 // A name has fewer letters than this.
 const LETTERS: u64 = 25;
 
-// Bytes 2 up to n of two places.
+// Bytes 2 up to n of two places. By their numbers and not as slices, since a place may lie past the stream's end.
 #[tactic(auto, using(crate::proofs::NameLaws::agree_laws))]
 fn rest_alike(stream: &[u8], place: usize, other: usize, count: u64) -> bool
     requires { count < 256 }

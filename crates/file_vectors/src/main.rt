@@ -6,6 +6,7 @@
 
 use codes::refusal::Refusal;
 use codes::table;
+use file_blocks::blocks::{BLOCK, LONGEST_FILE, PAYLOAD, check_blocks, join};
 use std::alloc::{AllocError, Global};
 use std::io::{self, BufWriter, Read, Write};
 
@@ -13,7 +14,7 @@ use std::io::{self, BufWriter, Read, Write};
 const INPUT: usize = 65536;
 
 // No file is longer: a byte more than the longest.
-const FILE: usize = 65537;
+const FILE: usize = LONGEST_FILE + 1;
 
 // What is left of the input, behind which stand zeros.
 #[derive(Clone, Copy)]
@@ -49,9 +50,9 @@ impl<'a> Input<'a> {
         let start = self.u32() as usize;
         let end = start + usize::from(self.byte());
         for place in start..end {
-            let place = place % 65536;
+            let place = place % LONGEST_FILE;
             let byte = self.byte();
-            if let Some(old) = file.get_mut(place / 510 * 512 + place % 510) {
+            if let Some(old) = file.get_mut(place / PAYLOAD * BLOCK + place % PAYLOAD) {
                 *old = byte;
             }
         }
@@ -77,23 +78,23 @@ impl<'a> Input<'a> {
 
 // The right check of each block: its payload and its number.
 fn seal(file: &mut [u8]) {
-    let (blocks, _) = file.as_chunks_mut::<512>();
+    let (blocks, _) = file.as_chunks_mut::<BLOCK>();
     for (number, block) in (0..u16::MAX).zip(blocks) {
-        let payload = block[..510].iter();
+        let payload = block[..PAYLOAD].iter();
         let total = payload.fold(number, |total, byte| total.wrapping_add(u16::from(*byte)));
         let [low, high] = total.to_le_bytes();
-        block[510] = low;
-        block[511] = high;
+        block[PAYLOAD] = low;
+        block[PAYLOAD + 1] = high;
     }
 }
 
 // Why a file is refused, if it is.
 fn refusal_of(alloc: Global, file: &[u8]) -> Result<Option<Refusal>, AllocError> {
-    if let Err(refusal) = file_blocks::blocks::check_blocks(file) {
+    if let Err(refusal) = check_blocks(file) {
         return Ok(Some(refusal));
     }
-    let mut stream = vec![in alloc; 0u8; file.len() / 512 * 510]?;
-    file_blocks::blocks::join(file, &mut stream);
+    let mut stream = vec![in alloc; 0u8; file.len() / BLOCK * PAYLOAD]?;
+    join(file, &mut stream);
     let mut table = [0u16; table::LENGTH];
     Ok(file_section::read_stream(&stream, &mut table).err())
 }

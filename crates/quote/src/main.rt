@@ -5,7 +5,7 @@
 use codes::action;
 use codes::refusal::Refusal;
 use resolve_answer::answer::Answer;
-use section_argument::{Problem, Program, arguments, read_section};
+use section_argument::{ACTION_WORDS, Problem, Program, TEMPORARIES, arguments, read_section};
 use std::alloc::{AllocError, Global};
 use std::env::Env;
 use std::fmt;
@@ -18,12 +18,8 @@ const QUOTE: Program = Program {
     list_full: "the section has more than 32,768 actions; allow a stack of 48 MiB (ulimit -s 49152) and call quote --large FILE",
 };
 
-// Room for 32,768 actions, and for 208,896, more than any section has (docs/DECISIONS.md).
-const USUAL: usize = 786432;
-
+// The words of room for 208,896 actions, more than any section has (docs/DECISIONS.md).
 const LARGE: usize = 5013504;
-
-const TEMPORARIES: usize = 512;
 
 // An answer, and the words of its actions.
 #[derive(Drop)]
@@ -36,7 +32,7 @@ impl Quote {
     // The quote of a file, with room for so many words.
     fn new(alloc: Global, file: &[u8], room: usize) -> Result<Quote, AllocError> {
         let mut actions = vec![in alloc; 0u64; room]?;
-        let mut temporaries = [0u64; TEMPORARIES];
+        let mut temporaries = vec![in alloc; 0u64; TEMPORARIES]?;
         let answer = mizgalon::resolve(file, &mut actions, &mut temporaries);
         Ok(Quote { answer, actions })
     }
@@ -63,7 +59,7 @@ impl fmt::Display for Quote {
 
 // The quote in the usual room, or in the large one where that is wanted and the usual one is not enough.
 fn quoted(alloc: Global, file: &[u8], large: bool) -> Result<Quote, Problem> {
-    let usual = Quote::new(alloc, file, USUAL)?;
+    let usual = Quote::new(alloc, file, ACTION_WORDS)?;
     if !usual.is_list_full() {
         return Ok(usual);
     }

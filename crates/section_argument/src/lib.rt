@@ -18,6 +18,11 @@ const PATH: usize = 4096;
 // A file of more than 65,536 bytes is not read to its end: one byte more is enough to refuse it.
 const FILE: u64 = 65537;
 
+// The words of room for 32,768 actions, and for all temporaries.
+pub const ACTION_WORDS: usize = 786432;
+
+pub const TEMPORARIES: usize = 512;
+
 // No program takes more arguments than two; a third is enough to see that there are too many.
 const ARGUMENTS: usize = 3;
 
@@ -104,7 +109,7 @@ impl Program {
     }
 }
 
-// The program's arguments, up to three of them. One that is longer than a path can be makes the call a wrong one.
+// The program's arguments, up to three of them, which the system gives by their numbers. One that is longer than a path can be makes the call a wrong one.
 pub fn arguments(rt: &(impl Env + AllocGlobal)) -> Result<Vec<Vec<u8>>, Problem>
     ensures { IfOk result (λ words. length words.items ≤ 3) }
 {
