@@ -17,7 +17,9 @@ use list_values::sizes::Sizing;
 use stmt_assignments::copies::copy_statement;
 use stmt_assignments::stores::store_statement;
 use stmt_branches::branches::{branch, cond_branch, label_statement};
-use stmt_simple::calls::{Called, MACROS, called_of, delay_slot, macro_args, macro_at, user_op_statement};
+use stmt_simple::calls::{
+    Called, MACROS, called_of, delay_slot, macro_args, macro_at, user_op_statement,
+};
 use stmt_simple::simple::{
     build, export_statement, local_assignment, local_statement, unimplemented,
 };
