@@ -58,7 +58,7 @@ pub fn translate_inbuilt_func(stream: &[u8], at: usize) -> Option<Inbuilt>
 {
     if at < stream.len() {
         let from = at + 1;
-        let n = stream[at] as usize;
+        let n = usize::from(stream[at]);
         if n <= stream.len() - from {
             let to = from + n;
             return inbuilt_of(&stream[from..to]);

@@ -201,7 +201,7 @@ fn find_param(scope: &[u64], count: usize, name: u64) -> Option<usize>
 fn own_local(table: &[u16; table::LENGTH], name: u64) -> Option<Value>
     ensures { to_found result ≡ own_local table.now name }
 {
-    let own = access::get(table, table::LOCALS + (name % NAMES) as usize) as u64;
+    let own = u64::from(access::get(table, table::LOCALS + (name % NAMES) as usize));
     if own == 0 {
         return None;
     }

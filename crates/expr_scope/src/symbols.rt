@@ -25,7 +25,7 @@ pub enum Symbol {
 pub fn lookup(table: &[u16; table::LENGTH], name: u64) -> Symbol
     ensures { (result ≡ lookup table.now name) × (place_of result < 8192) }
 {
-    let g = access::get(table, table::GLOBALS + (name % NAMES) as usize) as u64;
+    let g = u64::from(access::get(table, table::GLOBALS + (name % NAMES) as usize));
     if g == 0 {
         return Symbol::Undefined;
     }

@@ -74,7 +74,7 @@ pub fn callee_of(section: Section<'_>, name: u64, count: u64) -> Result<Callee, 
     ensures { to_callee result ≡ callee_of section.entry.stream.now section.entry.table.now name count }
 {
     let table = section.table;
-    let at = access::get(table, (name % NAMES) as usize) as usize;
+    let at = usize::from(access::get(table, (name % NAMES) as usize));
     let inbuilt = translate_inbuilt_func(section.stream, at);
     inbuilt_or(inbuilt, table, name, count)
 }

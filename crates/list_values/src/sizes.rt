@@ -23,7 +23,7 @@ pub struct Sizing {
 pub fn entry(table: &[u16; table::LENGTH], list: usize, bytes: u64) -> usize
     ensures { result ≡ entry table.now list bytes }
 {
-    access::get(table, table::LISTS + list % 16) as usize + (bytes % 1048576) as usize
+    usize::from(access::get(table, table::LISTS + list % 16)) + (bytes % 1048576) as usize
 }
 
 // The size of entry i of list k, whose entries are a name and a size.

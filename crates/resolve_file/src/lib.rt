@@ -83,9 +83,9 @@ fn walk_section(
 {
     let mut scope = [0u64; SCOPE_WORDS];
     let table = section.table;
-    let pos = access::get(table, table::STATEMENTS) as usize;
+    let pos = usize::from(access::get(table, table::STATEMENTS));
     let count = access::u16_at(section.stream, header::STATEMENTS);
-    let ordinal = access::get(table, table::FIRST_ORDINAL) as u64;
+    let ordinal = u64::from(access::get(table, table::FIRST_ORDINAL));
     let env = start_env(pointer);
     let walk = at_start(subtables);
     body(

@@ -142,7 +142,7 @@ fn body_at(at: usize, parameters: u64) -> usize
 fn first_ordinal(table: &[u16; table::LENGTH], id: u64) -> u64
     ensures { result ≡ first_ordinal table.now id }
 {
-    access::get(table, table::MACRO_ORDINALS + (id % MACROS) as usize) as u64
+    u64::from(access::get(table, table::MACRO_ORDINALS + (id % MACROS) as usize))
 }
 
 // The body of a macro, whose parameters are bound in the words of its scope.

@@ -186,7 +186,7 @@ pub fn user_op_statement(
 pub fn macro_at(table: &[u16; table::LENGTH], id: u64) -> usize
     ensures { result ≡ macro_at table.now id }
 {
-    access::get(table, table::MACROS + (id % MACROS) as usize) as usize
+    usize::from(access::get(table, table::MACROS + (id % MACROS) as usize))
 }
 
 // Gives n arguments the names of the macro's parameters, which stand from a position on: each slot's first word.
