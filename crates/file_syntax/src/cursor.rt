@@ -1,5 +1,6 @@
 // A cursor over the stream, and the fields that it reads. Each reader gives the cursor behind its field or says where and why
-// the stream is refused, so that the first position that is wrong gives the refusal.
+// the stream is refused, so that the first position that is wrong gives the refusal. The stream stands beside the cursor: with the
+// stream in it, each promise would have to say of the cursor answered that its stream is still the same.
 ghost use Rattle.std.specs.Prelude.{◌≡◌, ◌+◌, ◌≤◌, ℕ, List, length, get_or};
 ghost use Rattle.access.specs.Le.{le16};
 ghost use Rattle.codes.specs.Refusals.{number};
