@@ -57,7 +57,8 @@ fn tmp_size(temporaries: &[u64], index: u64) -> u64
 }
 
 // The size of a register, table export or field. It is called from two places below, so that what is tested before it stays
-// small enough to be compiled into every place that asks for a size.
+// small enough to be compiled into every place that asks for a size; and its last arms are two, since with one it is small enough
+// to be compiled into these two.
 #[tactic(auto, unfolding(crate::specs::Sizes::listed_size))]
 fn listed_size(section: Section<'_>, kind: u64, number: u64) -> u64
     ensures { result ≡ listed_size section.entry.stream.now section.entry.table.now kind number }
@@ -65,7 +66,8 @@ fn listed_size(section: Section<'_>, kind: u64, number: u64) -> u64
     match kind {
         value_kind::REGISTER => list_size(section, table::REGISTERS, number),
         value_kind::FIELD => list_size(section, table::FIELDS, number),
-        value_kind::SUBTABLE | value_kind::SUBTABLE_REF => export_size(section, number),
+        value_kind::SUBTABLE => export_size(section, number),
+        value_kind::SUBTABLE_REF => export_size(section, number),
         _ => NONE,
     }
 }
