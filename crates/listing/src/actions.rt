@@ -212,7 +212,7 @@ impl<'a> Words<'a> {
     // An operation without output has 0 and 255.
     fn maybe_output(&self) -> Output<'a> {
         let number = self.words[action::OUTPUT];
-        let word = self.words[action::OUTPUT + 1];
+        let word = self.words[action::OUTPUT_WORD];
         if number == 0 && word == NO_OUTPUT {
             return Output(None);
         }

@@ -5,11 +5,12 @@
 use accepted::Accepted;
 use codes::refusal::Refusal;
 use codes::{NONE, table};
+use file_blocks::blocks::{BLOCK, PAYLOAD, check_blocks, join};
 use list_values::section::Section;
 use mizgalon::Checked;
 use names::Names;
 use refusals::{Reason, Refused};
-use section_argument::{Problem, Program, arguments, read_section};
+use section_argument::{ACTION_WORDS, Problem, Program, TEMPORARIES, arguments, read_section};
 use statements::Statement;
 use std::alloc::{AllocError, Global};
 use std::env::Env;
@@ -29,18 +30,14 @@ const LISTING: Program = Program {
     list_full: "the section has more than 32,768 actions, for which it has no room",
 };
 
-// Room for 32,768 actions and for all temporaries.
-const WORDS: usize = 786432;
-
-const TEMPORARIES: usize = 512;
-
-// The stream of a file, unless the check of a block refuses it.
+// The stream of a file, unless the check of a block refuses it. `resolve_file::section::with_section` lends a section to a step
+// alone, and the borrow checker does not cover a step that prints.
 fn stream_of(alloc: Global, file: &[u8]) -> Result<Option<Vec<u8>>, AllocError> {
-    if file_blocks::blocks::check_blocks(file).is_err() {
+    if check_blocks(file).is_err() {
         return Ok(None);
     }
-    let mut stream = vec![in alloc; 0u8; file.len() / 512 * 510]?;
-    file_blocks::blocks::join(file, &mut stream);
+    let mut stream = vec![in alloc; 0u8; file.len() / BLOCK * PAYLOAD]?;
+    join(file, &mut stream);
     Ok(Some(stream))
 }
 
@@ -55,13 +52,13 @@ fn section_of<'a>(stream: &'a [u8], table: &'a mut [u16; table::LENGTH]) -> Opti
 struct Listing {
     checked: Checked,
     list: Vec<u64>,
-    temporaries: [u64; TEMPORARIES],
+    temporaries: Vec<u64>,
 }
 
 impl Listing {
     fn new(alloc: Global, file: &[u8]) -> Result<Listing, AllocError> {
-        let mut list = vec![in alloc; 0u64; WORDS]?;
-        let mut temporaries = [0u64; TEMPORARIES];
+        let mut list = vec![in alloc; 0u64; ACTION_WORDS]?;
+        let mut temporaries = vec![in alloc; 0u64; TEMPORARIES]?;
         let checked = mizgalon::resolve_checked(file, &mut list, &mut temporaries);
         Ok(Listing {
             checked,
@@ -95,7 +92,7 @@ impl Listing {
         let Some(section) = section else {
             return Ok(());
         };
-        let count = TEMPORARIES.min(answer.temporaries as usize);
+        let count = self.temporaries.len().min(answer.temporaries as usize);
         let names = Names {
             section,
             temporaries: &self.temporaries[..count],

@@ -127,12 +127,11 @@ impl TryFrom<u64> for Reason {
     type Error = NoRefusal;
 
     fn try_from(number: u64) -> Result<Reason, NoRefusal> {
-        for (refusal, meaning) in MEANINGS.iter().copied() {
-            if u64::from(refusal) == number {
-                return Ok(Reason { refusal, meaning });
-            }
+        let mut meanings = MEANINGS.iter().copied();
+        match meanings.find(|(refusal, _)| u64::from(*refusal) == number) {
+            Some((refusal, meaning)) => Ok(Reason { refusal, meaning }),
+            None => Err(NoRefusal(number)),
         }
-        Err(NoRefusal(number))
     }
 }
 

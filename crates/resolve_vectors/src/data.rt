@@ -45,12 +45,9 @@ pub(crate) struct Case {
 
 // The first word that is not the right one. Behind the right ones all are to be 0.
 fn first_wrong(words: &[u64], right: &[u64]) -> Option<usize> {
-    for (index, word) in words.iter().copied().enumerate() {
-        if word != right.get(index).copied().unwrap_or(0) {
-            return Some(index);
-        }
-    }
-    None
+    let mut words = words.iter().copied().enumerate();
+    let (index, _) = words.find(|(index, word)| *word != access::get(right, *index))?;
+    Some(index)
 }
 
 impl Case {
