@@ -8,10 +8,10 @@ use Rattle.list_pushes.specs.declared.rules.Rule.{Rule}
 
 abbrev pub rule_number : Rule → ℕ
 rule_number Rule.Unsized = 0
-rule_number Rule.Pair = 1
-rule_number Rule.Shift = 2
+rule_number (Rule.Paired Paired.Alone) = 1
+rule_number (Rule.Paired Paired.Shift) = 2
 rule_number Rule.Triple = 3
-rule_number Rule.Comparison = 4
+rule_number (Rule.Paired Paired.Comparison) = 4
 rule_number Rule.Boolean = 5
 rule_number Rule.Not = 6
 rule_number Rule.Nan = 7

@@ -16,20 +16,26 @@ use list_values::value::{INPUT_0, INPUT_1, OUTPUT, get};
 // The operators have the numbers below this.
 const OPERATORS: u64 = 33;
 
+// The rules that begin with a pair of operands of one size: of that pair alone, of a shift, of a comparison.
+#[derive(Clone, Copy)]
+enum Paired {
+    Alone,
+    Shift,
+    Comparison,
+}
+
 // How the operands of an operation are sized.
 #[derive(Clone, Copy)]
 enum Rule {
-    Unsized = 0,
-    Pair = 1,
-    Shift = 2,
-    Triple = 3,
-    Comparison = 4,
-    Boolean = 5,
-    Not = 6,
-    Nan = 7,
-    Pointer = 8,
-    Branch = 9,
-    Condition = 10,
+    Unsized,
+    Paired(Paired),
+    Triple,
+    Boolean,
+    Not,
+    Nan,
+    Pointer,
+    Branch,
+    Condition,
 }
 
 // Which rule an operation has. Operators first, in the order of their numbers.
@@ -39,13 +45,13 @@ fn rule_of_operator(op: u64) -> Rule
 {
     match op {
         operation::INT_MUL..=operation::INT_SUB => Rule::Triple,
-        operation::INT_LEFT..=operation::INT_SIGNED_RIGHT => Rule::Shift,
-        operation::INT_SIGNED_LESS..=operation::INT_NOT_EQUAL => Rule::Comparison,
+        operation::INT_LEFT..=operation::INT_SIGNED_RIGHT => Rule::Paired(Paired::Shift),
+        operation::INT_SIGNED_LESS..=operation::INT_NOT_EQUAL => Rule::Paired(Paired::Comparison),
         operation::FLOAT_DIV..=operation::FLOAT_SUB => Rule::Triple,
-        operation::FLOAT_LESS..=operation::FLOAT_NOT_EQUAL => Rule::Comparison,
+        operation::FLOAT_LESS..=operation::FLOAT_NOT_EQUAL => Rule::Paired(Paired::Comparison),
         operation::INT_AND..=operation::INT_OR => Rule::Triple,
         operation::BOOL_XOR..=operation::BOOL_OR => Rule::Boolean,
-        _ => Rule::Comparison,
+        _ => Rule::Paired(Paired::Comparison),
     }
 }
 
@@ -55,9 +61,9 @@ fn rule_of_one_input(op: u64) -> Rule
 {
     match op {
         operation::BOOL_NOT => Rule::Not,
-        operation::INT_NOT..=operation::INT_NEGATE => Rule::Pair,
+        operation::INT_NOT..=operation::INT_NEGATE => Rule::Paired(Paired::Alone),
         operation::FLOAT_IS_NAN => Rule::Nan,
-        operation::FLOAT_NEGATE..=operation::FLOAT_ROUND => Rule::Pair,
+        operation::FLOAT_NEGATE..=operation::FLOAT_ROUND => Rule::Paired(Paired::Alone),
         _ => Rule::Unsized,
     }
 }
@@ -67,7 +73,7 @@ fn rule_of_other(op: u64) -> Rule
     ensures { rule_number result ≡ rule_of_other op }
 {
     match op {
-        operation::COPY => Rule::Pair,
+        operation::COPY => Rule::Paired(Paired::Alone),
         operation::LOAD | operation::STORE => Rule::Pointer,
         operation::BRANCH => Rule::Branch,
         operation::PCODE_BRANCH => Rule::Condition,
@@ -88,14 +94,6 @@ fn rule_of(op: u64) -> Rule
     rule_of_other(op)
 }
 
-// The rules that begin with a pair of operands of one size: of that pair alone, of a shift, of a comparison.
-#[derive(Clone, Copy)]
-enum Paired {
-    Alone,
-    Shift,
-    Comparison,
-}
-
 // The operand that has the size of the first input: the second input of a comparison, else the output.
 fn partner(paired: Paired) -> u8
     ensures { result ≡ partner paired }
@@ -106,8 +104,8 @@ fn partner(paired: Paired) -> u8
     }
 }
 
-// These three call `set_size_of_pair` from one place, so that it is compiled into it: with a call of its own each, a push takes
-// longer.
+// The three call `set_size_of_pair` from one place, and are called from one, so that all is compiled into the pass: with a call of
+// its own each, a push takes longer.
 #[tactic(auto, using(list_values::proofs::SizeLaws::record_sum), unfolding(crate::specs::Rules::shift, crate::specs::Rules::comparison, list_values::specs::Sizes::then_s))]
 fn pair_rule(
     section: Section<'_>,
@@ -179,19 +177,10 @@ fn apply_rule(
 {
     match rule {
         Rule::Unsized => 0,
-        Rule::Pair => {
-            let paired = Paired::Alone;
-            pair_rule(section, paired, fallback, actions, temporaries, at, pointer)
-        }
-        Rule::Shift => {
-            let paired = Paired::Shift;
+        Rule::Paired(paired) => {
             pair_rule(section, paired, fallback, actions, temporaries, at, pointer)
         }
         Rule::Triple => set_size_of_triple(section, fallback, actions, temporaries, at, pointer),
-        Rule::Comparison => {
-            let paired = Paired::Comparison;
-            pair_rule(section, paired, fallback, actions, temporaries, at, pointer)
-        }
         Rule::Boolean => set_three(section, actions, temporaries, at, 1),
         Rule::Not => bool_not(section, actions, temporaries, at),
         Rule::Nan => set_operand(section, actions, temporaries, at, OUTPUT, 1),
