@@ -24,11 +24,6 @@ use Rattle.stmt_bodies.specs.Statements.{resolve_body}
 use Rattle.resolve_answer.specs.Answers.{refused}
 use Rattle.resolve_file.specs.Files.{at_start, start_env, walk_section, resolve_section, resolve_read, resolve_stream, resolve_file}
 
-pub walk_law : (s t a m p1 a1 m1 : List ℕ) (subtables ptr pos n ordinal : ℕ) (e : Env) (w : Walk) (r : Step) → pos ≡ get_or t 3337 0 → (n ≡ le16 s 22) × (n < 65536) → ordinal ≡ get_or t 3338 0 → e ≡ start_env ptr → w ≡ at_start subtables →
-    walked r p1 a1 m1 ≡ resolve_body 16 s t (replicate 406 0) a m e pos n ordinal w → stepped r a1 m1 ≡ walk_section s t a m subtables ptr
-unfolding walk_section without_p
-walk_law s t a m p1 a1 m1 subtables ptr pos n ordinal e w r h i j k l f = rw (← h, ← i.0, ← j, ← k, ← l, ← f)
-
 -- a file resolved by its section, and one that is refused
 pub by_section : (file stream table a m : List ℕ) → GivenSection file stream table → resolve_file file a m ≡ resolve_section stream table a m
 unfolding resolve_file resolve_stream resolve_read read_file read_table

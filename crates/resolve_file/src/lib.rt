@@ -72,6 +72,7 @@ fn start_env(pointer: u64) -> Env
 }
 
 // The section's own statements, which have no parameters, with macro calls 16 deep at most.
+#[tactic(auto, unfolding(crate::specs::Files::walk_section, stmt_walk::specs::Walks::without_p))]
 fn walk_section(
     section: Section<'_>,
     actions: &mut [u64],
