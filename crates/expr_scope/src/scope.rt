@@ -54,7 +54,7 @@ pub struct Bits {
     pub count: u64,
 }
 
-// So many bytes that a pointer refers to; 0 where no size is stated, as the words of slots and actions have it.
+// So many bytes that a pointer refers to; 0 where no size is stated, since the words of slots and actions, which are lent, have it so.
 #[derive(Clone, Copy)]
 pub struct Access {
     pub pointer: Value,

@@ -15,8 +15,8 @@ use list_values::section::Section;
 use list_values::sizes::entry;
 use list_values::value::{Value, with_size};
 
-// Two of the three kinds of a space, which stay the bytes that the file has: what an address is by its kind is told in one
-// place.
+// Two of the three kinds of a space. They stay the bytes that the file has: they are looked at in one place, where an enum would be
+// made of the byte only to be matched at once.
 const RAM: u64 = 0;
 
 const REGISTERS: u64 = 1;

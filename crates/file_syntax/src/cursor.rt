@@ -139,7 +139,7 @@ pub fn below<N: Field>(
     })
 }
 
-// The same, or 65,535, which stands for absent.
+// The same, or 65,535, which stands for absent; the reader only checks the file, so it makes no Option of it.
 #[tactic(auto, unfolding(crate::specs::Cursors::u16or, crate::specs::Cursors::u16))]
 pub fn u16_or(
     stream: &[u8],

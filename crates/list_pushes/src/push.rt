@@ -45,7 +45,7 @@ pub struct Context<'a> {
 }
 
 // An operation by its code, with its number and at most two inputs. The code stays a number, as an action's kind does: both go
-// into the words of the lent list as they are.
+// into the words of the lent list as they are. So does the number of inputs, which a parameter's slot gives back as any number.
 #[derive(Clone, Copy)]
 pub struct Operation {
     pub code: u64,

@@ -10,7 +10,8 @@ use crate::value::{INPUT_0, INPUT_1, OUTPUT, Value, get, put_size, value_at};
 use codes::action::SIZE_PLACE;
 use codes::{NONE, table, value_kind};
 
-// The ordinal of the statement begun last, the errors recorded and the first one's ordinal.
+// The ordinal of the statement begun last, the errors recorded and the first one's ordinal, which is 65,535 while there is none, as
+// the answer's words have it.
 #[derive(Clone, Copy)]
 pub struct Sizing {
     pub begun: u64,
@@ -148,7 +149,7 @@ fn size_temporary(temporaries: &mut [u64], value: Value, size: u64)
     );
 }
 
-// A size set on a value whose known size was that one: 1 where that is an error, else 0.
+// A size set on a value whose known size was that one: 1 where that is an error, else 0, a number since callers add them.
 #[tactic(auto, unfolding(crate::specs::Sizes::settled, crate::specs::Sizes::error, crate::specs::Sizes::recorded))]
 pub fn settle(temporaries: &mut [u64], value: Value, known: u64, size: u64) -> u64
     ensures { Settles result temporaries.new (settled temporaries.old value known size) }

@@ -52,7 +52,8 @@ pub fn with_size(value: Value, size: u64) -> Value
     Value { size, ..value }
 }
 
-// What stands for an operand that is not there: both its words are 0.
+// What stands for an operand that is not there: both its words are 0. It is a value and no Option, since what is written is these
+// two words in either case.
 pub fn absent() -> Value
     ensures { result ≡ absent }
 {
