@@ -10,6 +10,7 @@ ghost use Rattle.expr_terms.specs.Answers.{resolved, operand, passed, after};
 ghost use Rattle.expr_resolver.specs.Expressions.{means_at, local_address, address_of, atom, operation_of, later, skip_expr, operands_of, part_at, with_part, expr_value, part, resolve_op, call_inbuilt, resolve_args, user_op, resolve_call, resolve_expr};
 
 use access::u16_in;
+use codes::limit::DEPTH;
 use codes::refusal::Refusal;
 use codes::{NONE, expression, header, operation};
 use expr_reading::read::{constant, read_operand};
@@ -22,9 +23,6 @@ use expr_terms::slices::slice_bits;
 use file_syntax::cursor::{Cursor, place_of};
 use list_pushes::push::{Context, Operation, State};
 use list_values::value::Value;
-
-// How deep expressions are nested at most.
-pub const DEPTH: u64 = 32;
 
 // Where the operands of an operator stand, in the order in which they are resolved.
 #[derive(Clone, Copy)]

@@ -1,5 +1,5 @@
 // Addresses: the place that a pointer in a space refers to.
-ghost use Rattle.std.specs.Prelude.{◌≡◌};
+ghost use Rattle.std.specs.Prelude.{◌≡◌, Ok};
 ghost use Rattle.expr_terms.specs.Outcomes.{to_expr, to_space};
 ghost use Rattle.expr_terms.specs.Answers.{resolved};
 ghost use Rattle.expr_terms.specs.Addresses.{or_size, in_const_space, kind_of_space, named_space, resolve_space, reference_to, address_in, resolve_address};
@@ -49,11 +49,11 @@ fn in_const_space(part: Resolved<ExprValue>, size: u64) -> Result<Resolved<ExprV
 }
 
 #[tactic(auto, unfolding(crate::specs::Addresses::kind_of_space))]
-fn kind_of_space(section: Section<'_>, index: u64) -> Result<u64, Refusal>
-    ensures { to_space result ≡ kind_of_space section.entry.stream.now section.entry.table.now index }
+fn kind_of_space(section: Section<'_>, index: u64) -> u64
+    ensures { to_space (Ok result) ≡ kind_of_space section.entry.stream.now section.entry.table.now index }
 {
     let at = entry(section.table, table::SPACES, index % 65536 * 5);
-    Ok(access::byte(section.stream, at, 2))
+    access::byte(section.stream, at, 2)
 }
 
 #[tactic(auto, unfolding(crate::specs::Addresses::named_space, crate::specs::Addresses::space_of))]
@@ -62,7 +62,7 @@ fn named_space(section: Section<'_>, name: u64) -> Result<u64, Refusal>
 {
     match lookup(section.table, name) {
         Symbol::Undefined => Err(Refusal::Undefined),
-        Symbol::Space(i) => kind_of_space(section, i),
+        Symbol::Space(i) => Ok(kind_of_space(section, i)),
         Symbol::Register(_)
         | Symbol::BitRange(_)
         | Symbol::Table(_)
@@ -81,7 +81,7 @@ fn resolve_space(section: Section<'_>, name: u64) -> Result<u64, Refusal>
         return named_space(section, name);
     }
     let default = given(access::u16_at(section.stream, header::DEFAULT_SPACE));
-    kind_of_space(section, default.ok_or(Refusal::NoDefaultSpace)?)
+    Ok(kind_of_space(section, default.ok_or(Refusal::NoDefaultSpace)?))
 }
 
 #[tactic(auto, unfolding(crate::specs::Addresses::reference_to))]

@@ -102,18 +102,13 @@ pub fn word(value: Value) -> u64
 pub fn get(list: &[u64], at: usize, index: usize) -> u64
     ensures { result ≡ get_or list.now (at + index) 0 }
 {
-    if at < list.len() && index < list.len() - at {
-        return list[at + index];
-    }
-    0
+    access::get_in(list, at, index)
 }
 
 pub fn put(list: &mut [u64], at: usize, index: usize, word: u64)
     ensures { list.new ≡ set list.old (at + index) word }
 {
-    if at < list.len() && index < list.len() - at {
-        list[at + index] = word;
-    }
+    access::put_in(list, at, index, word);
 }
 
 // The value whose first word is i after a position.

@@ -10,10 +10,11 @@ ghost use Rattle.stmt_assignments.specs.Copies.{targeted, mask_but, merge_bits, 
 
 use crate::stores::store;
 use access::u16_in;
+use codes::limit::DEPTH;
 use codes::refusal::Refusal;
 use codes::{NONE, expression, operation};
 use expr_reading::read::{byte_aligned, constant, masked, read_operand, read_value, sliced};
-use expr_resolver::expr::{DEPTH, resolve_expr};
+use expr_resolver::expr::resolve_expr;
 use expr_scope::scope::{Bits, ExprValue, named_tmp, plain_local, resolve_ident};
 use expr_terms::answers::{Resolved, after, given};
 use list_pushes::push::{Context, Operation, State, add_tmp, op_to};

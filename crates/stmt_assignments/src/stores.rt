@@ -5,10 +5,11 @@ ghost use Rattle.stmt_walk.specs.Walks.{stepped};
 ghost use Rattle.stmt_assignments.specs.Stores.{store, store_register, store_at, store_in, store_pointer, store_statement};
 
 use access::u16_in;
+use codes::limit::DEPTH;
 use codes::refusal::Refusal;
 use codes::{action_kind, operation};
 use expr_reading::read::{set_stated, take_stated};
-use expr_resolver::expr::{DEPTH, expr_value, resolve_expr, skip_expr};
+use expr_resolver::expr::{expr_value, resolve_expr, skip_expr};
 use expr_scope::scope::{Access, ExprValue};
 use expr_terms::address::resolve_address;
 use expr_terms::answers::{Resolved, after};

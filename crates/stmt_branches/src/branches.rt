@@ -7,10 +7,11 @@ ghost use Rattle.stmt_branches.specs.Branches.{push_label, label_statement, bran
 
 use crate::labels::{get_or_insert_label, labelled, resolve_label};
 use access::u16_in;
+use codes::limit::DEPTH;
 use codes::refusal::Refusal;
 use codes::{operation, statement, value_kind};
 use expr_reading::read::{constant, read_operand};
-use expr_resolver::expr::{DEPTH, expr_value};
+use expr_resolver::expr::expr_value;
 use expr_scope::scope::{ExprValue, resolve_ident};
 use expr_terms::answers::{Resolved, after};
 use list_pushes::push::{Context, Operation, push_op};

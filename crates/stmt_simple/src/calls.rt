@@ -10,10 +10,11 @@ ghost use Rattle.stmt_simple.specs.Outcomes.{to_called};
 ghost use Rattle.stmt_simple.specs.Calls.{symbol_called, called_of, delay_slot, args_read, read_args, write_inputs, push_user_op, user_op_args, user_op_statement, macro_at, bind_names, counted, macro_args};
 
 use access::u16_in;
+use codes::limit::DEPTH;
 use codes::refusal::Refusal;
 use codes::{action_kind, header, operation, table};
 use expr_reading::read::read_operand;
-use expr_resolver::expr::{DEPTH, resolve_args};
+use expr_resolver::expr::resolve_args;
 use expr_scope::args::{ARGS_WORDS, arg_at};
 use expr_scope::scope::{SLOT_A, SLOT_NAME, param_place};
 use expr_scope::symbols::{Symbol, lookup};

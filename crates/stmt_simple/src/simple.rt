@@ -6,10 +6,11 @@ ghost use Rattle.stmt_walk.specs.Walks.{stepped, walked};
 ghost use Rattle.stmt_simple.specs.Simple.{unimplemented, export_of, export_statement, local_statement, assign, local_assignment, find_subtable, build_table, build};
 
 use access::u16_in;
+use codes::limit::DEPTH;
 use codes::refusal::Refusal;
 use codes::{action_kind, header, operation, table};
 use expr_reading::read::{read_operand, read_value};
-use expr_resolver::expr::{DEPTH, resolve_expr};
+use expr_resolver::expr::resolve_expr;
 use expr_scope::scope::{Access, ExprValue, named_tmp};
 use expr_scope::symbols::{Symbol, lookup};
 use expr_terms::answers::{Resolved, after};
