@@ -102,14 +102,14 @@ pub fn take_stated(
 
 #[tactic(auto, unfolding(crate::specs::Reading::copy_to))]
 fn copy_to(
-    context: Context<'_>,
+    context: &Context<'_>,
     actions: &mut [u64],
     temporaries: &mut [u64],
     to: Option<Value>,
     value: Value,
     state: State,
 ) -> Result<(Value, State), Refusal>
-    ensures { read (to_read result) actions.new temporaries.new ≡ copy_to context.entry.section.stream.now context.entry.section.table.now actions.old temporaries.old context.entry.env (is_some to) (unwrap_or to absent) value state }
+    ensures { read (to_read result) actions.new temporaries.new ≡ copy_to context.entry.now.section.stream.now context.entry.now.section.table.now actions.old temporaries.old context.entry.now.env (is_some to) (unwrap_or to absent) value state }
 {
     match to {
         Some(output) => {
@@ -139,7 +139,7 @@ pub fn sliced(value: Value, more: u64, size: u64, state: State) -> Result<(Value
 // An operation into a temporary, and then so many of its low bits.
 #[tactic(auto, unfolding(crate::specs::Reading::masked, list_pushes::specs::Pushes::on_read))]
 pub fn masked(
-    context: Context<'_>,
+    context: &Context<'_>,
     actions: &mut [u64],
     temporaries: &mut [u64],
     operation: Operation,
@@ -147,7 +147,7 @@ pub fn masked(
     bits: u64,
     state: State,
 ) -> Result<(Value, State), Refusal>
-    ensures { read (to_read result) actions.new temporaries.new ≡ masked context.entry.section.stream.now context.entry.section.table.now actions.old temporaries.old context.entry.env operation tmp bits state }
+    ensures { read (to_read result) actions.new temporaries.new ≡ masked context.entry.now.section.stream.now context.entry.now.section.table.now actions.old temporaries.old context.entry.now.env operation tmp bits state }
 {
     let (_, state) = op_to(context, actions, temporaries, operation, tmp, state)?;
     let low = Operation::binary(operation::INT_AND, tmp, constant(access::mask(bits)));
@@ -156,14 +156,14 @@ pub fn masked(
 
 #[tactic(auto, unfolding(crate::specs::Reading::shift_and_mask, crate::specs::Reading::shift_to, crate::specs::Reading::masked, list_pushes::specs::Pushes::on_tmp, list_pushes::specs::Pushes::on_read))]
 fn shift_and_mask(
-    context: Context<'_>,
+    context: &Context<'_>,
     actions: &mut [u64],
     temporaries: &mut [u64],
     value: Value,
     bits: Bits,
     state: State,
 ) -> Result<(Value, State), Refusal>
-    ensures { read (to_read result) actions.new temporaries.new ≡ shift_and_mask context.entry.section.stream.now context.entry.section.table.now actions.old temporaries.old context.entry.env value bits.from bits.count state }
+    ensures { read (to_read result) actions.new temporaries.new ≡ shift_and_mask context.entry.now.section.stream.now context.entry.now.section.table.now actions.old temporaries.old context.entry.now.env value bits.from bits.count state }
 {
     let size = size_of(context.section, temporaries, value);
     let (tmp, state) = add_tmp(temporaries, NONE, size, state)?;
@@ -174,14 +174,14 @@ fn shift_and_mask(
 
 #[tactic(auto, unfolding(crate::specs::Reading::part_of))]
 fn part_of(
-    context: Context<'_>,
+    context: &Context<'_>,
     actions: &mut [u64],
     temporaries: &mut [u64],
     value: Value,
     bits: Bits,
     state: State,
 ) -> Result<(Value, State), Refusal>
-    ensures { read (to_read result) actions.new temporaries.new ≡ part_of context.entry.section.stream.now context.entry.section.table.now actions.old temporaries.old context.entry.env value bits.from bits.count state }
+    ensures { read (to_read result) actions.new temporaries.new ≡ part_of context.entry.now.section.stream.now context.entry.now.section.table.now actions.old temporaries.old context.entry.now.env value bits.from bits.count state }
 {
     if byte_aligned(bits) {
         return sliced(value, bits.from / 8, bits.count / 8, state);
@@ -191,7 +191,7 @@ fn part_of(
 
 #[tactic(auto, unfolding(crate::specs::Reading::read_slice, list_pushes::specs::Pushes::on_read))]
 pub fn read_slice(
-    context: Context<'_>,
+    context: &Context<'_>,
     actions: &mut [u64],
     temporaries: &mut [u64],
     value: Value,
@@ -199,7 +199,7 @@ pub fn read_slice(
     to: Option<Value>,
     state: State,
 ) -> Result<(Value, State), Refusal>
-    ensures { read (to_read result) actions.new temporaries.new ≡ read_slice context.entry.section.stream.now context.entry.section.table.now actions.old temporaries.old context.entry.env value bits.from bits.count (is_some to) (unwrap_or to absent) state }
+    ensures { read (to_read result) actions.new temporaries.new ≡ read_slice context.entry.now.section.stream.now context.entry.now.section.table.now actions.old temporaries.old context.entry.now.env value bits.from bits.count (is_some to) (unwrap_or to absent) state }
 {
     let (part, next) = part_of(context, actions, temporaries, value, bits, state)?;
     copy_to(context, actions, temporaries, to, part, next)
@@ -227,14 +227,14 @@ fn read_address(
 
 #[tactic(auto, unfolding(crate::specs::Reading::load, crate::specs::Reading::load_to, list_pushes::specs::Pushes::on_tmp))]
 fn load(
-    context: Context<'_>,
+    context: &Context<'_>,
     actions: &mut [u64],
     temporaries: &mut [u64],
     from: Access,
     to: Option<Value>,
     state: State,
 ) -> Result<(Value, State), Refusal>
-    ensures { read (to_read result) actions.new temporaries.new ≡ load context.entry.section.stream.now context.entry.section.table.now actions.old temporaries.old context.entry.env from.pointer from.size (is_some to) (unwrap_or to absent) state }
+    ensures { read (to_read result) actions.new temporaries.new ≡ load context.entry.now.section.stream.now context.entry.now.section.table.now actions.old temporaries.old context.entry.now.env from.pointer from.size (is_some to) (unwrap_or to absent) state }
 {
     let (value, next) = output_or(temporaries, to, NONE, state)?;
     let out = take_stated(context.section, temporaries, value, from.size, next);
@@ -266,14 +266,14 @@ fn load_register(
 
 #[tactic(auto, unfolding(crate::specs::Reading::read_value))]
 pub fn read_value(
-    context: Context<'_>,
+    context: &Context<'_>,
     actions: &mut [u64],
     temporaries: &mut [u64],
     expr: ExprValue,
     to: Option<Value>,
     state: State,
 ) -> Result<(Value, State), Refusal>
-    ensures { read (to_read result) actions.new temporaries.new ≡ read_value context.entry.section.stream.now context.entry.section.table.now actions.old temporaries.old context.entry.env expr (is_some to) (unwrap_or to absent) state }
+    ensures { read (to_read result) actions.new temporaries.new ≡ read_value context.entry.now.section.stream.now context.entry.now.section.table.now actions.old temporaries.old context.entry.now.env expr (is_some to) (unwrap_or to absent) state }
 {
     match expr {
         ExprValue::Local(v) => copy_to(context, actions, temporaries, to, v, state),
@@ -301,13 +301,13 @@ pub fn read_value(
 // Read as an operand, with no output given.
 #[tactic(auto, unfolding(crate::specs::Reading::read_operand))]
 pub fn read_operand(
-    context: Context<'_>,
+    context: &Context<'_>,
     actions: &mut [u64],
     temporaries: &mut [u64],
     expr: ExprValue,
     state: State,
 ) -> Result<(Value, State), Refusal>
-    ensures { read (to_read result) actions.new temporaries.new ≡ read_operand context.entry.section.stream.now context.entry.section.table.now actions.old temporaries.old context.entry.env expr state }
+    ensures { read (to_read result) actions.new temporaries.new ≡ read_operand context.entry.now.section.stream.now context.entry.now.section.table.now actions.old temporaries.old context.entry.now.env expr state }
 {
     read_value(context, actions, temporaries, expr, None, state)
 }

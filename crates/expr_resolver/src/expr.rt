@@ -59,12 +59,12 @@ fn local_address(
 
 #[tactic(auto, unfolding(crate::specs::Expressions::address_of, crate::specs::Expressions::address_meant))]
 fn address_of(
-    context: Context<'_>,
+    context: &Context<'_>,
     scope: &[u64],
     pos: usize,
     state: State,
 ) -> Result<Resolved<ExprValue>, Refusal>
-    ensures { to_expr result ≡ address_of context.entry.section.stream.now context.entry.section.table.now scope.now pos context.entry.env state }
+    ensures { to_expr result ≡ address_of context.entry.now.section.stream.now context.entry.now.section.table.now scope.now pos context.entry.now.env state }
 {
     let base = resolve_ident(context, scope, u16_in(context.section.stream, pos, 3))?;
     local_address(
@@ -78,12 +78,12 @@ fn address_of(
 // The name at a position.
 #[tactic(auto, using(expr_scope::proofs::ScopeLaws::plain_means), unfolding(crate::specs::Expressions::means_at))]
 fn name_at(
-    context: Context<'_>,
+    context: &Context<'_>,
     scope: &[u64],
     pos: usize,
     state: State,
 ) -> Result<Resolved<ExprValue>, Refusal>
-    ensures { to_expr result ≡ means_at (resolve_ident context.entry.section.stream.now context.entry.section.table.now scope.now context.entry.env (le16 context.entry.section.stream.now (pos + 1))) (after pos 3) state }
+    ensures { to_expr result ≡ means_at (resolve_ident context.entry.now.section.stream.now context.entry.now.section.table.now scope.now context.entry.now.env (le16 context.entry.now.section.stream.now (pos + 1))) (after pos 3) state }
 {
     let name = u16_in(context.section.stream, pos, 1);
     let next = after(pos, 3);
@@ -98,12 +98,12 @@ fn name_at(
 #[tactic(auto, unfolding(crate::specs::Expressions::atom, crate::specs::Expressions::means_at))]
 fn atom(
     code: u64,
-    context: Context<'_>,
+    context: &Context<'_>,
     scope: &[u64],
     pos: usize,
     state: State,
 ) -> Result<Resolved<ExprValue>, Refusal>
-    ensures { to_expr result ≡ atom code context.entry.section.stream.now context.entry.section.table.now scope.now pos context.entry.env state }
+    ensures { to_expr result ≡ atom code context.entry.now.section.stream.now context.entry.now.section.table.now scope.now pos context.entry.now.env state }
 {
     match code {
         expression::IDENT => name_at(context, scope, pos, state),
@@ -187,13 +187,13 @@ fn part_at(code: u64) -> usize
 #[tactic(auto, unfolding(crate::specs::Expressions::with_part))]
 fn with_part(
     code: u64,
-    context: Context<'_>,
+    context: &Context<'_>,
     actions: &mut [u64],
     temporaries: &mut [u64],
     pos: usize,
     part: Resolved<ExprValue>,
 ) -> Result<Resolved<ExprValue>, Refusal>
-    ensures { resolved (to_expr result) actions.new temporaries.new ≡ with_part code context.entry.section.stream.now context.entry.section.table.now actions.old temporaries.old pos context.entry.env part.value part.next part.state }
+    ensures { resolved (to_expr result) actions.new temporaries.new ≡ with_part code context.entry.now.section.stream.now context.entry.now.section.table.now actions.old temporaries.old pos context.entry.now.env part.value part.next part.state }
 {
     let next = part.next;
     match code {
@@ -237,12 +237,12 @@ fn with_part(
 #[tactic(auto, using(crate::proofs::ExprLaws::plain_read, crate::proofs::ExprLaws::integer_read))]
 fn plain_operand(
     deep: u64,
-    context: Context<'_>,
+    context: &Context<'_>,
     scope: &[u64],
     pos: usize,
     state: State,
 ) -> Option<Resolved<Value>>
-    ensures { IfSome result (λ o. (a m : List ℕ) → operand (to_operand (Ok o)) a m ≡ expr_value (resolve_expr deep context.entry.section.stream.now context.entry.section.table.now scope.now context.entry.env) context.entry.section.stream.now context.entry.section.table.now context.entry.env pos a m state) }
+    ensures { IfSome result (λ o. (a m : List ℕ) → operand (to_operand (Ok o)) a m ≡ expr_value (resolve_expr deep context.entry.now.section.stream.now context.entry.now.section.table.now scope.now context.entry.now.env) context.entry.now.section.stream.now context.entry.now.section.table.now context.entry.now.env pos a m state) }
 {
     if deep == 0 {
         return None;
@@ -270,14 +270,14 @@ fn plain_operand(
 #[tactic(auto, unfolding(crate::specs::Expressions::expr_value, crate::specs::Expressions::value_then, expr_terms::specs::Answers::on_expr, expr_terms::specs::Answers::operand_of))]
 pub fn expr_value(
     deep: u64,
-    context: Context<'_>,
+    context: &Context<'_>,
     scope: &[u64],
     pos: usize,
     actions: &mut [u64],
     temporaries: &mut [u64],
     state: State,
 ) -> Result<Resolved<Value>, Refusal>
-    ensures { operand (to_operand result) actions.new temporaries.new ≡ expr_value (resolve_expr deep context.entry.section.stream.now context.entry.section.table.now scope.now context.entry.env) context.entry.section.stream.now context.entry.section.table.now context.entry.env pos actions.old temporaries.old state }
+    ensures { operand (to_operand result) actions.new temporaries.new ≡ expr_value (resolve_expr deep context.entry.now.section.stream.now context.entry.now.section.table.now scope.now context.entry.now.env) context.entry.now.section.stream.now context.entry.now.section.table.now context.entry.now.env pos actions.old temporaries.old state }
 {
     if let Some(operand) = plain_operand(deep, context, scope, pos, state) {
         return Ok(operand);
@@ -297,14 +297,14 @@ pub fn expr_value(
 fn part(
     deep: u64,
     code: u64,
-    context: Context<'_>,
+    context: &Context<'_>,
     scope: &[u64],
     pos: usize,
     actions: &mut [u64],
     temporaries: &mut [u64],
     state: State,
 ) -> Result<Resolved<ExprValue>, Refusal>
-    ensures { resolved (to_expr result) actions.new temporaries.new ≡ part (resolve_expr deep context.entry.section.stream.now context.entry.section.table.now scope.now context.entry.env) code context.entry.section.stream.now context.entry.section.table.now context.entry.env pos actions.old temporaries.old state }
+    ensures { resolved (to_expr result) actions.new temporaries.new ≡ part (resolve_expr deep context.entry.now.section.stream.now context.entry.now.section.table.now scope.now context.entry.now.env) code context.entry.now.section.stream.now context.entry.now.section.table.now context.entry.now.env pos actions.old temporaries.old state }
 {
     let at = after(pos, part_at(code));
     let part = resolve_expr(deep, context, scope, at, actions, temporaries, state)?;
@@ -315,14 +315,14 @@ fn part(
 #[tactic(auto, unfolding(crate::specs::Expressions::resolve_op, crate::specs::Expressions::binary, crate::specs::Expressions::apply2, expr_terms::specs::Answers::on_operand, expr_terms::specs::Answers::applied_to))]
 fn resolve_op(
     deep: u64,
-    context: Context<'_>,
+    context: &Context<'_>,
     scope: &[u64],
     pos: usize,
     actions: &mut [u64],
     temporaries: &mut [u64],
     state: State,
 ) -> Result<Resolved<ExprValue>, Refusal>
-    ensures { resolved (to_expr result) actions.new temporaries.new ≡ resolve_op (resolve_expr deep context.entry.section.stream.now context.entry.section.table.now scope.now context.entry.env) context.entry.section.stream.now context.entry.section.table.now context.entry.env pos actions.old temporaries.old state }
+    ensures { resolved (to_expr result) actions.new temporaries.new ≡ resolve_op (resolve_expr deep context.entry.now.section.stream.now context.entry.now.section.table.now scope.now context.entry.now.env) context.entry.now.section.stream.now context.entry.now.section.table.now context.entry.now.env pos actions.old temporaries.old state }
 {
     let order = operands_of(context.section.stream, pos);
     let first = expr_value(
@@ -352,7 +352,7 @@ fn resolve_op(
 #[tactic(auto, unfolding(crate::specs::Expressions::call_inbuilt, crate::specs::Expressions::second_of, crate::specs::Expressions::apply1, crate::specs::Expressions::apply2, expr_terms::specs::Answers::on_operand, expr_terms::specs::Answers::applied_to))]
 fn call_inbuilt(
     deep: u64,
-    context: Context<'_>,
+    context: &Context<'_>,
     scope: &[u64],
     pos: usize,
     op: u64,
@@ -361,7 +361,7 @@ fn call_inbuilt(
     temporaries: &mut [u64],
     state: State,
 ) -> Result<Resolved<ExprValue>, Refusal>
-    ensures { resolved (to_expr result) actions.new temporaries.new ≡ call_inbuilt (resolve_expr deep context.entry.section.stream.now context.entry.section.table.now scope.now context.entry.env) context.entry.section.stream.now context.entry.section.table.now context.entry.env pos op count actions.old temporaries.old state }
+    ensures { resolved (to_expr result) actions.new temporaries.new ≡ call_inbuilt (resolve_expr deep context.entry.now.section.stream.now context.entry.now.section.table.now scope.now context.entry.now.env) context.entry.now.section.stream.now context.entry.now.section.table.now context.entry.now.env pos op count actions.old temporaries.old state }
 {
     let at = after(pos, 4);
     let first = expr_value(deep, context, scope, at, actions, temporaries, state)?;
@@ -387,7 +387,7 @@ fn call_inbuilt(
 #[tactic(auto, using(crate::proofs::ExprLaws::args_laws))]
 pub fn resolve_args(
     deep: u64,
-    context: Context<'_>,
+    context: &Context<'_>,
     scope: &[u64],
     pos: usize,
     count: u64,
@@ -396,7 +396,7 @@ pub fn resolve_args(
     args: &mut [u64],
     state: State,
 ) -> Result<(usize, State), Refusal>
-    ensures { passed (to_args result) actions.new temporaries.new args.new ≡ resolve_args (resolve_expr deep context.entry.section.stream.now context.entry.section.table.now scope.now context.entry.env) count 0 pos actions.old temporaries.old args.old state }
+    ensures { passed (to_args result) actions.new temporaries.new args.new ≡ resolve_args (resolve_expr deep context.entry.now.section.stream.now context.entry.now.section.table.now scope.now context.entry.now.env) count 0 pos actions.old temporaries.old args.old state }
 {
     let mut at = pos;
     let mut state = state;
@@ -413,7 +413,7 @@ pub fn resolve_args(
 #[tactic(auto, unfolding(crate::specs::Expressions::user_op, expr_terms::specs::Answers::on_args))]
 fn user_op(
     deep: u64,
-    context: Context<'_>,
+    context: &Context<'_>,
     scope: &[u64],
     pos: usize,
     id: u64,
@@ -422,7 +422,7 @@ fn user_op(
     temporaries: &mut [u64],
     state: State,
 ) -> Result<Resolved<ExprValue>, Refusal>
-    ensures { resolved (to_expr result) actions.new temporaries.new ≡ user_op (resolve_expr deep context.entry.section.stream.now context.entry.section.table.now scope.now context.entry.env) context.entry.section.stream.now context.entry.section.table.now context.entry.env pos id count actions.old temporaries.old state }
+    ensures { resolved (to_expr result) actions.new temporaries.new ≡ user_op (resolve_expr deep context.entry.now.section.stream.now context.entry.now.section.table.now scope.now context.entry.now.env) context.entry.now.section.stream.now context.entry.now.section.table.now context.entry.now.env pos id count actions.old temporaries.old state }
 {
     let mut args = [0u64; ARGS_WORDS];
     let (next, state) = resolve_args(
@@ -443,14 +443,14 @@ fn user_op(
 #[tactic(auto, unfolding(crate::specs::Expressions::resolve_call, crate::specs::Expressions::call_named))]
 fn resolve_call(
     deep: u64,
-    context: Context<'_>,
+    context: &Context<'_>,
     scope: &[u64],
     pos: usize,
     actions: &mut [u64],
     temporaries: &mut [u64],
     state: State,
 ) -> Result<Resolved<ExprValue>, Refusal>
-    ensures { resolved (to_expr result) actions.new temporaries.new ≡ resolve_call (resolve_expr deep context.entry.section.stream.now context.entry.section.table.now scope.now context.entry.env) context.entry.section.stream.now context.entry.section.table.now scope.now context.entry.env pos actions.old temporaries.old state }
+    ensures { resolved (to_expr result) actions.new temporaries.new ≡ resolve_call (resolve_expr deep context.entry.now.section.stream.now context.entry.now.section.table.now scope.now context.entry.now.env) context.entry.now.section.stream.now context.entry.now.section.table.now scope.now context.entry.now.env pos actions.old temporaries.old state }
 {
     let name = u16_in(context.section.stream, pos, 1);
     let n = access::byte(context.section.stream, pos, 3);
@@ -489,14 +489,14 @@ fn resolve_call(
 #[tactic(auto, using(crate::proofs::ExprLaws::deep_laws))]
 pub fn resolve_expr(
     deep: u64,
-    context: Context<'_>,
+    context: &Context<'_>,
     scope: &[u64],
     pos: usize,
     actions: &mut [u64],
     temporaries: &mut [u64],
     state: State,
 ) -> Result<Resolved<ExprValue>, Refusal>
-    ensures { resolved (to_expr result) actions.new temporaries.new ≡ resolve_expr deep context.entry.section.stream.now context.entry.section.table.now scope.now context.entry.env pos actions.old temporaries.old state }
+    ensures { resolved (to_expr result) actions.new temporaries.new ≡ resolve_expr deep context.entry.now.section.stream.now context.entry.now.section.table.now scope.now context.entry.now.env pos actions.old temporaries.old state }
 {
     if deep == 0 {
         return Err(Refusal::OutsideLimit);

@@ -267,8 +267,8 @@ fn global_meaning(section: Section<'_>, symbol: Symbol) -> Result<ExprValue, Ref
 
 // inst_next, else inst_start, else a local, else a global.
 #[tactic(auto, unfolding(crate::specs::Scopes::inner_meaning, crate::specs::Scopes::found_or))]
-fn inner_meaning(context: Context<'_>, scope: &[u64], name: u64) -> Result<ExprValue, Refusal>
-    ensures { to_meaning result ≡ inner_meaning context.entry.section.stream.now context.entry.section.table.now scope.now context.entry.env name }
+fn inner_meaning(context: &Context<'_>, scope: &[u64], name: u64) -> Result<ExprValue, Refusal>
+    ensures { to_meaning result ≡ inner_meaning context.entry.now.section.stream.now context.entry.now.section.table.now scope.now context.entry.now.env name }
 {
     if name == access::u16_at(context.section.stream, header::INST_NEXT) {
         return Ok(ExprValue::Local(local(value_kind::INST_NEXT, 0)));
@@ -283,8 +283,8 @@ fn inner_meaning(context: Context<'_>, scope: &[u64], name: u64) -> Result<ExprV
 }
 
 #[tactic(auto, unfolding(crate::specs::Scopes::resolve_ident, crate::specs::Scopes::param_or))]
-pub fn resolve_ident(context: Context<'_>, scope: &[u64], name: u64) -> Result<ExprValue, Refusal>
-    ensures { to_meaning result ≡ resolve_ident context.entry.section.stream.now context.entry.section.table.now scope.now context.entry.env name }
+pub fn resolve_ident(context: &Context<'_>, scope: &[u64], name: u64) -> Result<ExprValue, Refusal>
+    ensures { to_meaning result ≡ resolve_ident context.entry.now.section.stream.now context.entry.now.section.table.now scope.now context.entry.now.env name }
 {
     match find_param(scope, context.env.count, name) {
         Some(i) => Ok(ExprValue::from(slot_at(scope, param_place(i)))),
@@ -294,8 +294,8 @@ pub fn resolve_ident(context: Context<'_>, scope: &[u64], name: u64) -> Result<E
 
 // The local that a name means which is no parameter's: the usual case, in which the larger `ExprValue` need not be made.
 #[tactic(auto, unfolding(crate::specs::Scopes::plain_local, crate::specs::Scopes::local_of, crate::specs::Scopes::inner_meaning, crate::specs::Scopes::found_or, crate::specs::Scopes::global_meaning, crate::specs::Scopes::bit_range, crate::specs::Scopes::bits_at))]
-pub fn plain_local(context: Context<'_>, scope: &[u64], name: u64) -> Option<Value>
-    ensures { to_found result ≡ plain_local context.entry.section.stream.now context.entry.section.table.now scope.now context.entry.env name }
+pub fn plain_local(context: &Context<'_>, scope: &[u64], name: u64) -> Option<Value>
+    ensures { to_found result ≡ plain_local context.entry.now.section.stream.now context.entry.now.section.table.now scope.now context.entry.now.env name }
 {
     if find_param(scope, context.env.count, name).is_some() {
         return None;
@@ -325,14 +325,14 @@ pub fn plain_local(context: Context<'_>, scope: &[u64], name: u64) -> Option<Val
 // that the list of temporaries keeps.
 #[tactic(auto, unfolding(crate::specs::Scopes::named_tmp, crate::specs::Scopes::undeclared, list_pushes::specs::Pushes::on_tmp))]
 pub fn named_tmp(
-    context: Context<'_>,
+    context: &Context<'_>,
     scope: &mut [u64],
     temporaries: &mut [u64],
     name: u64,
     size: u64,
     state: State,
 ) -> Result<(Value, State), Refusal>
-    ensures { read (to_read result) scope.new temporaries.new ≡ named_tmp context.entry.section.table.now scope.old temporaries.old context.entry.env name size state }
+    ensures { read (to_read result) scope.new temporaries.new ≡ named_tmp context.entry.now.section.table.now scope.old temporaries.old context.entry.now.env name size state }
 {
     let (value, next) = add_tmp(temporaries, name, size, state)?;
     match lookup_local(context.section.table, scope, context.env.own, name) {

@@ -108,14 +108,14 @@ fn reference_to(
 
 #[tactic(auto, unfolding(crate::specs::Addresses::address_in, crate::specs::Addresses::in_space, crate::specs::Addresses::reference, crate::specs::Answers::expr_of))]
 fn address_in(
-    context: Context<'_>,
+    context: &Context<'_>,
     actions: &mut [u64],
     temporaries: &mut [u64],
     space: u64,
     size: u64,
     part: Resolved<ExprValue>,
 ) -> Result<Resolved<ExprValue>, Refusal>
-    ensures { resolved (to_expr result) actions.new temporaries.new ≡ address_in context.entry.section.stream.now context.entry.section.table.now actions.old temporaries.old context.entry.env space size part.value part.next part.state }
+    ensures { resolved (to_expr result) actions.new temporaries.new ≡ address_in context.entry.now.section.stream.now context.entry.now.section.table.now actions.old temporaries.old context.entry.now.env space size part.value part.next part.state }
 {
     let kind = resolve_space(context.section, space)?;
     let (value, state) = read_operand(context, actions, temporaries, part.value, part.state)?;
@@ -126,14 +126,14 @@ fn address_in(
 // In the const space a local or a constant is itself.
 #[tactic(auto, unfolding(crate::specs::Addresses::resolve_address))]
 pub fn resolve_address(
-    context: Context<'_>,
+    context: &Context<'_>,
     actions: &mut [u64],
     temporaries: &mut [u64],
     space: u64,
     size: u64,
     part: Resolved<ExprValue>,
 ) -> Result<Resolved<ExprValue>, Refusal>
-    ensures { resolved (to_expr result) actions.new temporaries.new ≡ resolve_address context.entry.section.stream.now context.entry.section.table.now actions.old temporaries.old context.entry.env space size part.value part.next part.state }
+    ensures { resolved (to_expr result) actions.new temporaries.new ≡ resolve_address context.entry.now.section.stream.now context.entry.now.section.table.now actions.old temporaries.old context.entry.now.env space size part.value part.next part.state }
 {
     if space == access::u16_at(context.section.stream, header::CONST) {
         return in_const_space(part, size);

@@ -81,14 +81,14 @@ pub fn callee_of(section: Section<'_>, name: u64, count: u64) -> Result<Callee, 
 
 #[tactic(auto, unfolding(crate::specs::Calls::pass_arg, list_pushes::specs::Pushes::on_read))]
 fn pass_arg(
-    context: Context<'_>,
+    context: &Context<'_>,
     actions: &mut [u64],
     temporaries: &mut [u64],
     expr: ExprValue,
     index: u64,
     state: State,
 ) -> Result<State, Refusal>
-    ensures { pushed (to_pushed result) actions.new temporaries.new ≡ pass_arg context.entry.section.stream.now context.entry.section.table.now actions.old temporaries.old expr index context.entry.env state }
+    ensures { pushed (to_pushed result) actions.new temporaries.new ≡ pass_arg context.entry.now.section.stream.now context.entry.now.section.table.now actions.old temporaries.old expr index context.entry.now.env state }
 {
     let (value, state) = read_operand(context, actions, temporaries, expr, state)?;
     let arg = Operation {
@@ -102,14 +102,14 @@ fn pass_arg(
 // tell how many there are: the number stands beside.
 #[tactic(auto, using(crate::proofs::CallLaws::args_laws))]
 fn pass_args(
-    context: Context<'_>,
+    context: &Context<'_>,
     actions: &mut [u64],
     temporaries: &mut [u64],
     args: &[u64],
     count: u64,
     state: State,
 ) -> Result<State, Refusal>
-    ensures { pushed (to_pushed result) actions.new temporaries.new ≡ pass_args context.entry.section.stream.now context.entry.section.table.now actions.old temporaries.old args.now count context.entry.env state }
+    ensures { pushed (to_pushed result) actions.new temporaries.new ≡ pass_args context.entry.now.section.stream.now context.entry.now.section.table.now actions.old temporaries.old args.now count context.entry.now.env state }
 {
     let mut state = state;
     for i in 2..count {
@@ -132,7 +132,7 @@ pub fn applied(operation: Operation, next: usize, state: State) -> Resolved<Expr
 // A user op of n arguments that are resolved: it has the first two as its inputs.
 #[tactic(auto, unfolding(crate::specs::Calls::call_user_op, crate::specs::Calls::user_op_some, crate::specs::Calls::user_op_two, list_pushes::specs::Pushes::on_pushed, list_pushes::specs::Pushes::on_read))]
 pub fn call_user_op(
-    context: Context<'_>,
+    context: &Context<'_>,
     actions: &mut [u64],
     temporaries: &mut [u64],
     args: &[u64],
@@ -141,7 +141,7 @@ pub fn call_user_op(
     next: usize,
     state: State,
 ) -> Result<Resolved<ExprValue>, Refusal>
-    ensures { resolved (to_expr result) actions.new temporaries.new ≡ call_user_op context.entry.section.stream.now context.entry.section.table.now actions.old temporaries.old args.now count id next context.entry.env state }
+    ensures { resolved (to_expr result) actions.new temporaries.new ≡ call_user_op context.entry.now.section.stream.now context.entry.now.section.table.now actions.old temporaries.old args.now count id next context.entry.now.env state }
 {
     let state = pass_args(context, actions, temporaries, args, count, state)?;
     let call = Operation {
@@ -184,7 +184,7 @@ pub fn only_integer(stream: &[u8], pos: usize, count: u64) -> Option<u64>
 
 #[tactic(auto, unfolding(crate::specs::Calls::subpiece, crate::specs::Calls::subpiece_meant, crate::specs::Calls::subpiece_of, crate::specs::Calls::subpiece_from, crate::specs::Answers::expr_of))]
 pub fn subpiece(
-    context: Context<'_>,
+    context: &Context<'_>,
     scope: &[u64],
     actions: &mut [u64],
     temporaries: &mut [u64],
@@ -193,7 +193,7 @@ pub fn subpiece(
     count: u64,
     state: State,
 ) -> Result<Resolved<ExprValue>, Refusal>
-    ensures { resolved (to_expr result) actions.new temporaries.new ≡ subpiece context.entry.section.stream.now context.entry.section.table.now scope.now actions.old temporaries.old pos name count context.entry.env state }
+    ensures { resolved (to_expr result) actions.new temporaries.new ≡ subpiece context.entry.now.section.stream.now context.entry.now.section.table.now scope.now actions.old temporaries.old pos name count context.entry.now.env state }
 {
     let meant = resolve_ident(context, scope, name)?;
     let (value, state) = read_operand(context, actions, temporaries, meant, state)?;

@@ -22,13 +22,13 @@ fn low_bits(number: u64, bits: Bits) -> u64
 
 #[tactic(auto, unfolding(crate::specs::Slices::slice_read, crate::specs::Slices::unbound_then, crate::specs::Answers::expr_of, list_pushes::specs::Pushes::on_read))]
 fn slice_read(
-    context: Context<'_>,
+    context: &Context<'_>,
     actions: &mut [u64],
     temporaries: &mut [u64],
     part: Resolved<ExprValue>,
     bits: Bits,
 ) -> Result<Resolved<ExprValue>, Refusal>
-    ensures { resolved (to_expr result) actions.new temporaries.new ≡ slice_read context.entry.section.stream.now context.entry.section.table.now actions.old temporaries.old context.entry.env part.value bits.from bits.count part.next part.state }
+    ensures { resolved (to_expr result) actions.new temporaries.new ≡ slice_read context.entry.now.section.stream.now context.entry.now.section.table.now actions.old temporaries.old context.entry.now.env part.value bits.from bits.count part.next part.state }
 {
     let (whole, state) = read_operand(context, actions, temporaries, part.value, part.state)?;
     let (slice, state) = read_slice(context, actions, temporaries, whole, bits, None, state)?;
@@ -95,13 +95,13 @@ fn slice_range(
 // Bits of a part that is resolved.
 #[tactic(auto, unfolding(crate::specs::Slices::slice_bits))]
 pub fn slice_bits(
-    context: Context<'_>,
+    context: &Context<'_>,
     actions: &mut [u64],
     temporaries: &mut [u64],
     part: Resolved<ExprValue>,
     bits: Bits,
 ) -> Result<Resolved<ExprValue>, Refusal>
-    ensures { resolved (to_expr result) actions.new temporaries.new ≡ slice_bits context.entry.section.stream.now context.entry.section.table.now actions.old temporaries.old context.entry.env part.value bits.from bits.count part.next part.state }
+    ensures { resolved (to_expr result) actions.new temporaries.new ≡ slice_bits context.entry.now.section.stream.now context.entry.now.section.table.now actions.old temporaries.old context.entry.now.env part.value bits.from bits.count part.next part.state }
 {
     match part.value {
         ExprValue::Local(v) => Ok(Resolved {

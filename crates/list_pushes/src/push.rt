@@ -169,6 +169,7 @@ fn has_room(len: usize, end: usize) -> bool
 
 // An action of any kind with at most two inputs, pushed as it is.
 #[tactic(auto, unfolding(crate::specs::Pushes::push))]
+#[inline(always)]
 pub fn push(
     actions: &mut [u64],
     kind: u64,
@@ -189,6 +190,7 @@ pub fn push(
 
 // The rule of the action pushed last.
 #[tactic(auto, using(crate::proofs::PassLaws::pass_one), unfolding(crate::specs::Pushes::update_last, list_values::specs::Sizes::then_s))]
+#[inline(always)]
 fn update_last(
     section: Section<'_>,
     actions: &mut [u64],
@@ -207,15 +209,16 @@ fn update_last(
 }
 
 #[tactic(auto, unfolding(crate::specs::Pushes::push_op, crate::specs::Pushes::on_push, crate::specs::Pushes::on_state))]
+#[inline(always)]
 pub fn push_op(
-    context: Context<'_>,
+    context: &Context<'_>,
     actions: &mut [u64],
     temporaries: &mut [u64],
     operation: Operation,
     out: Value,
     state: State,
 ) -> Result<State, Refusal>
-    ensures { pushed (to_pushed result) actions.new temporaries.new ≡ push_op context.entry.section.stream.now context.entry.section.table.now actions.old temporaries.old context.entry.env operation.code operation.number operation.count out operation.first operation.second state }
+    ensures { pushed (to_pushed result) actions.new temporaries.new ≡ push_op context.entry.now.section.stream.now context.entry.now.section.table.now actions.old temporaries.old context.entry.now.env operation.code operation.number operation.count out operation.first operation.second state }
 {
     let at = state.end;
     let next = push(actions, action_kind::OP, operation, out, state)?;
@@ -231,15 +234,16 @@ pub fn push_op(
 
 // An operation with an output, and the output as its rule left it.
 #[tactic(auto, unfolding(crate::specs::Pushes::op_to, crate::specs::Pushes::on_pushed))]
+#[inline(always)]
 pub fn op_to(
-    context: Context<'_>,
+    context: &Context<'_>,
     actions: &mut [u64],
     temporaries: &mut [u64],
     operation: Operation,
     to: Value,
     state: State,
 ) -> Result<(Value, State), Refusal>
-    ensures { read (to_read result) actions.new temporaries.new ≡ op_to context.entry.section.stream.now context.entry.section.table.now actions.old temporaries.old context.entry.env operation.code operation.number operation.count to operation.first operation.second state }
+    ensures { read (to_read result) actions.new temporaries.new ≡ op_to context.entry.now.section.stream.now context.entry.now.section.table.now actions.old temporaries.old context.entry.now.env operation.code operation.number operation.count to operation.first operation.second state }
 {
     let at = state.end;
     let next = push_op(context, actions, temporaries, operation, to, state)?;
@@ -249,14 +253,14 @@ pub fn op_to(
 // The same, with a fresh temporary where no output is given.
 #[tactic(auto, unfolding(crate::specs::Pushes::op, crate::specs::Pushes::on_tmp))]
 pub fn op(
-    context: Context<'_>,
+    context: &Context<'_>,
     actions: &mut [u64],
     temporaries: &mut [u64],
     operation: Operation,
     to: Option<Value>,
     state: State,
 ) -> Result<(Value, State), Refusal>
-    ensures { read (to_read result) actions.new temporaries.new ≡ op context.entry.section.stream.now context.entry.section.table.now actions.old temporaries.old context.entry.env operation.code operation.number operation.count (is_some to) (unwrap_or to absent) operation.first operation.second state }
+    ensures { read (to_read result) actions.new temporaries.new ≡ op context.entry.now.section.stream.now context.entry.now.section.table.now actions.old temporaries.old context.entry.now.env operation.code operation.number operation.count (is_some to) (unwrap_or to absent) operation.first operation.second state }
 {
     let (value, next) = output_or(temporaries, to, NONE, state)?;
     op_to(context, actions, temporaries, operation, value, next)

@@ -61,6 +61,7 @@ fn tmp_size(temporaries: &[u64], index: u64) -> u64
 // small enough to be compiled into every place that asks for a size; and its last arms are two, since with one it is small enough
 // to be compiled into these two.
 #[tactic(auto, unfolding(crate::specs::Sizes::listed_size))]
+#[inline(never)]
 fn listed_size(section: Section<'_>, kind: u64, number: u64) -> u64
     ensures { result ≡ listed_size section.entry.stream.now section.entry.table.now kind number }
 {
@@ -75,6 +76,7 @@ fn listed_size(section: Section<'_>, kind: u64, number: u64) -> u64
 
 // The known size, 65,535 for none.
 #[tactic(auto, unfolding(crate::specs::Sizes::size_of, crate::specs::Sizes::size_of_local))]
+#[inline(always)]
 pub fn size_of(section: Section<'_>, temporaries: &[u64], value: Value) -> u64
     ensures { result ≡ size_of section.entry.stream.now section.entry.table.now temporaries.now value }
 {
@@ -89,6 +91,7 @@ pub fn size_of(section: Section<'_>, temporaries: &[u64], value: Value) -> u64
 
 // The known size of the operand there, from its words: no value is made of them, since each push asks for two or three sizes.
 #[tactic(auto, unfolding(crate::specs::Sizes::size_at, crate::specs::Sizes::size_of, crate::specs::Sizes::size_of_local, crate::specs::Values::value_at, crate::specs::Values::value_of))]
+#[inline(always)]
 fn size_at(section: Section<'_>, actions: &[u64], temporaries: &[u64], at: usize, index: u8) -> u64
     ensures { result ≡ size_at section.entry.stream.now section.entry.table.now actions.now temporaries.now at index }
 {
@@ -134,6 +137,7 @@ pub fn record_errors(sizing: Sizing, count: u64) -> Sizing
 }
 
 #[tactic(auto, unfolding(crate::specs::Sizes::size_temporary))]
+#[inline(always)]
 fn size_temporary(temporaries: &mut [u64], value: Value, size: u64)
     ensures { temporaries.new ≡ size_temporary temporaries.old value size }
 {
@@ -151,6 +155,7 @@ fn size_temporary(temporaries: &mut [u64], value: Value, size: u64)
 
 // A size set on a value whose known size was that one: 1 where that is an error, else 0, a number since callers add them.
 #[tactic(auto, unfolding(crate::specs::Sizes::settled, crate::specs::Sizes::error, crate::specs::Sizes::recorded))]
+#[inline(always)]
 pub fn settle(temporaries: &mut [u64], value: Value, known: u64, size: u64) -> u64
     ensures { Settles result temporaries.new (settled temporaries.old value known size) }
 {
@@ -166,6 +171,7 @@ pub fn settle(temporaries: &mut [u64], value: Value, known: u64, size: u64) -> u
 
 // Sets the size of the operand i after a position.
 #[tactic(auto, unfolding(crate::specs::Sizes::set_operand, crate::specs::Sizes::size_at, crate::specs::Base::then_l))]
+#[inline(always)]
 pub fn set_operand(
     section: Section<'_>,
     actions: &mut [u64],
@@ -184,6 +190,7 @@ pub fn set_operand(
 
 // The same of two operands, one after the other.
 #[tactic(auto, using(crate::proofs::SizeLaws::record_sum), unfolding(crate::specs::Sizes::set_two, crate::specs::Sizes::then_s))]
+#[inline(never)]
 pub fn set_two(
     section: Section<'_>,
     actions: &mut [u64],
@@ -201,6 +208,7 @@ pub fn set_two(
 }
 
 #[tactic(auto, using(crate::proofs::SizeLaws::record_sum), unfolding(crate::specs::Sizes::set_three, crate::specs::Sizes::then_s))]
+#[inline(never)]
 pub fn set_three(
     section: Section<'_>,
     actions: &mut [u64],
@@ -365,6 +373,7 @@ pub fn set_size_of_triple(
 
 // An operand with no known size takes pointer size.
 #[tactic(auto, unfolding(crate::specs::Sizes::set_unsized, crate::specs::Sizes::recorded))]
+#[inline(never)]
 pub fn set_unsized(
     section: Section<'_>,
     actions: &mut [u64],

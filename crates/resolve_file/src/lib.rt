@@ -87,11 +87,14 @@ fn walk_section(
     let pos = usize::from(access::get(table, table::STATEMENTS));
     let count = access::u16_at(section.stream, header::STATEMENTS);
     let ordinal = u64::from(access::get(table, table::FIRST_ORDINAL));
-    let env = start_env(pointer);
+    let context = Context {
+        section,
+        env: start_env(pointer),
+    };
     let walk = at_start(subtables);
     body(
         DEPTH,
-        Context { section, env },
+        &context,
         &mut scope,
         actions,
         temporaries,

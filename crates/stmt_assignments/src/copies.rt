@@ -34,7 +34,7 @@ fn mask_but(bits: Bits) -> u64
 // The bits of the value shifted to their place, and merged with the rest.
 #[tactic(auto, unfolding(crate::specs::Copies::merge_bits, list_pushes::specs::Pushes::on_read))]
 fn merge_bits(
-    context: Context<'_>,
+    context: &Context<'_>,
     actions: &mut [u64],
     temporaries: &mut [u64],
     to: Value,
@@ -43,7 +43,7 @@ fn merge_bits(
     from: u64,
     state: State,
 ) -> Result<(Value, State), Refusal>
-    ensures { read (to_read result) actions.new temporaries.new ≡ merge_bits context.entry.section.stream.now context.entry.section.table.now actions.old temporaries.old context.entry.env to prev tmp from state }
+    ensures { read (to_read result) actions.new temporaries.new ≡ merge_bits context.entry.now.section.stream.now context.entry.now.section.table.now actions.old temporaries.old context.entry.now.env to prev tmp from state }
 {
     let shift = Operation::binary(operation::INT_LEFT, tmp, constant(from));
     let (_, state) = op_to(context, actions, temporaries, shift, tmp, state)?;
@@ -54,7 +54,7 @@ fn merge_bits(
 // The value's bits in a temporary, and from there in their place.
 #[tactic(auto, unfolding(crate::specs::Copies::insert_in, crate::specs::Copies::extend_bits, expr_reading::specs::Reading::masked, list_pushes::specs::Pushes::on_read))]
 fn insert_in(
-    context: Context<'_>,
+    context: &Context<'_>,
     actions: &mut [u64],
     temporaries: &mut [u64],
     value: Value,
@@ -64,7 +64,7 @@ fn insert_in(
     bits: Bits,
     state: State,
 ) -> Result<(Value, State), Refusal>
-    ensures { read (to_read result) actions.new temporaries.new ≡ insert_in context.entry.section.stream.now context.entry.section.table.now actions.old temporaries.old context.entry.env value to prev tmp bits.from bits.count state }
+    ensures { read (to_read result) actions.new temporaries.new ≡ insert_in context.entry.now.section.stream.now context.entry.now.section.table.now actions.old temporaries.old context.entry.now.env value to prev tmp bits.from bits.count state }
 {
     let extend = Operation::unary(operation::ZERO_EXTEND, value);
     let (_, state) = masked(
@@ -90,7 +90,7 @@ fn insert_in(
 
 #[tactic(auto, unfolding(crate::specs::Copies::insert_bits, list_pushes::specs::Pushes::on_tmp))]
 fn insert_bits(
-    context: Context<'_>,
+    context: &Context<'_>,
     actions: &mut [u64],
     temporaries: &mut [u64],
     value: Value,
@@ -99,7 +99,7 @@ fn insert_bits(
     bits: Bits,
     state: State,
 ) -> Result<(Value, State), Refusal>
-    ensures { read (to_read result) actions.new temporaries.new ≡ insert_bits context.entry.section.stream.now context.entry.section.table.now actions.old temporaries.old context.entry.env value to prev bits.from bits.count state }
+    ensures { read (to_read result) actions.new temporaries.new ≡ insert_bits context.entry.now.section.stream.now context.entry.now.section.table.now actions.old temporaries.old context.entry.now.env value to prev bits.from bits.count state }
 {
     let size = size_of(context.section, temporaries, to);
     let (tmp, state) = add_tmp(temporaries, NONE, size, state)?;
@@ -119,7 +119,7 @@ fn insert_bits(
 // The bits of the target that stay, in a temporary; then those of the value.
 #[tactic(auto, unfolding(crate::specs::Copies::keep_bits, list_pushes::specs::Pushes::on_read))]
 fn keep_bits(
-    context: Context<'_>,
+    context: &Context<'_>,
     actions: &mut [u64],
     temporaries: &mut [u64],
     value: Value,
@@ -129,7 +129,7 @@ fn keep_bits(
     state: State,
 ) -> Result<(Value, State), Refusal>
     requires { bits.from < 64 }
-    ensures { read (to_read result) actions.new temporaries.new ≡ keep_bits context.entry.section.stream.now context.entry.section.table.now actions.old temporaries.old context.entry.env value to prev bits.from bits.count state }
+    ensures { read (to_read result) actions.new temporaries.new ≡ keep_bits context.entry.now.section.stream.now context.entry.now.section.table.now actions.old temporaries.old context.entry.now.env value to prev bits.from bits.count state }
 {
     let kept = Operation::binary(operation::INT_AND, to, constant(mask_but(bits)));
     let (_, state) = op_to(context, actions, temporaries, kept, prev, state)?;
@@ -138,7 +138,7 @@ fn keep_bits(
 
 #[tactic(auto, unfolding(crate::specs::Copies::write_bits, list_pushes::specs::Pushes::on_tmp))]
 fn write_bits(
-    context: Context<'_>,
+    context: &Context<'_>,
     actions: &mut [u64],
     temporaries: &mut [u64],
     value: Value,
@@ -146,7 +146,7 @@ fn write_bits(
     bits: Bits,
     state: State,
 ) -> Result<(Value, State), Refusal>
-    ensures { read (to_read result) actions.new temporaries.new ≡ write_bits context.entry.section.stream.now context.entry.section.table.now actions.old temporaries.old context.entry.env value to bits.from bits.count state }
+    ensures { read (to_read result) actions.new temporaries.new ≡ write_bits context.entry.now.section.stream.now context.entry.now.section.table.now actions.old temporaries.old context.entry.now.env value to bits.from bits.count state }
 {
     if 64 <= bits.from {
         return Err(Refusal::ShiftTooFar);
@@ -158,7 +158,7 @@ fn write_bits(
 
 #[tactic(auto, unfolding(crate::specs::Copies::copy_bits, list_pushes::specs::Pushes::on_read))]
 fn copy_bits(
-    context: Context<'_>,
+    context: &Context<'_>,
     actions: &mut [u64],
     temporaries: &mut [u64],
     expr: ExprValue,
@@ -166,7 +166,7 @@ fn copy_bits(
     bits: Bits,
     state: State,
 ) -> Result<(Value, State), Refusal>
-    ensures { read (to_read result) actions.new temporaries.new ≡ copy_bits context.entry.section.stream.now context.entry.section.table.now actions.old temporaries.old context.entry.env expr to bits.from bits.count state }
+    ensures { read (to_read result) actions.new temporaries.new ≡ copy_bits context.entry.now.section.stream.now context.entry.now.section.table.now actions.old temporaries.old context.entry.now.env expr to bits.from bits.count state }
 {
     let (value, state) = read_operand(context, actions, temporaries, expr, state)?;
     write_bits(context, actions, temporaries, value, to, bits, state)
@@ -175,7 +175,7 @@ fn copy_bits(
 // A range of whole bytes is a slice of the target.
 #[tactic(auto, unfolding(crate::specs::Copies::copy_bytes, crate::specs::Copies::read_sliced))]
 fn copy_bytes(
-    context: Context<'_>,
+    context: &Context<'_>,
     actions: &mut [u64],
     temporaries: &mut [u64],
     expr: ExprValue,
@@ -183,7 +183,7 @@ fn copy_bytes(
     bits: Bits,
     state: State,
 ) -> Result<(Value, State), Refusal>
-    ensures { read (to_read result) actions.new temporaries.new ≡ copy_bytes context.entry.section.stream.now context.entry.section.table.now actions.old temporaries.old context.entry.env expr to bits.from bits.count state }
+    ensures { read (to_read result) actions.new temporaries.new ≡ copy_bytes context.entry.now.section.stream.now context.entry.now.section.table.now actions.old temporaries.old context.entry.now.env expr to bits.from bits.count state }
 {
     let (slice, state) = sliced(to, bits.from / 8, bits.count / 8, state)?;
     read_value(context, actions, temporaries, expr, Some(slice), state)
@@ -191,7 +191,7 @@ fn copy_bytes(
 
 #[tactic(auto, unfolding(crate::specs::Copies::copy_range))]
 fn copy_range(
-    context: Context<'_>,
+    context: &Context<'_>,
     actions: &mut [u64],
     temporaries: &mut [u64],
     expr: ExprValue,
@@ -199,7 +199,7 @@ fn copy_range(
     bits: Bits,
     state: State,
 ) -> Result<(Value, State), Refusal>
-    ensures { read (to_read result) actions.new temporaries.new ≡ copy_range context.entry.section.stream.now context.entry.section.table.now actions.old temporaries.old context.entry.env expr to bits.from bits.count state }
+    ensures { read (to_read result) actions.new temporaries.new ≡ copy_range context.entry.now.section.stream.now context.entry.now.section.table.now actions.old temporaries.old context.entry.now.env expr to bits.from bits.count state }
 {
     if byte_aligned(bits) {
         return copy_bytes(context, actions, temporaries, expr, to, bits, state);
@@ -210,14 +210,14 @@ fn copy_range(
 // The source is read into a local, or into a place in RAM or a range of bits of one.
 #[tactic(auto, unfolding(crate::specs::Copies::copy_into, crate::specs::Copies::copy_ram, list_pushes::specs::Pushes::on_read, stmt_walk::specs::Walks::step_read, stmt_walk::specs::Walks::read_then))]
 fn copy_into(
-    context: Context<'_>,
+    context: &Context<'_>,
     actions: &mut [u64],
     temporaries: &mut [u64],
     source: ExprValue,
     target: Resolved<ExprValue>,
     walk: Walk,
 ) -> Result<(usize, Walk), Refusal>
-    ensures { stepped (to_step walk result) actions.new temporaries.new ≡ copy_into context.entry.section.stream.now context.entry.section.table.now actions.old temporaries.old context.entry.env source target.value target.next target.state (to_walk walk) }
+    ensures { stepped (to_step walk result) actions.new temporaries.new ≡ copy_into context.entry.now.section.stream.now context.entry.now.section.table.now actions.old temporaries.old context.entry.now.env source target.value target.next target.state (to_walk walk) }
 {
     let next = target.next;
     let state = target.state;
@@ -279,14 +279,14 @@ fn after_target(stream: &[u8], pos: usize) -> usize
 
 #[tactic(auto, unfolding(crate::specs::Copies::new_target, list_pushes::specs::Pushes::on_read))]
 fn new_target(
-    context: Context<'_>,
+    context: &Context<'_>,
     scope: &mut [u64],
     temporaries: &mut [u64],
     pos: usize,
     name: u64,
     state: State,
 ) -> Result<Resolved<ExprValue>, Refusal>
-    ensures { resolved (to_expr result) scope.new temporaries.new ≡ new_target context.entry.section.stream.now context.entry.section.table.now scope.old temporaries.old context.entry.env pos name state }
+    ensures { resolved (to_expr result) scope.new temporaries.new ≡ new_target context.entry.now.section.stream.now context.entry.now.section.table.now scope.old temporaries.old context.entry.now.env pos name state }
 {
     let size = target_size(context.section.stream, pos);
     let next = after_target(context.section.stream, pos);
@@ -301,12 +301,12 @@ fn new_target(
 // A bare name that is a plain local's, the usual target.
 #[tactic(auto, using(crate::proofs::CopyLaws::plain_given))]
 fn plain_target(
-    context: Context<'_>,
+    context: &Context<'_>,
     scope: &[u64],
     pos: usize,
     state: State,
 ) -> Option<Resolved<ExprValue>>
-    ensures { IfSome result (λ r. (a m : List ℕ) → targeted (to_expr (Ok r)) scope.now a m ≡ resolve_dst context.entry.section.stream.now context.entry.section.table.now scope.now a m context.entry.env pos state) }
+    ensures { IfSome result (λ r. (a m : List ℕ) → targeted (to_expr (Ok r)) scope.now a m ≡ resolve_dst context.entry.now.section.stream.now context.entry.now.section.table.now scope.now a m context.entry.now.env pos state) }
 {
     if access::byte(context.section.stream, pos, 0) != expression::IDENT {
         return None;
@@ -323,14 +323,14 @@ fn plain_target(
 // An unknown or disallowed name as target becomes a temporary.
 #[tactic(auto, unfolding(crate::specs::Copies::resolve_dst, crate::specs::Copies::beside_a, crate::specs::Copies::in_scope, crate::specs::Copies::is_new, crate::specs::Copies::is_wrong, expr_terms::specs::Answers::given))]
 fn resolve_dst(
-    context: Context<'_>,
+    context: &Context<'_>,
     scope: &mut [u64],
     actions: &mut [u64],
     temporaries: &mut [u64],
     pos: usize,
     state: State,
 ) -> Result<Resolved<ExprValue>, Refusal>
-    ensures { targeted (to_expr result) scope.new actions.new temporaries.new ≡ resolve_dst context.entry.section.stream.now context.entry.section.table.now scope.old actions.old temporaries.old context.entry.env pos state }
+    ensures { targeted (to_expr result) scope.new actions.new temporaries.new ≡ resolve_dst context.entry.now.section.stream.now context.entry.now.section.table.now scope.old actions.old temporaries.old context.entry.now.env pos state }
 {
     if let Some(target) = plain_target(context, scope, pos, state) {
         return Ok(target);
@@ -345,14 +345,14 @@ fn resolve_dst(
 
 #[tactic(auto, unfolding(crate::specs::Copies::copy_target, crate::specs::Copies::on_target, stmt_walk::specs::Walks::beside_p))]
 fn copy_target(
-    context: Context<'_>,
+    context: &Context<'_>,
     scope: &mut [u64],
     actions: &mut [u64],
     temporaries: &mut [u64],
     source: Resolved<ExprValue>,
     walk: Walk,
 ) -> Result<(usize, Walk), Refusal>
-    ensures { walked (to_step walk result) scope.new actions.new temporaries.new ≡ copy_target context.entry.section.stream.now context.entry.section.table.now scope.old actions.old temporaries.old context.entry.env source.value source.next source.state (to_walk walk) }
+    ensures { walked (to_step walk result) scope.new actions.new temporaries.new ≡ copy_target context.entry.now.section.stream.now context.entry.now.section.table.now scope.old actions.old temporaries.old context.entry.now.env source.value source.next source.state (to_walk walk) }
 {
     let target = resolve_dst(
         context,
@@ -367,14 +367,14 @@ fn copy_target(
 
 #[tactic(auto, unfolding(crate::specs::Copies::copy_statement, expr_terms::specs::Answers::on_expr))]
 pub fn copy_statement(
-    context: Context<'_>,
+    context: &Context<'_>,
     scope: &mut [u64],
     actions: &mut [u64],
     temporaries: &mut [u64],
     pos: usize,
     walk: Walk,
 ) -> Result<(usize, Walk), Refusal>
-    ensures { walked (to_step walk result) scope.new actions.new temporaries.new ≡ copy_statement context.entry.section.stream.now context.entry.section.table.now scope.old actions.old temporaries.old context.entry.env pos (to_walk walk) }
+    ensures { walked (to_step walk result) scope.new actions.new temporaries.new ≡ copy_statement context.entry.now.section.stream.now context.entry.now.section.table.now scope.old actions.old temporaries.old context.entry.now.env pos (to_walk walk) }
 {
     let at = after(pos, 1);
     let source = resolve_expr(DEPTH, context, scope, at, actions, temporaries, walk.st)?;

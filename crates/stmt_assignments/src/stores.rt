@@ -20,14 +20,14 @@ use stmt_walk::walk::Walk;
 
 #[tactic(auto, unfolding(crate::specs::Stores::store, crate::specs::Stores::store_stated, stmt_walk::specs::Walks::step_pushed, stmt_walk::specs::Walks::pushed_then))]
 pub fn store(
-    context: Context<'_>,
+    context: &Context<'_>,
     actions: &mut [u64],
     temporaries: &mut [u64],
     to: Access,
     stored: Resolved<Value>,
     walk: Walk,
 ) -> Result<(usize, Walk), Refusal>
-    ensures { stepped (to_step walk result) actions.new temporaries.new ≡ store context.entry.section.stream.now context.entry.section.table.now actions.old temporaries.old context.entry.env to.pointer to.size stored.value stored.next stored.state (to_walk walk) }
+    ensures { stepped (to_step walk result) actions.new temporaries.new ≡ store context.entry.now.section.stream.now context.entry.now.section.table.now actions.old temporaries.old context.entry.now.env to.pointer to.size stored.value stored.next stored.state (to_walk walk) }
 {
     let stated = take_stated(
         context.section,
@@ -70,14 +70,14 @@ fn store_register(
 
 #[tactic(auto, unfolding(crate::specs::Stores::store_at))]
 fn store_at(
-    context: Context<'_>,
+    context: &Context<'_>,
     actions: &mut [u64],
     temporaries: &mut [u64],
     expr: ExprValue,
     stored: Resolved<Value>,
     walk: Walk,
 ) -> Result<(usize, Walk), Refusal>
-    ensures { stepped (to_step walk result) actions.new temporaries.new ≡ store_at context.entry.section.stream.now context.entry.section.table.now actions.old temporaries.old context.entry.env expr stored.value stored.next stored.state (to_walk walk) }
+    ensures { stepped (to_step walk result) actions.new temporaries.new ≡ store_at context.entry.now.section.stream.now context.entry.now.section.table.now actions.old temporaries.old context.entry.now.env expr stored.value stored.next stored.state (to_walk walk) }
 {
     match expr {
         ExprValue::RamRef(to) => store(context, actions, temporaries, to, stored, walk),
@@ -101,7 +101,7 @@ fn store_at(
 // In the space and of the size that stand at a position.
 #[tactic(auto, unfolding(crate::specs::Stores::store_in, expr_terms::specs::Answers::on_expr))]
 fn store_in(
-    context: Context<'_>,
+    context: &Context<'_>,
     actions: &mut [u64],
     temporaries: &mut [u64],
     pos: usize,
@@ -109,7 +109,7 @@ fn store_in(
     stored: Resolved<Value>,
     walk: Walk,
 ) -> Result<(usize, Walk), Refusal>
-    ensures { stepped (to_step walk result) actions.new temporaries.new ≡ store_in context.entry.section.stream.now context.entry.section.table.now actions.old temporaries.old context.entry.env pos expr stored.value stored.next stored.state (to_walk walk) }
+    ensures { stepped (to_step walk result) actions.new temporaries.new ≡ store_in context.entry.now.section.stream.now context.entry.now.section.table.now actions.old temporaries.old context.entry.now.env pos expr stored.value stored.next stored.state (to_walk walk) }
 {
     let space = u16_in(context.section.stream, pos, 1);
     let size = u16_in(context.section.stream, pos, 3);
@@ -129,7 +129,7 @@ fn store_in(
 
 #[tactic(auto, unfolding(crate::specs::Stores::store_pointer, expr_terms::specs::Answers::on_expr))]
 fn store_pointer(
-    context: Context<'_>,
+    context: &Context<'_>,
     scope: &[u64],
     actions: &mut [u64],
     temporaries: &mut [u64],
@@ -137,7 +137,7 @@ fn store_pointer(
     stored: Resolved<Value>,
     walk: Walk,
 ) -> Result<(usize, Walk), Refusal>
-    ensures { stepped (to_step walk result) actions.new temporaries.new ≡ store_pointer context.entry.section.stream.now context.entry.section.table.now scope.now actions.old temporaries.old context.entry.env pos stored.value stored.next stored.state (to_walk walk) }
+    ensures { stepped (to_step walk result) actions.new temporaries.new ≡ store_pointer context.entry.now.section.stream.now context.entry.now.section.table.now scope.now actions.old temporaries.old context.entry.now.env pos stored.value stored.next stored.state (to_walk walk) }
 {
     let at = after(pos, 5);
     let state = stored.state;
@@ -158,14 +158,14 @@ fn store_pointer(
 // The value stands behind the pointer.
 #[tactic(auto, unfolding(crate::specs::Stores::store_statement, expr_terms::specs::Answers::on_operand))]
 pub fn store_statement(
-    context: Context<'_>,
+    context: &Context<'_>,
     scope: &[u64],
     actions: &mut [u64],
     temporaries: &mut [u64],
     pos: usize,
     walk: Walk,
 ) -> Result<(usize, Walk), Refusal>
-    ensures { stepped (to_step walk result) actions.new temporaries.new ≡ store_statement context.entry.section.stream.now context.entry.section.table.now scope.now actions.old temporaries.old context.entry.env pos (to_walk walk) }
+    ensures { stepped (to_step walk result) actions.new temporaries.new ≡ store_statement context.entry.now.section.stream.now context.entry.now.section.table.now scope.now actions.old temporaries.old context.entry.now.env pos (to_walk walk) }
 {
     let pointer = after(pos, 5);
     let value_at = skip_expr(context.section.stream, pointer);

@@ -29,14 +29,14 @@ const MOST_STATEMENTS: u64 = 4096;
 #[tactic(auto, unfolding(crate::specs::Statements::simple, crate::specs::Statements::beside_a, stmt_walk::specs::Walks::beside_p, list_values::specs::Base::then_l))]
 fn simple(
     code: u64,
-    context: Context<'_>,
+    context: &Context<'_>,
     scope: &mut [u64],
     actions: &mut [u64],
     temporaries: &mut [u64],
     pos: usize,
     walk: Walk,
 ) -> Result<(usize, Walk), Refusal>
-    ensures { walked (to_step walk result) scope.new actions.new temporaries.new ≡ simple code context.entry.section.stream.now context.entry.section.table.now scope.old actions.old temporaries.old context.entry.env pos (to_walk walk) }
+    ensures { walked (to_step walk result) scope.new actions.new temporaries.new ≡ simple code context.entry.now.section.stream.now context.entry.now.section.table.now scope.old actions.old temporaries.old context.entry.now.env pos (to_walk walk) }
 {
     match code {
         statement::UNIMPLEMENTED => { unimplemented(context, actions, temporaries, pos, walk) }
@@ -55,14 +55,14 @@ fn simple(
 #[tactic(auto, unfolding(crate::specs::Statements::other_statement))]
 fn other_statement(
     code: u64,
-    context: Context<'_>,
+    context: &Context<'_>,
     scope: &mut [u64],
     actions: &mut [u64],
     temporaries: &mut [u64],
     pos: usize,
     walk: Walk,
 ) -> Result<(usize, Walk), Stopped>
-    ensures { walked (to_steps result) scope.new actions.new temporaries.new ≡ other_statement code context.entry.section.stream.now context.entry.section.table.now scope.old actions.old temporaries.old context.entry.env pos (to_walk walk) }
+    ensures { walked (to_steps result) scope.new actions.new temporaries.new ≡ other_statement code context.entry.now.section.stream.now context.entry.now.section.table.now scope.old actions.old temporaries.old context.entry.now.env pos (to_walk walk) }
 {
     match code {
         statement::BRANCH => branch(context, scope, actions, temporaries, pos, walk),
@@ -150,7 +150,7 @@ fn first_ordinal(table: &[u16; table::LENGTH], id: u64) -> u64
 #[tactic(auto, using(crate::proofs::StatementLaws::enter_laws))]
 fn enter(
     deep: u64,
-    context: Context<'_>,
+    context: &Context<'_>,
     scope: &mut [u64],
     actions: &mut [u64],
     temporaries: &mut [u64],
@@ -160,7 +160,7 @@ fn enter(
     state: State,
     walk: Walk,
 ) -> Result<(usize, Walk), Stopped>
-    ensures { walked (to_steps result) scope.new actions.new temporaries.new ≡ enter_macro deep context.entry.section.stream.now context.entry.section.table.now scope.old actions.old temporaries.old context.entry.env id arguments next state (to_walk walk) }
+    ensures { walked (to_steps result) scope.new actions.new temporaries.new ≡ enter_macro deep context.entry.now.section.stream.now context.entry.now.section.table.now scope.old actions.old temporaries.old context.entry.now.env id arguments next state (to_walk walk) }
 {
     if deep == 0 {
         return Err(stop(walk, Refusal::MacroTooDeep));
@@ -169,14 +169,14 @@ fn enter(
     let count = u16_in(context.section.stream, start, 0);
     let inner = Context {
         env: macro_env(context.env, arguments),
-        ..context
+        ..*context
     };
     let first = first_ordinal(context.section.table, id);
     let from = after(start, 2);
     let walk = Walk { st: state, ..walk };
     let (_, walk) = body(
         deep - 1,
-        inner,
+        &inner,
         scope,
         actions,
         temporaries,
@@ -192,7 +192,7 @@ fn enter(
 #[tactic(auto, unfolding(crate::specs::Statements::macro_statement, expr_terms::specs::Answers::on_args, stmt_walk::specs::Walks::without_p))]
 fn macro_statement(
     deep: u64,
-    context: Context<'_>,
+    context: &Context<'_>,
     scope: &[u64],
     actions: &mut [u64],
     temporaries: &mut [u64],
@@ -201,7 +201,7 @@ fn macro_statement(
     arguments: u64,
     walk: Walk,
 ) -> Result<(usize, Walk), Stopped>
-    ensures { stepped (to_steps result) actions.new temporaries.new ≡ macro_statement (enter_macro deep context.entry.section.stream.now context.entry.section.table.now) context.entry.section.stream.now context.entry.section.table.now scope.now actions.old temporaries.old context.entry.env pos id arguments (to_walk walk) }
+    ensures { stepped (to_steps result) actions.new temporaries.new ≡ macro_statement (enter_macro deep context.entry.now.section.stream.now context.entry.now.section.table.now) context.entry.now.section.stream.now context.entry.now.section.table.now scope.now actions.old temporaries.old context.entry.now.env pos id arguments (to_walk walk) }
 {
     let mut inner = [0u64; SCOPE_WORDS];
     let (next, state) = macro_args(
@@ -234,14 +234,14 @@ fn macro_statement(
 #[tactic(auto, unfolding(crate::specs::Statements::call_statement, crate::specs::Statements::call_named, list_values::specs::Base::then_l))]
 fn call_statement(
     deep: u64,
-    context: Context<'_>,
+    context: &Context<'_>,
     scope: &[u64],
     actions: &mut [u64],
     temporaries: &mut [u64],
     pos: usize,
     walk: Walk,
 ) -> Result<(usize, Walk), Stopped>
-    ensures { stepped (to_steps result) actions.new temporaries.new ≡ call_statement (enter_macro deep context.entry.section.stream.now context.entry.section.table.now) context.entry.section.stream.now context.entry.section.table.now scope.now actions.old temporaries.old context.entry.env pos (to_walk walk) }
+    ensures { stepped (to_steps result) actions.new temporaries.new ≡ call_statement (enter_macro deep context.entry.now.section.stream.now context.entry.now.section.table.now) context.entry.now.section.stream.now context.entry.now.section.table.now scope.now actions.old temporaries.old context.entry.now.env pos (to_walk walk) }
 {
     let n = access::byte(context.section.stream, pos, 3);
     let name = u16_in(context.section.stream, pos, 1);
@@ -264,7 +264,7 @@ fn call_statement(
 #[tactic(auto, unfolding(crate::specs::Statements::resolve_statement, crate::specs::Statements::statement_begun, crate::specs::Statements::statement_by, stmt_walk::specs::Walks::beside_p))]
 fn statement(
     deep: u64,
-    context: Context<'_>,
+    context: &Context<'_>,
     scope: &mut [u64],
     actions: &mut [u64],
     temporaries: &mut [u64],
@@ -272,7 +272,7 @@ fn statement(
     ordinal: u64,
     walk: Walk,
 ) -> Result<(usize, Walk), Stopped>
-    ensures { walked (to_steps result) scope.new actions.new temporaries.new ≡ resolve_statement (enter_macro deep context.entry.section.stream.now context.entry.section.table.now) context.entry.section.stream.now context.entry.section.table.now context.entry.env pos ordinal scope.old actions.old temporaries.old (to_walk walk) }
+    ensures { walked (to_steps result) scope.new actions.new temporaries.new ≡ resolve_statement (enter_macro deep context.entry.now.section.stream.now context.entry.now.section.table.now) context.entry.now.section.stream.now context.entry.now.section.table.now context.entry.now.env pos ordinal scope.old actions.old temporaries.old (to_walk walk) }
 {
     let walk = begin(walk, ordinal)?;
     let code = access::byte(context.section.stream, pos, 0);
@@ -297,7 +297,7 @@ fn forward(pos: usize, next: usize, len: usize) -> bool
 #[tactic(auto, using(crate::proofs::StatementLaws::body_laws))]
 pub fn body(
     deep: u64,
-    context: Context<'_>,
+    context: &Context<'_>,
     scope: &mut [u64],
     actions: &mut [u64],
     temporaries: &mut [u64],
@@ -306,7 +306,7 @@ pub fn body(
     ordinal: u64,
     walk: Walk,
 ) -> Result<(usize, Walk), Stopped>
-    ensures { walked (to_steps result) scope.new actions.new temporaries.new ≡ resolve_body deep context.entry.section.stream.now context.entry.section.table.now scope.old actions.old temporaries.old context.entry.env pos count ordinal (to_walk walk) }
+    ensures { walked (to_steps result) scope.new actions.new temporaries.new ≡ resolve_body deep context.entry.now.section.stream.now context.entry.now.section.table.now scope.old actions.old temporaries.old context.entry.now.env pos count ordinal (to_walk walk) }
 {
     let mut at = pos;
     let mut walk = walk;

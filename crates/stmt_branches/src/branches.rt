@@ -20,14 +20,14 @@ use stmt_walk::walk::{Stopped, Walk, stop};
 
 #[tactic(auto, unfolding(crate::specs::Branches::push_label, stmt_walk::specs::Walks::step_pushed, stmt_walk::specs::Walks::pushed_then))]
 fn push_label(
-    context: Context<'_>,
+    context: &Context<'_>,
     actions: &mut [u64],
     temporaries: &mut [u64],
     id: u64,
     next: usize,
     walk: Walk,
 ) -> Result<(usize, Walk), Refusal>
-    ensures { stepped (to_step walk result) actions.new temporaries.new ≡ push_label context.entry.section.stream.now context.entry.section.table.now actions.old temporaries.old context.entry.env id next (to_walk walk) }
+    ensures { stepped (to_step walk result) actions.new temporaries.new ≡ push_label context.entry.now.section.stream.now context.entry.now.section.table.now actions.old temporaries.old context.entry.now.env id next (to_walk walk) }
 {
     let label = Operation {
         number: id,
@@ -39,14 +39,14 @@ fn push_label(
 
 #[tactic(auto, unfolding(crate::specs::Branches::label_statement, crate::specs::Labels::on_label, stmt_walk::specs::Walks::beside_p))]
 pub fn label_statement(
-    context: Context<'_>,
+    context: &Context<'_>,
     scope: &mut [u64],
     actions: &mut [u64],
     temporaries: &mut [u64],
     pos: usize,
     walk: Walk,
 ) -> Result<(usize, Walk), Refusal>
-    ensures { walked (to_step walk result) scope.new actions.new temporaries.new ≡ label_statement context.entry.section.stream.now context.entry.section.table.now scope.old actions.old temporaries.old context.entry.env pos (to_walk walk) }
+    ensures { walked (to_step walk result) scope.new actions.new temporaries.new ≡ label_statement context.entry.now.section.stream.now context.entry.now.section.table.now scope.old actions.old temporaries.old context.entry.now.env pos (to_walk walk) }
 {
     let id = resolve_label(scope, u16_in(context.section.stream, pos, 1), walk.labels)?;
     push_label(context, actions, temporaries, id, after(pos, 3), walk)
@@ -54,14 +54,14 @@ pub fn label_statement(
 
 #[tactic(auto, unfolding(crate::specs::Branches::branch_to, stmt_walk::specs::Walks::step_pushed, stmt_walk::specs::Walks::pushed_then))]
 fn branch_to(
-    context: Context<'_>,
+    context: &Context<'_>,
     actions: &mut [u64],
     temporaries: &mut [u64],
     cond: Resolved<Value>,
     address: Value,
     walk: Walk,
 ) -> Result<(usize, Walk), Refusal>
-    ensures { stepped (to_step walk result) actions.new temporaries.new ≡ branch_to context.entry.section.stream.now context.entry.section.table.now actions.old temporaries.old context.entry.env cond.value address cond.next cond.state (to_walk walk) }
+    ensures { stepped (to_step walk result) actions.new temporaries.new ≡ branch_to context.entry.now.section.stream.now context.entry.now.section.table.now actions.old temporaries.old context.entry.now.env cond.value address cond.next cond.state (to_walk walk) }
 {
     let hint = cond.next;
     let branch = Operation {
@@ -81,14 +81,14 @@ fn branch_to(
 
 #[tactic(auto, unfolding(crate::specs::Branches::branch_label, stmt_walk::specs::Walks::step_pushed, stmt_walk::specs::Walks::pushed_then))]
 fn branch_label(
-    context: Context<'_>,
+    context: &Context<'_>,
     actions: &mut [u64],
     temporaries: &mut [u64],
     id: u64,
     cond: Resolved<Value>,
     walk: Walk,
 ) -> Result<(usize, Walk), Stopped>
-    ensures { stepped (to_steps result) actions.new temporaries.new ≡ branch_label context.entry.section.stream.now context.entry.section.table.now actions.old temporaries.old context.entry.env id cond.value cond.next cond.state (to_walk walk) }
+    ensures { stepped (to_steps result) actions.new temporaries.new ≡ branch_label context.entry.now.section.stream.now context.entry.now.section.table.now actions.old temporaries.old context.entry.now.env id cond.value cond.next cond.state (to_walk walk) }
 {
     let here = labelled(walk, cond.state, id, 0);
     let branch = Operation {
@@ -110,14 +110,14 @@ fn branch_label(
 // The label's name stands where the condition ends.
 #[tactic(auto, unfolding(crate::specs::Branches::label_branch, crate::specs::Labels::on_label, stmt_walk::specs::Walks::beside_p))]
 fn label_branch(
-    context: Context<'_>,
+    context: &Context<'_>,
     scope: &mut [u64],
     actions: &mut [u64],
     temporaries: &mut [u64],
     cond: Resolved<Value>,
     walk: Walk,
 ) -> Result<(usize, Walk), Stopped>
-    ensures { walked (to_steps result) scope.new actions.new temporaries.new ≡ label_branch context.entry.section.stream.now context.entry.section.table.now scope.old actions.old temporaries.old context.entry.env cond.next cond.value cond.state (to_walk walk) }
+    ensures { walked (to_steps result) scope.new actions.new temporaries.new ≡ label_branch context.entry.now.section.stream.now context.entry.now.section.table.now scope.old actions.old temporaries.old context.entry.now.env cond.next cond.value cond.state (to_walk walk) }
 {
     let name = u16_in(context.section.stream, cond.next, 1);
     let id = get_or_insert_label(scope, name, walk.labels).map_err(|refusal| stop(walk, refusal))?;
@@ -134,8 +134,8 @@ fn label_branch(
 
 // What a jump goes to: a name, or an integer with a size.
 #[tactic(auto, unfolding(crate::specs::Branches::jump_value))]
-fn jump_value(context: Context<'_>, scope: &[u64], pos: usize) -> Result<ExprValue, Refusal>
-    ensures { to_meaning result ≡ jump_value context.entry.section.stream.now context.entry.section.table.now scope.now pos context.entry.env }
+fn jump_value(context: &Context<'_>, scope: &[u64], pos: usize) -> Result<ExprValue, Refusal>
+    ensures { to_meaning result ≡ jump_value context.entry.now.section.stream.now context.entry.now.section.table.now scope.now pos context.entry.now.env }
 {
     if access::byte(context.section.stream, pos, 0) == statement::JUMP_IDENT {
         return resolve_ident(context, scope, u16_in(context.section.stream, pos, 1));
@@ -173,14 +173,14 @@ fn direct_address(value: Value, pointer: u64) -> Value
 
 #[tactic(auto, unfolding(crate::specs::Branches::direct))]
 fn direct(
-    context: Context<'_>,
+    context: &Context<'_>,
     actions: &mut [u64],
     temporaries: &mut [u64],
     expr: ExprValue,
     cond: Resolved<Value>,
     walk: Walk,
 ) -> Result<(usize, Walk), Refusal>
-    ensures { stepped (to_step walk result) actions.new temporaries.new ≡ direct context.entry.section.stream.now context.entry.section.table.now actions.old temporaries.old context.entry.env expr cond.value cond.next cond.state (to_walk walk) }
+    ensures { stepped (to_step walk result) actions.new temporaries.new ≡ direct context.entry.now.section.stream.now context.entry.now.section.table.now actions.old temporaries.old context.entry.now.env expr cond.value cond.next cond.state (to_walk walk) }
 {
     match expr {
         ExprValue::Local(v) => {
@@ -199,14 +199,14 @@ fn direct(
 
 #[tactic(auto, unfolding(crate::specs::Branches::indirect, list_pushes::specs::Pushes::on_read))]
 fn indirect(
-    context: Context<'_>,
+    context: &Context<'_>,
     actions: &mut [u64],
     temporaries: &mut [u64],
     expr: ExprValue,
     cond: Resolved<Value>,
     walk: Walk,
 ) -> Result<(usize, Walk), Refusal>
-    ensures { stepped (to_step walk result) actions.new temporaries.new ≡ indirect context.entry.section.stream.now context.entry.section.table.now actions.old temporaries.old context.entry.env expr cond.value cond.next cond.state (to_walk walk) }
+    ensures { stepped (to_step walk result) actions.new temporaries.new ≡ indirect context.entry.now.section.stream.now context.entry.now.section.table.now actions.old temporaries.old context.entry.now.env expr cond.value cond.next cond.state (to_walk walk) }
 {
     let (address, state) = read_operand(context, actions, temporaries, expr, cond.state)?;
     branch_to(
@@ -222,14 +222,14 @@ fn indirect(
 #[tactic(auto, unfolding(crate::specs::Branches::jump_to))]
 fn jump_to(
     code: u64,
-    context: Context<'_>,
+    context: &Context<'_>,
     actions: &mut [u64],
     temporaries: &mut [u64],
     expr: ExprValue,
     cond: Resolved<Value>,
     walk: Walk,
 ) -> Result<(usize, Walk), Refusal>
-    ensures { stepped (to_step walk result) actions.new temporaries.new ≡ jump_to code context.entry.section.stream.now context.entry.section.table.now actions.old temporaries.old context.entry.env expr cond.value cond.next cond.state (to_walk walk) }
+    ensures { stepped (to_step walk result) actions.new temporaries.new ≡ jump_to code context.entry.now.section.stream.now context.entry.now.section.table.now actions.old temporaries.old context.entry.now.env expr cond.value cond.next cond.state (to_walk walk) }
 {
     if code == statement::DST_DIRECT {
         return direct(context, actions, temporaries, expr, cond, walk);
@@ -240,14 +240,14 @@ fn jump_to(
 // Where a jump goes stands where the condition ends.
 #[tactic(auto, unfolding(crate::specs::Branches::jump, crate::specs::Branches::jump_meant))]
 fn jump(
-    context: Context<'_>,
+    context: &Context<'_>,
     scope: &[u64],
     actions: &mut [u64],
     temporaries: &mut [u64],
     cond: Resolved<Value>,
     walk: Walk,
 ) -> Result<(usize, Walk), Refusal>
-    ensures { stepped (to_step walk result) actions.new temporaries.new ≡ jump context.entry.section.stream.now context.entry.section.table.now scope.now actions.old temporaries.old context.entry.env cond.next cond.value cond.state (to_walk walk) }
+    ensures { stepped (to_step walk result) actions.new temporaries.new ≡ jump context.entry.now.section.stream.now context.entry.now.section.table.now scope.now actions.old temporaries.old context.entry.now.env cond.next cond.value cond.state (to_walk walk) }
 {
     let target = after(cond.next, 1);
     let code = access::byte(context.section.stream, cond.next, 0);
@@ -266,14 +266,14 @@ fn jump(
 
 #[tactic(auto, unfolding(crate::specs::Branches::resolve_branch, stmt_walk::specs::Walks::beside_p))]
 fn resolve_branch(
-    context: Context<'_>,
+    context: &Context<'_>,
     scope: &mut [u64],
     actions: &mut [u64],
     temporaries: &mut [u64],
     cond: Resolved<Value>,
     walk: Walk,
 ) -> Result<(usize, Walk), Stopped>
-    ensures { walked (to_steps result) scope.new actions.new temporaries.new ≡ resolve_branch context.entry.section.stream.now context.entry.section.table.now scope.old actions.old temporaries.old context.entry.env cond.next cond.value cond.state (to_walk walk) }
+    ensures { walked (to_steps result) scope.new actions.new temporaries.new ≡ resolve_branch context.entry.now.section.stream.now context.entry.now.section.table.now scope.old actions.old temporaries.old context.entry.now.env cond.next cond.value cond.state (to_walk walk) }
 {
     if access::byte(context.section.stream, cond.next, 0) == statement::DST_LABEL {
         return label_branch(context, scope, actions, temporaries, cond, walk);
@@ -283,14 +283,14 @@ fn resolve_branch(
 
 #[tactic(auto, unfolding(crate::specs::Branches::branch))]
 pub fn branch(
-    context: Context<'_>,
+    context: &Context<'_>,
     scope: &mut [u64],
     actions: &mut [u64],
     temporaries: &mut [u64],
     pos: usize,
     walk: Walk,
 ) -> Result<(usize, Walk), Stopped>
-    ensures { walked (to_steps result) scope.new actions.new temporaries.new ≡ branch context.entry.section.stream.now context.entry.section.table.now scope.old actions.old temporaries.old context.entry.env pos (to_walk walk) }
+    ensures { walked (to_steps result) scope.new actions.new temporaries.new ≡ branch context.entry.now.section.stream.now context.entry.now.section.table.now scope.old actions.old temporaries.old context.entry.now.env pos (to_walk walk) }
 {
     let always = Resolved {
         value: constant(1),
@@ -302,14 +302,14 @@ pub fn branch(
 
 #[tactic(auto, unfolding(crate::specs::Branches::cond_branch, expr_terms::specs::Answers::on_operand))]
 pub fn cond_branch(
-    context: Context<'_>,
+    context: &Context<'_>,
     scope: &mut [u64],
     actions: &mut [u64],
     temporaries: &mut [u64],
     pos: usize,
     walk: Walk,
 ) -> Result<(usize, Walk), Stopped>
-    ensures { walked (to_steps result) scope.new actions.new temporaries.new ≡ cond_branch context.entry.section.stream.now context.entry.section.table.now scope.old actions.old temporaries.old context.entry.env pos (to_walk walk) }
+    ensures { walked (to_steps result) scope.new actions.new temporaries.new ≡ cond_branch context.entry.now.section.stream.now context.entry.now.section.table.now scope.old actions.old temporaries.old context.entry.now.env pos (to_walk walk) }
 {
     let at = after(pos, 1);
     let cond = expr_value(DEPTH, context, scope, at, actions, temporaries, walk.st).map_err(

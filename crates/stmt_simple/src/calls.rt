@@ -87,14 +87,14 @@ pub fn delay_slot(
 // parameters do, so these loops count arguments, and their number stands beside the words.
 #[tactic(auto, using(crate::proofs::CallLaws::args_laws))]
 fn read_args(
-    context: Context<'_>,
+    context: &Context<'_>,
     actions: &mut [u64],
     temporaries: &mut [u64],
     args: &mut [u64],
     count: u64,
     state: State,
 ) -> Result<State, Refusal>
-    ensures { args_read (to_pushed result) actions.new temporaries.new args.new ≡ read_args count 0 context.entry.section.stream.now context.entry.section.table.now actions.old temporaries.old args.old context.entry.env state }
+    ensures { args_read (to_pushed result) actions.new temporaries.new args.new ≡ read_args count 0 context.entry.now.section.stream.now context.entry.now.section.table.now actions.old temporaries.old args.old context.entry.now.env state }
 {
     let mut state = state;
     for i in 0..count {
@@ -139,7 +139,7 @@ fn push_user_op(
 
 #[tactic(auto, unfolding(crate::specs::Calls::user_op_args, crate::specs::Calls::user_op_read, list_values::specs::Base::then_l))]
 fn user_op_args(
-    context: Context<'_>,
+    context: &Context<'_>,
     actions: &mut [u64],
     temporaries: &mut [u64],
     args: &mut [u64],
@@ -147,7 +147,7 @@ fn user_op_args(
     count: u64,
     state: State,
 ) -> Result<State, Refusal>
-    ensures { args_read (to_pushed result) actions.new temporaries.new args.new ≡ user_op_args context.entry.section.stream.now context.entry.section.table.now actions.old temporaries.old args.old id count context.entry.env state }
+    ensures { args_read (to_pushed result) actions.new temporaries.new args.new ≡ user_op_args context.entry.now.section.stream.now context.entry.now.section.table.now actions.old temporaries.old args.old id count context.entry.now.env state }
 {
     let next = read_args(context, actions, temporaries, args, count, state)?;
     push_user_op(actions, args, id, count, next)
@@ -155,7 +155,7 @@ fn user_op_args(
 
 #[tactic(auto, unfolding(crate::specs::Calls::user_op_statement, crate::specs::Calls::step_args, expr_terms::specs::Answers::on_args, stmt_walk::specs::Walks::pushed_then))]
 pub fn user_op_statement(
-    context: Context<'_>,
+    context: &Context<'_>,
     scope: &[u64],
     actions: &mut [u64],
     temporaries: &mut [u64],
@@ -164,7 +164,7 @@ pub fn user_op_statement(
     count: u64,
     walk: Walk,
 ) -> Result<(usize, Walk), Refusal>
-    ensures { stepped (to_step walk result) actions.new temporaries.new ≡ user_op_statement context.entry.section.stream.now context.entry.section.table.now scope.now actions.old temporaries.old context.entry.env pos id count (to_walk walk) }
+    ensures { stepped (to_step walk result) actions.new temporaries.new ≡ user_op_statement context.entry.now.section.stream.now context.entry.now.section.table.now scope.now actions.old temporaries.old context.entry.now.env pos id count (to_walk walk) }
 {
     let mut args = [0u64; ARGS_WORDS];
     let (next, state) = resolve_args(
@@ -221,7 +221,7 @@ fn counted(
 // The arguments of a macro call, as its parameters.
 #[tactic(auto, unfolding(crate::specs::Calls::macro_args, crate::specs::Calls::macro_counted))]
 pub fn macro_args(
-    context: Context<'_>,
+    context: &Context<'_>,
     scope: &[u64],
     actions: &mut [u64],
     temporaries: &mut [u64],
@@ -231,7 +231,7 @@ pub fn macro_args(
     count: u64,
     state: State,
 ) -> Result<(usize, State), Refusal>
-    ensures { passed (to_args result) actions.new temporaries.new args.new ≡ macro_args context.entry.section.stream.now context.entry.section.table.now scope.now actions.old temporaries.old args.old context.entry.env pos id count state }
+    ensures { passed (to_args result) actions.new temporaries.new args.new ≡ macro_args context.entry.now.section.stream.now context.entry.now.section.table.now scope.now actions.old temporaries.old args.old context.entry.now.env pos id count state }
 {
     let (next, state) = resolve_args(
         DEPTH,

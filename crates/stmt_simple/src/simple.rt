@@ -22,13 +22,13 @@ use stmt_walk::walk::{Export, Walk};
 
 #[tactic(auto, unfolding(crate::specs::Simple::unimplemented, stmt_walk::specs::Walks::step_pushed, stmt_walk::specs::Walks::pushed_then))]
 pub fn unimplemented(
-    context: Context<'_>,
+    context: &Context<'_>,
     actions: &mut [u64],
     temporaries: &mut [u64],
     pos: usize,
     walk: Walk,
 ) -> Result<(usize, Walk), Refusal>
-    ensures { stepped (to_step walk result) actions.new temporaries.new ≡ unimplemented context.entry.section.stream.now context.entry.section.table.now actions.old temporaries.old context.entry.env pos (to_walk walk) }
+    ensures { stepped (to_step walk result) actions.new temporaries.new ≡ unimplemented context.entry.now.section.stream.now context.entry.now.section.table.now actions.old temporaries.old context.entry.now.env pos (to_walk walk) }
 {
     let invalid = Operation::nullary(operation::INVALID);
     let st = push_op(context, actions, temporaries, invalid, no_output(), walk.st)?;
@@ -38,13 +38,13 @@ pub fn unimplemented(
 // A reference stays one, anything else is read.
 #[tactic(auto, unfolding(crate::specs::Simple::export_of, crate::specs::Simple::export_read, crate::specs::Simple::export_value, stmt_walk::specs::Walks::step_read))]
 fn export_of(
-    context: Context<'_>,
+    context: &Context<'_>,
     actions: &mut [u64],
     temporaries: &mut [u64],
     expr: Resolved<ExprValue>,
     walk: Walk,
 ) -> Result<(usize, Walk), Refusal>
-    ensures { stepped (to_step walk result) actions.new temporaries.new ≡ export_of context.entry.section.stream.now context.entry.section.table.now actions.old temporaries.old context.entry.env expr.value expr.next expr.state (to_walk walk) }
+    ensures { stepped (to_step walk result) actions.new temporaries.new ≡ export_of context.entry.now.section.stream.now context.entry.now.section.table.now actions.old temporaries.old context.entry.now.env expr.value expr.next expr.state (to_walk walk) }
 {
     let Resolved { next, value, state } = expr;
     let (export, st) = match value {
@@ -69,14 +69,14 @@ fn export_of(
 
 #[tactic(auto, unfolding(crate::specs::Simple::export_statement, expr_terms::specs::Answers::on_expr))]
 pub fn export_statement(
-    context: Context<'_>,
+    context: &Context<'_>,
     scope: &[u64],
     actions: &mut [u64],
     temporaries: &mut [u64],
     pos: usize,
     walk: Walk,
 ) -> Result<(usize, Walk), Refusal>
-    ensures { stepped (to_step walk result) actions.new temporaries.new ≡ export_statement context.entry.section.stream.now context.entry.section.table.now scope.now actions.old temporaries.old context.entry.env pos (to_walk walk) }
+    ensures { stepped (to_step walk result) actions.new temporaries.new ≡ export_statement context.entry.now.section.stream.now context.entry.now.section.table.now scope.now actions.old temporaries.old context.entry.now.env pos (to_walk walk) }
 {
     let at = after(pos, 1);
     let expr = resolve_expr(DEPTH, context, scope, at, actions, temporaries, walk.st)?;
@@ -85,13 +85,13 @@ pub fn export_statement(
 
 #[tactic(auto, unfolding(crate::specs::Simple::local_statement, stmt_walk::specs::Walks::step_read, stmt_walk::specs::Walks::read_then))]
 pub fn local_statement(
-    context: Context<'_>,
+    context: &Context<'_>,
     scope: &mut [u64],
     temporaries: &mut [u64],
     pos: usize,
     walk: Walk,
 ) -> Result<(usize, Walk), Refusal>
-    ensures { stepped (to_step walk result) scope.new temporaries.new ≡ local_statement context.entry.section.stream.now context.entry.section.table.now scope.old temporaries.old context.entry.env pos (to_walk walk) }
+    ensures { stepped (to_step walk result) scope.new temporaries.new ≡ local_statement context.entry.now.section.stream.now context.entry.now.section.table.now scope.old temporaries.old context.entry.now.env pos (to_walk walk) }
 {
     let name = u16_in(context.section.stream, pos, 1);
     let size = u16_in(context.section.stream, pos, 3);
@@ -102,7 +102,7 @@ pub fn local_statement(
 // An expression at a position read into a target.
 #[tactic(auto, unfolding(crate::specs::Simple::assign, expr_terms::specs::Answers::on_expr, stmt_walk::specs::Walks::step_read, stmt_walk::specs::Walks::read_then))]
 fn assign(
-    context: Context<'_>,
+    context: &Context<'_>,
     scope: &[u64],
     actions: &mut [u64],
     temporaries: &mut [u64],
@@ -111,7 +111,7 @@ fn assign(
     state: State,
     walk: Walk,
 ) -> Result<(usize, Walk), Refusal>
-    ensures { stepped (to_step walk result) actions.new temporaries.new ≡ assign context.entry.section.stream.now context.entry.section.table.now scope.now actions.old temporaries.old context.entry.env pos to state (to_walk walk) }
+    ensures { stepped (to_step walk result) actions.new temporaries.new ≡ assign context.entry.now.section.stream.now context.entry.now.section.table.now scope.now actions.old temporaries.old context.entry.now.env pos to state (to_walk walk) }
 {
     let expr = resolve_expr(DEPTH, context, scope, pos, actions, temporaries, state)?;
     let (_, st) = read_value(
@@ -127,14 +127,14 @@ fn assign(
 
 #[tactic(auto, unfolding(crate::specs::Simple::local_assignment, list_pushes::specs::Pushes::on_read, stmt_walk::specs::Walks::beside_p))]
 pub fn local_assignment(
-    context: Context<'_>,
+    context: &Context<'_>,
     scope: &mut [u64],
     actions: &mut [u64],
     temporaries: &mut [u64],
     pos: usize,
     walk: Walk,
 ) -> Result<(usize, Walk), Refusal>
-    ensures { walked (to_step walk result) scope.new actions.new temporaries.new ≡ local_assignment context.entry.section.stream.now context.entry.section.table.now scope.old actions.old temporaries.old context.entry.env pos (to_walk walk) }
+    ensures { walked (to_step walk result) scope.new actions.new temporaries.new ≡ local_assignment context.entry.now.section.stream.now context.entry.now.section.table.now scope.old actions.old temporaries.old context.entry.now.env pos (to_walk walk) }
 {
     let name = u16_in(context.section.stream, pos, 1);
     let size = u16_in(context.section.stream, pos, 3);
