@@ -9,7 +9,8 @@
 //   3328 + k     where list k begins: spaces, registers, bit ranges, tables, user ops, macros, other symbols, fields,
 //                subtables, statements
 //   3338         the first ordinal of the section's own statements
-// The header stays in the stream, at its fixed offsets.
+// The header stays in the stream, at its fixed offsets. A number becomes an index by `as`: both have 64 bits, and the library has no
+// `From` between them.
 #![tactic(auto)]
 
 ghost use Rattle.std.specs.Prelude.{◌≡◌};

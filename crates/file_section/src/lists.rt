@@ -129,7 +129,7 @@ fn after(kind: Kind, stream: &[u8], cursor: Cursor) -> Result<Cursor, Refused>
     }
 }
 
-// As many names as the cursor's number says.
+// As many names as the cursor's number says; nothing is indexed by it.
 #[tactic(auto, using(crate::proofs::ChainLaws::run_laws), unfolding(crate::specs::Lists::params, file_syntax::specs::Expressions::counted))]
 fn params(stream: &[u8], names: u64, cursor: Cursor) -> Result<Cursor, Refused>
     ensures { to_cursor result ≡ params stream.now names (good cursor) }

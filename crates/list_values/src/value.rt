@@ -9,7 +9,7 @@ use codes::refusal::Refusal;
 use codes::{NONE, action};
 
 // Where an action's output and first two inputs stand among its words. The index of a value is a byte, so that its second word
-// has an index too.
+// has an index too; these are below 32, so the casts lose nothing.
 pub const OUTPUT: u8 = action::OUTPUT as u8;
 
 pub const INPUT_0: u8 = action::INPUT_0 as u8;
