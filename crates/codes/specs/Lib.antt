@@ -1,2 +1,3 @@
--- The numbers of refusals.
+-- The numbers of refusals and of lists.
+pub mod Lists
 pub mod Refusals

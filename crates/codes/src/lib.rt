@@ -1,7 +1,7 @@
 // The numbers that the section file, its table, the action list and the answer give to things, by name. `codes_refinement`
-// shows that those which the definition has too are the definition's. But for
-// the refusals they are numbers and no enums: they are words of a file or of a lent list, which C reads and writes, so that an
-// enum would need a conversion at each end, and any other number may stand in a list that is checked.
+// shows that those which the definition has too are the definition's. But for the refusals and the lists they are numbers and no
+// enums: they are words of a file or of a lent list, which C reads and writes, so that an enum would need a conversion at each
+// end, and any other number may stand in a list that is checked.
 #![tactic(auto)]
 
 pub mod action;
@@ -10,6 +10,7 @@ pub mod export_kind;
 pub mod expression;
 pub mod header;
 pub mod limit;
+pub mod list;
 pub mod operation;
 pub mod refusal;
 pub mod statement;

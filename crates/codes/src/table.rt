@@ -9,6 +9,7 @@ pub const MACROS: usize = 3072;
 
 pub const MACRO_ORDINALS: usize = 3200;
 
+// The lists, in the order of `List`.
 pub const LISTS: usize = 3328;
 
 pub const STATEMENTS: usize = 3337;
@@ -16,20 +17,3 @@ pub const STATEMENTS: usize = 3337;
 pub const FIRST_ORDINAL: usize = 3338;
 
 pub const LENGTH: usize = 3344;
-
-// The lists, by their places behind LISTS, in the header's order.
-pub const SPACES: usize = 0;
-
-pub const REGISTERS: usize = 1;
-
-pub const BIT_RANGES: usize = 2;
-
-pub const TABLES: usize = 3;
-
-pub const USER_OPS: usize = 4;
-
-pub const OTHERS: usize = 6;
-
-pub const FIELDS: usize = 7;
-
-pub const SUBTABLES: usize = 8;

@@ -8,7 +8,9 @@ ghost use Rattle.expr_scope.specs.Slots.{one_value, slot_of, of_slot, put_slot, 
 ghost use Rattle.expr_scope.specs.Scopes.{find_param, own_local, tmp_local, lookup_local, bit_range, global_meaning, inner_meaning, resolve_ident, plain_local, named_tmp};
 
 use crate::smalls::{put_small, small};
-use crate::symbols::{NAMES, Symbol, lookup};
+use crate::symbols::{Symbol, lookup};
+use codes::limit::NAMES;
+use codes::list::List;
 use codes::refusal::Refusal;
 use codes::{header, table, value_kind};
 use list_pushes::push::{Context, Operation, State, add_tmp};
@@ -239,7 +241,7 @@ fn lookup_local(table: &[u16; table::LENGTH], scope: &[u64], own: bool, name: u6
 fn bit_range(section: Section<'_>, index: u64) -> ExprValue
     ensures { result ≡ bit_range section.entry.stream.now section.entry.table.now index }
 {
-    let at = entry(section.table, table::BIT_RANGES, index % 65536 * 8);
+    let at = entry(section.table, usize::from(List::BitRanges), index % 65536 * 8);
     ExprValue::BitRange {
         v: local(value_kind::REGISTER, access::u16_in(section.stream, at, 2)),
         bits: Bits {

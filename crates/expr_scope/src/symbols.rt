@@ -2,10 +2,8 @@
 ghost use Rattle.std.specs.Prelude.{◌≡◌, ◌<◌};
 ghost use Rattle.expr_scope.specs.Symbols.{place_of, lookup};
 
+use codes::limit::NAMES;
 use codes::{symbol_kind, table};
-
-// A file has at most so many names: each part of the table that is by name has a word for each of them.
-pub const NAMES: u64 = 1024;
 
 // What a global is, and its place in the list of its kind. A name of none is a variant too: who looks a name up has one answer for
 // all kinds that it cannot use, and an Option around the others would be a match in each of these matches.

@@ -5,8 +5,9 @@ ghost use Rattle.expr_terms.specs.Answers.{resolved};
 ghost use Rattle.expr_terms.specs.Addresses.{or_size, in_const_space, kind_of_space, named_space, resolve_space, reference_to, address_in, resolve_address};
 
 use crate::answers::{Resolved, given};
+use codes::list::List;
 use codes::refusal::Refusal;
-use codes::{header, table};
+use codes::header;
 use expr_reading::read::read_operand;
 use expr_scope::scope::{Access, ExprValue};
 use expr_scope::symbols::{Symbol, lookup};
@@ -52,7 +53,7 @@ fn in_const_space(part: Resolved<ExprValue>, size: u64) -> Result<Resolved<ExprV
 fn kind_of_space(section: Section<'_>, index: u64) -> u64
     ensures { to_space (Ok result) ≡ kind_of_space section.entry.stream.now section.entry.table.now index }
 {
-    let at = entry(section.table, table::SPACES, index % 65536 * 5);
+    let at = entry(section.table, usize::from(List::Spaces), index % 65536 * 5);
     access::byte(section.stream, at, 2)
 }
 

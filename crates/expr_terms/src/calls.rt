@@ -9,6 +9,7 @@ ghost use Rattle.expr_terms.specs.Calls.{symbol_called, inbuilt_or, callee_of, p
 ghost use Rattle.expr_scope.specs.Symbols.{lookup};
 
 use crate::answers::{Resolved, after};
+use codes::limit::NAMES;
 use codes::refusal::Refusal;
 use codes::{expression, operation, table};
 use expr_inbuilts::function::Inbuilt;
@@ -16,7 +17,7 @@ use expr_inbuilts::inbuilt::translate_inbuilt_func;
 use expr_reading::read::read_operand;
 use expr_scope::args::arg_at;
 use expr_scope::scope::{ExprValue, resolve_ident};
-use expr_scope::symbols::{NAMES, Symbol, lookup};
+use expr_scope::symbols::{Symbol, lookup};
 use list_pushes::push::{Context, Operation, State, push_op};
 use list_values::section::Section;
 use list_values::value::{Value, no_output};

@@ -3,11 +3,13 @@
 // table, a the actions and m the temporaries, which are parameters of their own: a struct that holds both lists as `&mut` would
 // need in each contract two clauses more, that it still holds the same ones.
 ghost use Rattle.std.specs.Prelude.{◌≡◌};
+ghost use Rattle.codes.specs.Lists.{list_number};
 ghost use Rattle.list_values.specs.Sizes.{Settles, Counted, entry, list_size, export_size_of, tmp_size, listed_size, size_of, size_at, sum_of_errors, recorded, size_temporary, settled, set_operand, set_two, set_three, falls_back, pair_fallback, set_size_of_pair, triple_falls_back, triple_fallback, share_size, all_equal, set_size_of_triple, set_unsized};
 
 use crate::section::Section;
 use crate::value::{INPUT_0, INPUT_1, OUTPUT, Value, get, put_size, value_at};
 use codes::action::SIZE_PLACE;
+use codes::list::List;
 use codes::{NONE, table, value_kind};
 
 // The ordinal of the statement begun last, the errors recorded and the first one's ordinal, which is 65,535 while there is none, as
@@ -19,7 +21,7 @@ pub struct Sizing {
     pub first: u64,
 }
 
-// A position so many bytes into list k.
+// A position so many bytes into a list. The list is a number, since the promise holds for any; `List` has the nine by name.
 #[tactic(auto, unfolding(crate::specs::Sizes::entry))]
 pub fn entry(table: &[u16; table::LENGTH], list: usize, bytes: u64) -> usize
     ensures { result ≡ entry table.now list bytes }
@@ -29,12 +31,12 @@ pub fn entry(table: &[u16; table::LENGTH], list: usize, bytes: u64) -> usize
 
 // The size of entry i of list k, whose entries are a name and a size.
 #[tactic(auto, unfolding(crate::specs::Sizes::list_size))]
-fn list_size(section: Section<'_>, list: usize, index: u64) -> u64
-    ensures { result ≡ list_size section.entry.stream.now section.entry.table.now list index }
+fn list_size(section: Section<'_>, list: List, index: u64) -> u64
+    ensures { result ≡ list_size section.entry.stream.now section.entry.table.now (list_number list) index }
 {
     access::u16_at(
         section.stream,
-        entry(section.table, list, index % 65536 * 4 + 2),
+        entry(section.table, usize::from(list), index % 65536 * 4 + 2),
     )
 }
 
@@ -45,8 +47,8 @@ fn export_size(section: Section<'_>, index: u64) -> u64
 {
     list_size(
         section,
-        table::TABLES,
-        list_size(section, table::SUBTABLES, index),
+        List::Tables,
+        list_size(section, List::Subtables, index),
     )
 }
 
@@ -65,8 +67,8 @@ fn listed_size(section: Section<'_>, kind: u64, number: u64) -> u64
     ensures { result ≡ listed_size section.entry.stream.now section.entry.table.now kind number }
 {
     match kind {
-        value_kind::REGISTER => list_size(section, table::REGISTERS, number),
-        value_kind::FIELD => list_size(section, table::FIELDS, number),
+        value_kind::REGISTER => list_size(section, List::Registers, number),
+        value_kind::FIELD => list_size(section, List::Fields, number),
         value_kind::SUBTABLE | value_kind::SUBTABLE_REF => export_size(section, number),
         _ => NONE,
     }

@@ -1,13 +1,11 @@
 // A statement by its ordinal: its kind, and the macro in whose body it stands. Macro bodies have the lower ordinals.
 use crate::names::Name;
+use codes::limit::MACROS;
 use codes::{header, statement, table};
 use file_syntax::cursor::{Cursor, place_of};
 use list_values::section::Section;
 use listing_names::names::name_of;
 use std::fmt;
-
-// A section has no more macros.
-const MACROS: usize = 128;
 
 #[derive(Clone, Copy)]
 enum Kind {
@@ -102,7 +100,7 @@ fn macro_of(section: Section<'_>, ordinal: u64) -> usize {
 // The body of a macro, whose parameter count stands behind its name.
 fn macro_body<'a>(section: Section<'a>, index: usize) -> Body<'a> {
     let stream = section.stream;
-    let index = index % MACROS;
+    let index = index % MACROS as usize;
     let at = usize::from(entry(section, table::MACROS + index));
     let parameters = access::byte(stream, at, 0) as usize;
     let name = name_of(section, access::u16_at(stream, at.saturating_sub(2)));

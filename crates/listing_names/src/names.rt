@@ -1,9 +1,10 @@
 // The spellings of a section file's names, in its stream, by the table that `file_section::read_stream` fills.
 ghost use Rattle.std.specs.Prelude.{◌≡◌};
+ghost use Rattle.codes.specs.Lists.{list_number};
 ghost use Rattle.file_refinement.specs.Holds.{spelled_at};
 ghost use Rattle.listing_names.specs.Names.{name_of, name_in, symbol_name};
 
-use codes::table;
+use codes::list::List;
 use list_values::section::Section;
 use list_values::sizes::entry;
 
@@ -38,12 +39,12 @@ pub fn name_of<'a>(section: Section<'a>, number: u64) -> &'a [u8]
 }
 
 // The name of the entry that begins so many bytes into list k.
-fn name_in<'a>(section: Section<'a>, list: usize, bytes: u64) -> &'a [u8]
-    ensures { result.now ≡ name_in section.entry.stream.now section.entry.table.now list bytes }
+fn name_in<'a>(section: Section<'a>, list: List, bytes: u64) -> &'a [u8]
+    ensures { result.now ≡ name_in section.entry.stream.now section.entry.table.now (list_number list) bytes }
 {
     name_of(
         section,
-        access::u16_at(section.stream, entry(section.table, list, bytes)),
+        access::u16_at(section.stream, entry(section.table, usize::from(list), bytes)),
     )
 }
 
@@ -53,9 +54,9 @@ pub fn symbol_name<'a>(section: Section<'a>, symbol: Symbol, index: u64) -> &'a 
 {
     let index = index % 65536;
     match symbol {
-        Symbol::Register => name_in(section, table::REGISTERS, index * 4),
-        Symbol::UserOp => name_in(section, table::USER_OPS, index * 2),
-        Symbol::Field => name_in(section, table::FIELDS, index * 4),
-        Symbol::Subtable => name_in(section, table::SUBTABLES, index * 4),
+        Symbol::Register => name_in(section, List::Registers, index * 4),
+        Symbol::UserOp => name_in(section, List::UserOps, index * 2),
+        Symbol::Field => name_in(section, List::Fields, index * 4),
+        Symbol::Subtable => name_in(section, List::Subtables, index * 4),
     }
 }

@@ -9,6 +9,7 @@ ghost use Rattle.resolve_answer.specs.Answers.{resolved_to};
 ghost use Rattle.resolve_answer.specs.Outcomes.{to_resolved};
 ghost use Rattle.resolve_file.specs.Files.{pointer_size, at_start, start_env, walk_section, resolve_section, resolve_file};
 
+use codes::list::List;
 use codes::refusal::Refusal;
 use codes::{NONE, action, header, table};
 use expr_scope::smalls::SCOPE_WORDS;
@@ -36,7 +37,7 @@ pub fn pointer_size(section: Section<'_>) -> u64
     if i == NONE {
         return 8;
     }
-    let at = entry(section.table, table::SPACES, i * 5 + 3);
+    let at = entry(section.table, usize::from(List::Spaces), i * 5 + 3);
     access::u16_at(section.stream, at)
 }
 

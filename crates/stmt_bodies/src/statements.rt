@@ -7,6 +7,7 @@ ghost use Rattle.stmt_bodies.specs.Outcomes.{to_begun};
 ghost use Rattle.stmt_bodies.specs.Statements.{simple, other_statement, begun, begin, macro_env, body_at, first_ordinal, call_statement, macro_statement, enter_macro, resolve_statement, forward, resolve_body};
 
 use access::u16_in;
+use codes::limit::MACROS;
 use codes::refusal::Refusal;
 use codes::{statement, table};
 use expr_scope::smalls::SCOPE_WORDS;
@@ -17,7 +18,7 @@ use stmt_assignments::copies::copy_statement;
 use stmt_assignments::stores::store_statement;
 use stmt_branches::branches::{branch, cond_branch, label_statement};
 use stmt_simple::calls::{
-    Called, MACROS, called_of, delay_slot, macro_args, macro_at, user_op_statement,
+    Called, called_of, delay_slot, macro_args, macro_at, user_op_statement,
 };
 use stmt_simple::simple::{
     build, export_statement, local_assignment, local_statement, unimplemented,

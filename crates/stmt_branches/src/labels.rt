@@ -5,9 +5,9 @@ ghost use Rattle.stmt_walk.specs.Outcomes.{to_walk};
 ghost use Rattle.stmt_branches.specs.Outcomes.{to_label};
 ghost use Rattle.stmt_branches.specs.Labels.{label_place, get_or_insert_label, place_label, resolve_label, labels_after, labelled};
 
+use codes::limit::NAMES;
 use codes::refusal::Refusal;
 use expr_scope::smalls::{LABELS, put_small, small};
-use expr_scope::symbols::NAMES;
 use list_pushes::push::State;
 use stmt_walk::walk::Walk;
 

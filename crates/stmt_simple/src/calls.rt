@@ -10,7 +10,7 @@ ghost use Rattle.stmt_simple.specs.Outcomes.{to_called};
 ghost use Rattle.stmt_simple.specs.Calls.{symbol_called, called_of, delay_slot, args_read, read_args, write_inputs, push_user_op, user_op_args, user_op_statement, macro_at, bind_names, counted, macro_args};
 
 use access::u16_in;
-use codes::limit::DEPTH;
+use codes::limit::{DEPTH, MACROS};
 use codes::refusal::Refusal;
 use codes::{action_kind, header, operation, table};
 use expr_reading::read::read_operand;
@@ -24,9 +24,6 @@ use list_pushes::push::{Context, Operation, State, push};
 use list_values::section::Section;
 use list_values::value::{INPUT_0, absent, no_output, put, put_value, value_at};
 use stmt_walk::walk::Walk;
-
-// A file has at most so many macros.
-pub const MACROS: u64 = 128;
 
 // What a call statement calls: the delay slot, or a user op or a macro by its number.
 #[derive(Clone, Copy)]

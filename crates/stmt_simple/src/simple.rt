@@ -7,6 +7,7 @@ ghost use Rattle.stmt_simple.specs.Simple.{unimplemented, export_of, export_stat
 
 use access::u16_in;
 use codes::limit::DEPTH;
+use codes::list::List;
 use codes::refusal::Refusal;
 use codes::{action_kind, header, operation, table};
 use expr_reading::read::{read_operand, read_value};
@@ -149,7 +150,7 @@ fn find_subtable(section: Section<'_>, count: u64, wanted: u64) -> Option<u64>
     ensures found { unwrap_or result count ≡ find_subtable count 0 section.entry.stream.now section.entry.table.now wanted }
 {
     (0..count).find(|&i| {
-        let at = entry(section.table, table::SUBTABLES, i % 65536 * 4);
+        let at = entry(section.table, usize::from(List::Subtables), i % 65536 * 4);
         u16_in(section.stream, at, 2) == wanted
     })
 }
