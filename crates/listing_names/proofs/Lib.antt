@@ -1,3 +1,4 @@
 mod Laws
+pub mod Put
 pub mod Theorem
 pub mod OperationNames
