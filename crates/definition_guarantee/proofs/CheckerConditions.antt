@@ -14,7 +14,8 @@ use Rattle.definition.specs.Sizes.{Operand, equal, exactly, rule_of, steps_of, a
 use Rattle.definition.specs.End.{is_build, builds}
 use Rattle.definition.specs.ActionList.{filled, list_words, places_label}
 use Rattle.definition.specs.Checker.{shape_of, same_count, counts_fit, option_fits, number_fits, value_fits, plain_base, base_fits, layout_fits, is_sized, size_at, has_size, all_have_size, step_holds, operation_holds, sizes_hold, places, labels_once, all_built, list_holds, action_from, actions_from, check}
-use Rattle.definition_guarantee.proofs.Tests.{clash, never, eq_of, eq_same, same, differs, le_of, lt_of, and_true, both, if_true, all_at, then_some, or_true, list_same, any_from, first_none, none_some, some_same}
+use Rattle.std.proofs.lemmas.Bool.{eqb-true, eq-eqb, eqb-false, leb-true, ltb-true}
+use Rattle.definition_guarantee.proofs.Tests.{clash, never, same, and_true, both, if_true, all_at, then_some, or_true, list_same, any_from, first_none, none_some, some_same}
 use Rattle.definition_guarantee.proofs.Words.{fits_parts, Shaped, Laid, laid, subpiece_shapeless}
 use Rattle.definition.specs.Right.{Among, IsOperand, input, output, NumberWithin, ValueWithin, ActionRight, Right}
 use Rattle.definition_guarantee.specs.Guarantee.{AcceptsExactly}
@@ -23,13 +24,13 @@ use Rattle.definition_guarantee.proofs.RightAccepted.{any_at, Once, padded, righ
 
 number_within : (t sub : ℕ) (k : Kind) (n : ℕ) → number_fits t sub k n ≡ true → NumberWithin t sub k n
 unfolding number_fits NumberWithin
-number_within t sub Kind.InstStart n h = eq_of n 0 h
-number_within t sub Kind.InstNext n h = eq_of n 0 h
+number_within t sub Kind.InstStart n h = eqb-true n 0 h
+number_within t sub Kind.InstNext n h = eqb-true n 0 h
 number_within t sub Kind.Register n h = tt
 number_within t sub Kind.Field n h = tt
-number_within t sub Kind.Subtable n h = lt_of n sub h
-number_within t sub Kind.SubtableRef n h = lt_of n sub h
-number_within t sub Kind.PcodeTmp n h = lt_of n t h
+number_within t sub Kind.Subtable n h = ltb-true n sub h
+number_within t sub Kind.SubtableRef n h = ltb-true n sub h
+number_within t sub Kind.PcodeTmp n h = ltb-true n t h
 number_within t sub Kind.Constant n h = tt
 
 size_within : (z : Option ℕ) (n : ℕ) → or_else 0 z < 65535 → z ≡ some n → n < 65535
@@ -52,14 +53,14 @@ option_at {A} p (some u) v h e = subst (λ (x : A). p x ≡ true) (some_same e) 
 
 same-counts : (n m : ℕ) (x y : Bool) → same_count (n, x) (m, y) ≡ true → ◌≡◌ {A = ℕ × Bool} (m, y) (n, x)
 unfolding same_count
-same-counts n m true true h = let e = eq_of n m (and_true _ _ h).0 in rw e
+same-counts n m true true h = let e = eqb-true n m (and_true _ _ h).0 in rw e
 same-counts n m true false h = never (and_true (eqb n m) _ h).1
 same-counts n m false true h = never (and_true (eqb n m) _ h).1
-same-counts n m false false h = let e = eq_of n m (and_true _ _ h).0 in rw e
+same-counts n m false false h = let e = eqb-true n m (and_true _ _ h).0 in rw e
 
 plain-base : (v : Value) → plain_base v ≡ true → (v.size ≡ none) × (v.offset ≡ 0)
 unfolding plain_base is_some
-plain-base v h = let k = and_true _ _ h in (go v.size k.0, eq_of v.offset 0 k.1)
+plain-base v h = let k = and_true _ _ h in (go v.size k.0, eqb-true v.offset 0 k.1)
   where
     go : (z : Option ℕ) → not (is_some z) ≡ true → z ≡ none
     go none e = refl
@@ -166,12 +167,12 @@ once_at (x ∷ xs) h zero (suc j) a b d e p q n =
     let c : x ≡ a = some_same d in
     absurd (not_both (places_label x) (any (places x.number) xs) (and_true _ _ h).0
     (subst (λ (y : SemanticAction). places_label y ≡ true) (sym c) p)
-    (any_at (places x.number) xs j b e (both q (eq_same x.number b.number (ap (λ (y : SemanticAction). y.number) c ∙ n)))))
+    (any_at (places x.number) xs j b e (both q (eq-eqb x.number b.number (ap (λ (y : SemanticAction). y.number) c ∙ n)))))
 once_at (x ∷ xs) h (suc i) zero a b d e p q n =
     let c : x ≡ b = some_same e in
     absurd (not_both (places_label x) (any (places x.number) xs) (and_true _ _ h).0
     (subst (λ (y : SemanticAction). places_label y ≡ true) (sym c) q)
-    (any_at (places x.number) xs i a d (both p (eq_same x.number a.number (ap (λ (y : SemanticAction). y.number) c ∙ sym n)))))
+    (any_at (places x.number) xs i a d (both p (eq-eqb x.number a.number (ap (λ (y : SemanticAction). y.number) c ∙ sym n)))))
 once_at (x ∷ xs) h (suc i) (suc j) a b d e p q n =
     ap suc (once_at xs (and_true (not (places_label x && any (places x.number) xs)) _ h).1 i j a b d e p q n)
 
@@ -187,7 +188,7 @@ is_build_lem ActionKind.Build h = refl
 builds_of : (m : ℕ) (a : SemanticAction) → builds m a ≡ true → (a.kind ≡ ActionKind.Build) × (a.number ≡ m)
 unfolding builds
 builds_of m a h = let k = if_true (is_build a.kind) (eqb m a.number) h in
-    (is_build_lem a.kind k.0, sym (eq_of m a.number k.1))
+    (is_build_lem a.kind k.0, sym (eqb-true m a.number k.1))
 
 built_at : (xs : List SemanticAction) (n m : ℕ) → all_built xs n ≡ true → m < n → any (builds m) xs ≡ true
 unfolding all_built
@@ -198,8 +199,8 @@ built_at xs (suc n) m h l = go (eqb m n) refl (built_at xs n m)
     k = and_true (any (builds n) xs) (all_built xs n) h
 
     go : (b : Bool) → eqb m n ≡ b → (all_built xs n ≡ true → m < n → any (builds m) xs ≡ true) → any (builds m) xs ≡ true
-    go true d r = subst (λ (i : ℕ). any (builds i) xs ≡ true) (sym (eq_of m n d)) k.0
-    go false d r = r k.1 (let q = differs m n d in omega arith)
+    go true d r = subst (λ (i : ℕ). any (builds i) xs ≡ true) (sym (eqb-true m n d)) k.0
+    go false d r = r k.1 (let q = eqb-false m n d in omega arith)
 
 found_length : (n : ℕ) (ws : List ℕ) (xs : List SemanticAction) → actions_from n ws ≡ some xs → length xs ≡ n
 unfolding actions_from
@@ -222,7 +223,7 @@ module _ (ws : List ℕ) (n t sub pointer : ℕ) where
       let r = and_true _ _ q.0 in
       let s = and_true _ _ r.0 in
       let c : length xs ≡ n = found_length n ws xs f.1 in
-      let fits : 24 * n ≤ length ws = le_of (24 * n) (length ws) b.0 in
+      let fits : 24 * n ≤ length ws = leb-true (24 * n) (length ws) b.0 in
       let written : ws ≡ filled (length ws) (list_words xs) = list_same ws _ s.0 in
       let fit : 24 * length xs ≤ length ws = rw c fits in
       record {

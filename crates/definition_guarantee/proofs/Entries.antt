@@ -8,7 +8,8 @@ use lib.Dec.{eqb}
 use Rattle.prelude.specs.Base.{when◌then◌else◌, ◌or◌, first}
 use Rattle.definition.specs.Scope.{find, put_entry}
 use Rattle.definition_guarantee.specs.Tests.{Each}
-use Rattle.definition_guarantee.proofs.Tests.{eq_of, differs, each_at, first_from, chosen, none_some}
+use Rattle.std.proofs.lemmas.Bool.{eqb-true, eqb-false}
+use Rattle.definition_guarantee.proofs.Tests.{each_at, first_from, chosen, none_some}
 
 pub find-each : {A : Type 0} (P : A → Type 0) (n : ℕ) (xs : List (ℕ × A)) (a : A) → Each (λ (p : ℕ × A). P p.1) xs → find n xs ≡ some a
     → P a
@@ -26,7 +27,7 @@ module _ {A : Type 0} (n : ℕ) (a : A) where
       go : (b : Bool) → eqb m x.0 ≡ b → (c : Bool) → eqb m n ≡ c
           → (when b then some x.1 else none) or (when c then some a else none) or find m xs
           ≡ (when c then some a else none) or (when b then some x.1 else none) or find m xs
-      go true p true q = absurd (differs n x.0 h (sym (eq_of m n q) ∙ eq_of m x.0 p))
+      go true p true q = absurd (eqb-false n x.0 h (sym (eqb-true m n q) ∙ eqb-true m x.0 p))
       go true p false q = refl
       go false p true q = refl
       go false p false q = refl
@@ -34,7 +35,7 @@ module _ {A : Type 0} (n : ℕ) (a : A) where
   -- an entry behind another of its name is never found
   hidden : (m : ℕ) (x : ℕ × A) (xs : List (ℕ × A)) → eqb n x.0 ≡ true → find m ((n, a) ∷ xs) ≡ find m ((n, a) ∷ x ∷ xs)
   unfolding find first ◌or◌
-  hidden m x xs h = rw (← eq_of n x.0 h) (go (eqb m n))
+  hidden m x xs h = rw (← eqb-true n x.0 h) (go (eqb m n))
     where
       go : (b : Bool) → (when b then some a else none) or find m xs ≡ (when b then some a else none) or (when b then some x.1 else none) or find m xs
       go true = refl

@@ -13,7 +13,7 @@ use Rattle.definition.specs.Ast.{Section}
 use Rattle.definition.specs.Sizes.{Sizing, fix_to, fix_size, fix_inputs, fix_output, fix_operands, backward_pass, forward_pass, apply_size_inference}
 use Rattle.definition.specs.Walk.{State, Env, Outcome, done, stopped, on, Walk, require, expect, sliced, with_sizing}
 use Rattle.definition.specs.End.{sliced_inputs, subpiece_copy, finish_op, finish_actions, finish_export, implicit_builds, no_errors, Semantics, finish}
-use Rattle.definition_guarantee.proofs.Tests.{le_of}
+use Rattle.std.proofs.lemmas.Bool.{leb-true}
 use Rattle.definition_guarantee.proofs.Rules.{final_size}
 
 -- a step that is done, taken apart
@@ -136,7 +136,7 @@ module _ (sec : Section) where
   sliced-done more size v u e s t h =
       let p = on_done e _ _ u t h in
       let q = require-done _ _ e s p.1 p.0 p.2 in
-      (le_of _ _ q.0, sym (done_value p.3), sym (done_state p.3) ∙ q.1)
+      (leb-true _ _ q.0, sym (done_value p.3), sym (done_state p.3) ∙ q.1)
 
   inputs-done : (more size : ℕ) (vs us : List Value) (e : Env) (s t : State) → sliced_inputs more size vs e s ≡ done us t
       → SlicedInputs more size vs us × (t ≡ s)

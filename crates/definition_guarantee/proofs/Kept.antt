@@ -18,7 +18,8 @@ use Rattle.definition.specs.Walk.{ExprValue, Label, Scope, State, Env, Outcome, 
 use Rattle.definition.specs.Scope.{find}
 use Rattle.definition.specs.Checker.{Shape, shape_of, same_count, option_fits, number_fits, value_fits}
 use Rattle.definition_guarantee.specs.Tests.{Each}
-use Rattle.definition_guarantee.proofs.Tests.{le_of, lt_of, of_lt, all_more, each_at, each_more, In, then_some, none_some}
+use Rattle.std.proofs.lemmas.Bool.{leb-true, ltb-true, lt-ltb}
+use Rattle.definition_guarantee.proofs.Tests.{all_more, each_at, each_more, In, then_some, none_some}
 use Rattle.definition_guarantee.proofs.Growth.{settled_touched}
 use Rattle.definition_guarantee.proofs.Words.{Fits, fits_parts, parts_fit}
 use Rattle.definition_guarantee.proofs.Layouts.{SmallSizes, SmallSection, Rough, laid_out, subpiece, touched_small, known_small}
@@ -66,7 +67,7 @@ number_more n k sub Kind.Register x h e = e
 number_more n k sub Kind.Field x h e = e
 number_more n k sub Kind.Subtable x h e = e
 number_more n k sub Kind.SubtableRef x h e = e
-number_more n k sub Kind.PcodeTmp x h e = let l = lt_of x n e in of_lt x k (omega arith)
+number_more n k sub Kind.PcodeTmp x h e = let l = ltb-true x n e in lt-ltb x k (omega arith)
 number_more n k sub Kind.Constant x h e = e
 
 pub fits_more : {n k sub : ℕ} {v : Value} → n ≤ k → Fits n sub v → Fits k sub v
@@ -332,7 +333,7 @@ pub keep_sliced : {e : Env} {n : ℕ} (more size : ℕ) (v : Value) → size < 6
 unfolding sliced or_else
 keep_sliced {e} {n} more size v h f = keep_then _ _ (keep_require _ _) λ k l p. keep_pure _ λ j m.
     let g = fits_more {n = n} {k = j} (omega arith) f in
-    record { number = g.number; offset = le_of _ _ p; size = h }
+    record { number = g.number; offset = leb-true _ _ p; size = h }
 
 -- a change of nothing that is kept
 

@@ -17,7 +17,8 @@ use Rattle.definition.specs.Scope.{find, Symbol, globals, lookup, as_space, as_t
 use Rattle.definition.specs.Expressions.{mask, copy_to, set_stated, take_known, take_stated, shift_and_mask, read_slice, read_value, value_of, read_all, slice_read, slice_bits, as_local, resolve_space, in_const_space, reference, address_in, resolve_address, binary, resolve_op, pass_args, call_user_op, arg_count, subpiece, call_symbol, call_inbuilt, call_named, resolve_call, resolve_expr, resolve_args, resolve_arg_values}
 use Rattle.definition.specs.Checker.{number_fits}
 use Rattle.definition_guarantee.specs.Tests.{Each}
-use Rattle.definition_guarantee.proofs.Tests.{le_of, eq_of, each_at, then_some, chosen, none_some}
+use Rattle.std.proofs.lemmas.Bool.{leb-true, eqb-true}
+use Rattle.definition_guarantee.proofs.Tests.{each_at, then_some, chosen, none_some}
 use Rattle.definition_guarantee.proofs.Layouts.{laid_out}
 use Rattle.definition_guarantee.proofs.WholeList.{placing}
 use Rattle.definition_guarantee.specs.Limits.{SizeWithin, ExprWithin, ArgsWithin, WithinLimits}
@@ -364,7 +365,7 @@ module _ (e : Env) (w : WithinLimits e.section) where
       keep_bind _ _ (keep_value_of (resolve_ident name) (keep_ident name)) λ k l v p.
       keep_bind _ _ (keep_expect _ _) λ k₁ l₁ c q.
       keep_then _ _ (keep_require _ _) λ k₂ l₂ r.
-      keep_pure _ λ j m. (part refl refl (le_of c 255 r), (fits_more {n = k} {k = j} (omega arith) p, tt))
+      keep_pure _ λ j m. (part refl refl (leb-true c 255 r), (fits_more {n = k} {k = j} (omega arith) p, tt))
 
   -- the arguments, resolved, with at least n temporaries before them
   abbrev Arguments : ℕ → ℕ → Walk (List ExprValue) → Type 0
@@ -390,7 +391,7 @@ module _ (e : Env) (w : WithinLimits e.section) where
   keep_call_inbuilt f xs m h g =
       keep_then _ _ (keep_require _ _) λ k l p.
       keep_bind _ _ (g k l) λ k₁ l₁ vs q.
-      keep_pure _ λ j i. (subst (Applicable f.op 0) (sym (q.1 ∙ eq_of _ _ p)) h, values_more e k₁ j i vs q.0)
+      keep_pure _ λ j i. (subst (Applicable f.op 0) (sym (q.1 ∙ eqb-true _ _ p)) h, values_more e k₁ j i vs q.0)
 
   keep_call_named : {n : ℕ} (name : ℕ) (text : List ℕ) (xs : Args) (vs : Walk (List Value)) (m : Walk (List ExprValue))
       (f : Option Inbuilt) → translate_inbuilt_func text ≡ f → arg_count xs ≤ 8

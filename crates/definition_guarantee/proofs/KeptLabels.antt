@@ -18,7 +18,8 @@ use Rattle.definition.specs.Walk.{ExprValue, Label, State, Env, Outcome, done, s
 use Rattle.definition.specs.Scope.{find, put_entry, named_tmp, with_entry, label_or, get_or_insert_label, resolve_label, bind_params, macro_scope}
 use Rattle.definition.specs.Statements.{enter_macro}
 use Rattle.definition_guarantee.specs.Tests.{Each}
-use Rattle.definition_guarantee.proofs.Tests.{clash, le_of, eq_of, same, differs, each_append, In, none_some, some_same}
+use Rattle.std.proofs.lemmas.Bool.{leb-true, eqb-true, eqb-false}
+use Rattle.definition_guarantee.proofs.Tests.{clash, same, each_append, In, none_some, some_same}
 use Rattle.definition_guarantee.proofs.Entries.{find-put}
 use Rattle.definition_guarantee.proofs.Layouts.{Rough, laid_out}
 use Rattle.definition_guarantee.proofs.WholeList.{placing, place, label_numbers, Distinct, numbers_append}
@@ -35,8 +36,8 @@ found {A} n m l k xs e = go (eqb m n) refl (sym (find-put n l m xs) ∙ e)
   where
     go : (b : Bool) → eqb m n ≡ b → (when b then some l else none) or find m xs ≡ some k
         → ((m ≡ n) × (l ≡ k)) ⊎ ((m ≢ n) × (find m xs ≡ some k))
-    go true d e = inl (eq_of m n d, some_same e)
-    go false d e = inr (differs m n d, e)
+    go true d e = inl (eqb-true m n d, some_same e)
+    go false d e = inr (eqb-false m n d, e)
 
 own : {A : Type 0} (n : ℕ) (l : A) (xs : List (ℕ × A)) → find n (put_entry n l xs) ≡ some l
 unfolding find first ◌or◌
@@ -169,7 +170,7 @@ module _ (e : Env) where
             room = o.in_order.room;
           };
           scope = record { params = o.scope.params; mapping = o.scope.mapping };
-          next = (let h = le_of (s.next_label + 1) 256 b in omega arith);
+          next = (let h = leb-true (s.next_label + 1) 256 b in omega arith);
           placed = λ k i. (let h = o.placed k i in omega arith);
           labels = new_label name s.next_label s.scope.labels (labelled s) o.placed o.labels;
         },
@@ -327,7 +328,7 @@ module _ (e : Env) where
             actions = each_append _ s.actions (a ∷ []) o.in_order.actions (r, tt);
             sizes = o.in_order.sizes;
             labels = rw numbers (distinct_last id (labelled s) p.fresh o.in_order.labels);
-            room = (let h = le_of (length s.actions + 1 + length e.section.subtables) e.action_room b in let m =
+            room = (let h = leb-true (length s.actions + 1 + length e.section.subtables) e.action_room b in let m =
                 length-append s.actions (a ∷ []) in omega arith);
           };
           scope = o.scope;

@@ -16,7 +16,8 @@ use Rattle.definition.specs.Sizes.{Operand, in0, in1, out, FixedSize, one, point
 use Rattle.definition.specs.Checker.{Shape, shapes, shape_of, counts_fit, same_count, option_fits, value_fits, layout_fits, base_fits}
 use Rattle.definition.proofs.Openers.{operations_opens}
 use Rattle.definition_guarantee.specs.Tests.{Each}
-use Rattle.definition_guarantee.proofs.Tests.{clash, eq_of, eq_same, same, all_parts, all_set, all_cons, first_from, then_some, none_some}
+use Rattle.std.proofs.lemmas.Bool.{eqb-true, eq-eqb}
+use Rattle.definition_guarantee.proofs.Tests.{clash, same, all_parts, all_set, all_cons, first_from, then_some, none_some}
 use Rattle.definition_guarantee.proofs.Growth.{tmp_size, Touched}
 use Rattle.definition_guarantee.proofs.Rules.{Alike, sets, final_size}
 use Rattle.definition_guarantee.proofs.Finish as end
@@ -384,7 +385,7 @@ module _ (sec : Section) (limits : SmallSection sec) where
 
       sixty_six : (op : Operation) → is_op Operation.Subpiece op ≡ true → eqb (operation_number op) 66 ≡ true
       unfolding operation_number
-      sixty_six op d = eq_same (operation_number op) 66 (sym (eq_of 66 (operation_number op) d))
+      sixty_six op d = eq-eqb (operation_number op) 66 (sym (eqb-true 66 (operation_number op) d))
 
       subpiece_kind : (k : ActionKind) → k ≡ ActionKind.Op Operation.Subpiece → operation_of k ≡ some Operation.Subpiece
       unfolding operation_of

@@ -19,7 +19,8 @@ use Rattle.definition.specs.End.{resolve_statements, at_start}
 use Rattle.definition.specs.Checker.{number_fits}
 use Rattle.definition.specs.Premise.{sized_late, sized_late_walk, walked}
 use Rattle.definition_guarantee.specs.Tests.{Each}
-use Rattle.definition_guarantee.proofs.Tests.{never, le_of, of_lt, each_append, none_some}
+use Rattle.std.proofs.lemmas.Bool.{leb-true, lt-ltb}
+use Rattle.definition_guarantee.proofs.Tests.{never, each_append, none_some}
 use Rattle.definition_guarantee.proofs.Finish.{on_done, done_state, never_stopped, require-done}
 use Rattle.definition_guarantee.proofs.WholeList.{label_numbers}
 use Rattle.definition_guarantee.proofs.Ending.{InOrder}
@@ -45,7 +46,7 @@ fields_fit e ns = locals_fit e Kind.Field 0 ns (λ n h. refl)
 subtables_fit : (e : Env) (ns : List ℕ) → length ns ≡ length e.section.subtables
     → Each (λ (p : ℕ × Value). ValueFits e 0 p.1) (locals Kind.Subtable 0 ns)
 unfolding number_fits
-subtables_fit e ns c = locals_fit e Kind.Subtable 0 ns (λ n h. of_lt n (length e.section.subtables) (omega arith))
+subtables_fit e ns c = locals_fit e Kind.Subtable 0 ns (λ n h. lt-ltb n (length e.section.subtables) (omega arith))
 
 pub start_kept : (e : Env) → length e.section.subtables ≤ e.action_room → Kept e (at_start e.section)
 unfolding at_start section_scope label_numbers and_then
@@ -88,7 +89,7 @@ walk_in_order e t x w h = go (leb (length e.section.subtables) e.action_room) re
         let p = on_done e (require b list_full e s) (λ _. body) x t h in
         let q = require-done e.section b list_full e s p.1 p.0 p.2 in
         let k = (keep_body e w 16 (ordinal_after e.section.macros) e.section.statements w.statements 0).keeps s (omega arith)
-        (start_kept e (le_of _ _ (d ∙ q.0))) in
+        (start_kept e (leb-true _ _ (d ∙ q.0))) in
         (ends_done e s t Nothing (body e s) x k (ap (body e) (sym q.1) ∙ p.3)).in_order
 
 -- the premise, of the state that the walk has left

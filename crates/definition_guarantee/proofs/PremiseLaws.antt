@@ -19,7 +19,8 @@ use Rattle.definition.specs.End.{resolve_statements, at_start}
 use Rattle.definition.specs.ActionList.{room_for, when_read, resolve}
 use Rattle.definition.specs.Premise.{ruled, is_sized_in, union, sized_late, sized_late_walk, walked, late_in, premise_failures, premise}
 use Rattle.definition.specs.Starred.{WorkedSection, starred_sections}
-use Rattle.definition_guarantee.proofs.Tests.{In, in_left, in_right, eq_of, differs, lt_of, not_lt, clash}
+use Rattle.std.proofs.lemmas.Bool.{eqb-true, eqb-false, ltb-true, ltb-false}
+use Rattle.definition_guarantee.proofs.Tests.{In, in_left, in_right, clash}
 use Rattle.definition_guarantee.proofs.Growth.{tmp_size, Grown}
 use Rattle.definition_guarantee.proofs.Rules.{steps_grown}
 use Rattle.definition_guarantee.proofs.Forward.{filter_none, backward_grown}
@@ -139,15 +140,15 @@ module _ (sec : Section) where
   in_below i (suc n) h = go (eqb i n) refl (in_below i n)
     where
       go : (b : Bool) → eqb i n ≡ b → (i < n → In i (below n)) → In i (below (suc n))
-      go true d r = inl (eq_of i n d)
-      go false d r = inr (r (let q = differs i n d in omega arith))
+      go true d r = inl (eqb-true i n d)
+      go false d r = inr (r (let q = eqb-false i n d in omega arith))
 
   all_settled : (ts : List Temporary) → filter (is_unsized ts) (below (length ts)) ≡ [] → (i : ℕ) → Settled ts i
   all_settled ts h i = go (ltb i (length ts)) refl
     where
       go : (b : Bool) → ltb i (length ts) ≡ b → Settled ts i
-      go true d = settled ts i (filter_none (is_unsized ts) (below (length ts)) i h (in_below i (length ts) (lt_of i (length ts) d)))
-      go false d = inr (not_lt i (length ts) d)
+      go true d = settled ts i (filter_none (is_unsized ts) (below (length ts)) i h (in_below i (length ts) (ltb-true i (length ts) d)))
+      go false d = inr (ltb-false i (length ts) d)
 
   walk_settled : (s : State) → unsized_after_walk sec s ≡ [] → unsized_before_forward sec s ≡ []
   unfolding unsized_after_walk unsized_before_forward
@@ -206,7 +207,7 @@ not_among m (n ∷ ns) h i = go (eqb m n) refl h i (not_among m ns)
     go : (b : Bool) → eqb m n ≡ b → (when b then true else any (eqb m) ns) ≡ false → (m ≡ n) ⊎ In m ns
         → (any (eqb m) ns ≡ false → ¬ In m ns) → ⊥
     go true d h i r = clash refl h
-    go false d h (inl e) r = differs m n d e
+    go false d h (inl e) r = eqb-false m n d e
     go false d h (inr i) r = r h i
 
 union_distinct : (ms ns : List ℕ) → Distinct ns → Distinct (union ms ns)

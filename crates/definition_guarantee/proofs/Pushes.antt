@@ -18,7 +18,9 @@ use Rattle.definition.specs.Walk.{ExprValue, Scope, State, Env, done, on, requir
 use Rattle.definition.specs.Checker.{Shape, OperationShape, shapes, shape_of, same_count, counts_fit, option_fits, number_fits, value_fits, base_fits}
 use Rattle.definition.proofs.Openers.{operations_opens}
 use Rattle.definition_guarantee.specs.Tests.{Each}
-use Rattle.definition_guarantee.proofs.Tests.{never, le_of, lt_of, of_lt, eq_of, and_true, if_true, each_all, each_append, each_more, then_some, or_true, append_none, none_some, some_same}
+use Rattle.std.proofs.lemmas.Bool.{leb-true, ltb-true, lt-ltb, eqb-true}
+use Rattle.std.proofs.lemmas.List.{append-nil}
+use Rattle.definition_guarantee.proofs.Tests.{never, and_true, if_true, each_all, each_append, each_more, then_some, or_true, none_some, some_same}
 use Rattle.definition_guarantee.proofs.Growth.{tmp_size}
 use Rattle.definition_guarantee.proofs.Rules.{Alike, steps_alike, steps_grown}
 use Rattle.definition_guarantee.proofs.Words.{Fits, fits_parts, parts_fit, Laid}
@@ -90,7 +92,7 @@ module _ (e : Env) (s : State) (t : Temporary) where
 new_fits : (sub : ℕ) (ts : List Temporary) (x : Temporary) → Fits (length (ts ++ (x ∷ []))) sub (local Kind.PcodeTmp (length ts))
 unfolding number_fits or_else
 new_fits sub ts x = let m = one_more_lem ts x in record {
-  number = of_lt (length ts) (length (ts ++ (x ∷ []))) (omega arith);
+  number = lt-ltb (length ts) (length (ts ++ (x ∷ []))) (omega arith);
   offset = omega arith;
   size = omega arith;
 }
@@ -120,7 +122,7 @@ keep_output_or z none h f = keep_add_tmp none z h
 
 unlabelled : (xs : List SemanticAction) (a : SemanticAction) → placing a.kind ≡ false → label_numbers (xs ++ (a ∷ [])) ≡ label_numbers xs
 unfolding label_numbers place
-unlabelled xs a h = numbers_append xs (a ∷ []) ∙ rw h (append_none (label_numbers xs))
+unlabelled xs a h = numbers_append xs (a ∷ []) ∙ rw h (append-nil (label_numbers xs))
 
 module _ (e : Env) (s : State) (a : SemanticAction) where
   longer_kept : Rough (count s) (length e.section.subtables) a
@@ -159,7 +161,7 @@ keep_push {e} {n} a r p = record {
     go : (s : State) → n ≤ count s → Kept e s → (b : Bool)
         → leb (length s.actions + 1 + length e.section.subtables) e.action_room ≡ b
         → Ends e s (λ k _. Unit {0}) (on e (require b list_full e s) (λ _ f t. done (tt {0}) (with_action a t)))
-    go s c o true h = (longer-later e s a p, longer_kept e s a (rough_more n (count s) _ a c r) (le_of _ _ h) p o, tt)
+    go s c o true h = (longer-later e s a p, longer_kept e s a (rough_more n (count s) _ a c r) (leb-true _ _ h) p o, tt)
     go s c o false h = tt
 
 updated : (sec : Section) (a : SemanticAction) (s : Sizing)
@@ -223,7 +225,7 @@ module _ (e : Env) (n : ℕ) where
       let both : any (same_count (length vs, is_some o)) q.0.counts && ltb c q.0.below ≡ true = some_same q.2 in
       let k = and_true _ _ both in
       record {
-        shaped = record { shape = q.0; is = shape_any operation ∙ q.1; counts = k.0; number = lt_of _ _ k.1 };
+        shaped = record { shape = q.0; is = shape_any operation ∙ q.1; counts = k.0; number = ltb-true _ _ k.1 };
         inputs = all_fit vs f;
         output = option_fit o g;
         base = refl;
@@ -248,7 +250,7 @@ places_none : (operation : Operation) (c i : ℕ) → applies true operation c i
     → b ≡ false
 unfolding applies shape_of shapes operations_opens same_count
 places_none operation c i h false d = refl
-places_none operation c i h true d = let n : operation_number operation ≡ 62 = sym (eq_of 62 (operation_number operation) d) in
+places_none operation c i h true d = let n : operation_number operation ≡ 62 = sym (eqb-true 62 (operation_number operation) d) in
     absent (operation_number operation) n h
   where
     absent : (n : ℕ) → n ≡ 62

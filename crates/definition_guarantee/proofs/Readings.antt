@@ -6,7 +6,7 @@ use mathlib.Core.List.{List}
 use lib.Dec.{leb}
 use Rattle.definition.specs.Refusals.{Refusal, outside_limit}
 use Rattle.definition.specs.SectionFile.{Parsed, parsed, refused, Read, on, ◌>>=◌, ◌>>◌, pure, refuse, require, up_to, bit_number}
-use Rattle.definition_guarantee.proofs.Tests.{le_of}
+use Rattle.std.proofs.lemmas.Bool.{leb-true}
 
 abbrev pub Reading : {A : Type 0} → (A → Type 0) → Parsed A → Type 0
 Reading P (parsed a s) = P a
@@ -55,7 +55,7 @@ pub reads-up_to : (limit v : ℕ) → Reads (λ n. n ≤ limit) (up_to limit v)
 unfolding up_to
 reads-up_to limit v = record {
   reads = λ s. then_reads (λ _. leb v limit ≡ true) (λ n. n ≤ limit) (require (leb v limit) outside_limit s)
-      (λ _. pure v) ((reads-require (leb v limit) outside_limit).reads s) (λ _ h. returns v (le_of v limit h));
+      (λ _. pure v) ((reads-require (leb v limit) outside_limit).reads s) (λ _ h. returns v (leb-true v limit h));
 }
 
 pub reads-bits : Reads (λ n. n ≤ 8192) bit_number

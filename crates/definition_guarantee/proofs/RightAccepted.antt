@@ -13,7 +13,9 @@ use Rattle.definition.specs.Sizes.{Operand, Step, equal, exactly, by_default, ru
 use Rattle.definition.specs.End.{is_build, builds}
 use Rattle.definition.specs.ActionList.{filled, action_words, list_words, places_label}
 use Rattle.definition.specs.Checker.{same_count, counts_fit, option_fits, number_fits, value_fits, plain_base, base_fits, layout_fits, is_sized, size_at, has_size, all_have_size, step_holds, operation_holds, sizes_hold, places, labels_once, operation_numbered, check}
-use Rattle.definition_guarantee.proofs.Tests.{never, eq_of, eq_same, same, differ, of_lt, and_true, both, all_from, first_from, then_some, any_from, append_none, none_some, some_same}
+use Rattle.std.proofs.lemmas.Bool.{eqb-true, eq-eqb, ne_eqb, lt-ltb}
+use Rattle.std.proofs.lemmas.List.{append-nil}
+use Rattle.definition_guarantee.proofs.Tests.{never, same, and_true, both, all_from, first_from, then_some, any_from, none_some, some_same}
 use Rattle.definition_guarantee.proofs.Words.{parts_fit, laid_fits, filled_append, action_length, numbered, words-pass}
 use Rattle.definition.specs.Right.{Among, input, output, NumberWithin, ValueWithin, ActionRight, Right}
 use Rattle.definition_guarantee.proofs.Kept.{option_small}
@@ -31,13 +33,13 @@ any_at p (y ∷ xs) (suc i) x e h = go (p y) (any_at p xs i x e h)
 
 within_number : (t sub : ℕ) (k : Kind) (n : ℕ) → NumberWithin t sub k n → number_fits t sub k n ≡ true
 unfolding number_fits NumberWithin
-within_number t sub Kind.InstStart n h = eq_same n 0 h
-within_number t sub Kind.InstNext n h = eq_same n 0 h
+within_number t sub Kind.InstStart n h = eq-eqb n 0 h
+within_number t sub Kind.InstNext n h = eq-eqb n 0 h
 within_number t sub Kind.Register n h = refl
 within_number t sub Kind.Field n h = refl
-within_number t sub Kind.Subtable n h = of_lt n sub h
-within_number t sub Kind.SubtableRef n h = of_lt n sub h
-within_number t sub Kind.PcodeTmp n h = of_lt n t h
+within_number t sub Kind.Subtable n h = lt-ltb n sub h
+within_number t sub Kind.SubtableRef n h = lt-ltb n sub h
+within_number t sub Kind.PcodeTmp n h = lt-ltb n t h
 within_number t sub Kind.Constant n h = refl
 
 within_value : (t sub : ℕ) (v : Value) → ValueWithin t sub v → value_fits t sub v ≡ true
@@ -59,7 +61,7 @@ counts_same n false = both (same n) refl
 
 base-plain : (v : Value) → (v.size ≡ none) × (v.offset ≡ 0) → plain_base v ≡ true
 unfolding plain_base is_some
-base-plain v h = both (ap (λ (z : Option ℕ). not (is_some z)) h.0) (eq_same v.offset 0 h.1)
+base-plain v h = both (ap (λ (z : Option ℕ). not (is_some z)) h.0) (eq-eqb v.offset 0 h.1)
 
 bases_fit : (k : ActionKind) (vs : List Value) → (k ≡ ActionKind.AddressOf → all plain_base vs ≡ true) → base_fits k vs ≡ true
 unfolding base_fits
@@ -135,8 +137,8 @@ module _ (t sub pointer : ℕ) where
 label_number_lem : (op : Operation) → is_op Operation.PcodeLabel op ≡ true → op ≡ Operation.PcodeLabel
 unfolding operation_number
 label_number_lem op h =
-    let n : operation_number op ≡ 62 = sym (eq_of 62 (operation_number op) h) in
-    let d : operation_numbered (operation_number op) ≡ some op = numbered op (differ (operation_number op) 66 (λ k. absurd (omega arith))) in
+    let n : operation_number op ≡ 62 = sym (eqb-true 62 (operation_number op) h) in
+    let d : operation_numbered (operation_number op) ≡ some op = numbered op (ne_eqb (operation_number op) 66 (λ k. absurd (omega arith))) in
     some_same (sym d ∙ ap operation_numbered n ∙ numbered Operation.PcodeLabel refl)
 
 is_label : (k : ActionKind) → or_else false (and_then (operation_of k) λ operation. some (is_op Operation.PcodeLabel operation)) ≡ true
@@ -174,7 +176,7 @@ at_once (x ∷ xs) h = both (nowhere (places_label x) (any (places x.number) xs)
     clashes : places_label x ≡ true → ((j : ℕ) × (b : SemanticAction) × (get_elem? xs j ≡ some b) × (places x.number b ≡ true)) → ⊥
     clashes p c =
         let k = and_true _ _ c.3 in
-        let e : 0 ≡ suc c.0 = h 0 (suc c.0) x c.1 refl c.2 p k.0 (eq_of _ _ k.1) in
+        let e : 0 ≡ suc c.0 = h 0 (suc c.0) x c.1 refl c.2 p k.0 (eqb-true _ _ k.1) in
         omega arith
 
 of_builds : (m : ℕ) (a : SemanticAction) → a.kind ≡ ActionKind.Build → a.number ≡ m → builds m a ≡ true
@@ -196,7 +198,7 @@ pub padded : (xs : List SemanticAction) (n : ℕ) → 24 * length xs ≤ n
     → filled n (list_words xs) ≡ list_words xs ++ replicate (n - 24 * length xs) 0
 padded xs n h =
     let c = list_length xs in
-    ap (filled n) (sym (append_none (list_words xs))) ∙ filled_append (list_words xs) [] n (n - 24 * length xs) (omega arith)
+    ap (filled n) (sym (append-nil (list_words xs))) ∙ filled_append (list_words xs) [] n (n - 24 * length xs) (omega arith)
     ∙ ap (λ (l : List ℕ). list_words xs ++ l) (zeros (n - 24 * length xs))
 
 module _ (ws : List ℕ) (n t sub pointer : ℕ) where

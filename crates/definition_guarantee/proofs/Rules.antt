@@ -14,7 +14,8 @@ use Rattle.definition.specs.Value.{Kind, kind_number, Value, truncate, SemanticA
 use Rattle.definition.specs.Ast.{Section}
 use Rattle.definition.specs.Sizes.{Operand, in0, in1, out, FixedSize, one, pointer, Step, equal, exactly, by_default, Rule, rules, rule_of, at, put, Sizing, size_of_local, size_of, fallback_size, set_size, set_given, set_operand, set_operands, known_at, share_size, set_size_of_all, fixed_size, set_unsized, apply_step, apply_steps, but_first, pointer_size}
 use Rattle.definition.proofs.Openers.{base_opens}
-use Rattle.definition_guarantee.proofs.Tests.{never, eq_of, all_at, first_from, chosen, first_none, none_some, some_same}
+use Rattle.std.proofs.lemmas.Bool.{eqb-true}
+use Rattle.definition_guarantee.proofs.Tests.{never, all_at, first_from, chosen, first_none, none_some, some_same}
 use Rattle.definition_guarantee.proofs.Growth.{tmp_size, Grown, grown_refl, grown_trans, Touched, touched_refl, local_same, local-tmp, known_stays, size_none, own_size, settled_touched}
 
 -- operands of an action
@@ -75,7 +76,7 @@ at_other out out v a e = never e
 
 pub is_size : (n : ℕ) (x : Option ℕ) → contains n x ≡ true → x ≡ some n
 unfolding contains
-is_size n (some m) e = ap some (sym (eq_of n m e))
+is_size n (some m) e = ap some (sym (eqb-true n m e))
 is_size n none e = never e
 
 -- what sizes leave alone

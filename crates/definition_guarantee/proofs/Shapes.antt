@@ -14,7 +14,8 @@ use Rattle.definition.specs.SectionFile.{pcode_ops}
 use Rattle.definition.specs.Checker.{shapes, shape_of, same_count, counts_fit, option_fits, number_fits, value_fits, plain_base, base_fits}
 use Rattle.definition.proofs.Openers.{base_opens, operations_opens, spellings_opens}
 use Rattle.definition_guarantee.specs.Limits.{OperatorWithin}
-use Rattle.definition_guarantee.proofs.Tests.{of_lt, all_at, all_cons, first_from, chosen}
+use Rattle.std.proofs.lemmas.Bool.{lt-ltb}
+use Rattle.definition_guarantee.proofs.Tests.{all_at, all_cons, first_from, chosen}
 use Rattle.definition_guarantee.proofs.Words.{Fits, parts_fit, Laid}
 use Rattle.definition_guarantee.proofs.Kept.{applies, Applicable, plain}
 
@@ -64,9 +65,9 @@ load_applies = plain refl
 
 pub user_applies : (id c : ℕ) → id < 256 → c ≤ 2 → Applicable Operation.PcodeOp id c
 unfolding applies shape_of shapes operations_opens same_count
-user_applies id zero h l = plain (of_lt id 256 h)
-user_applies id (suc zero) h l = plain (of_lt id 256 h)
-user_applies id (suc (suc zero)) h l = plain (of_lt id 256 h)
+user_applies id zero h l = plain (lt-ltb id 256 h)
+user_applies id (suc zero) h l = plain (lt-ltb id 256 h)
+user_applies id (suc (suc zero)) h l = plain (lt-ltb id 256 h)
 user_applies id (suc (suc (suc c))) h l = absurd (omega arith)
 
 -- operators
@@ -105,19 +106,19 @@ store_applies = refl
 
 pub branch_applies : (n : ℕ) → n < 3 → applies false Operation.Branch n 2 ≡ true
 unfolding applies shape_of shapes operations_opens same_count
-branch_applies n h = of_lt n 3 h
+branch_applies n h = lt-ltb n 3 h
 
 pub goto_applies : (n : ℕ) → n < 256 → applies false Operation.PcodeBranch n 2 ≡ true
 unfolding applies shape_of shapes operations_opens same_count
-goto_applies n h = of_lt n 256 h
+goto_applies n h = lt-ltb n 256 h
 
 pub label_applies : (n : ℕ) → n < 256 → applies false Operation.PcodeLabel n 0 ≡ true
 unfolding applies shape_of shapes operations_opens same_count
-label_applies n h = of_lt n 256 h
+label_applies n h = lt-ltb n 256 h
 
 pub arg_applies : (n : ℕ) → n < 6 → applies false Operation.Arg n 1 ≡ true
 unfolding applies shape_of shapes operations_opens same_count
-arg_applies n h = of_lt n 6 h
+arg_applies n h = lt-ltb n 6 h
 
 pub invalid_applies : applies false Operation.Invalid 0 0 ≡ true
 unfolding applies shape_of shapes operations_opens same_count
@@ -125,15 +126,15 @@ invalid_applies = refl
 
 pub call_applies : (id c : ℕ) → id < 256 → c ≤ 8 → applies false Operation.PcodeOp id c ≡ true
 unfolding applies shape_of shapes operations_opens same_count
-call_applies id zero h l = of_lt id 256 h
-call_applies id (suc zero) h l = of_lt id 256 h
-call_applies id (suc (suc zero)) h l = of_lt id 256 h
-call_applies id (suc (suc (suc zero))) h l = of_lt id 256 h
-call_applies id (suc (suc (suc (suc zero)))) h l = of_lt id 256 h
-call_applies id (suc (suc (suc (suc (suc zero))))) h l = of_lt id 256 h
-call_applies id (suc (suc (suc (suc (suc (suc zero)))))) h l = of_lt id 256 h
-call_applies id (suc (suc (suc (suc (suc (suc (suc zero))))))) h l = of_lt id 256 h
-call_applies id (suc (suc (suc (suc (suc (suc (suc (suc zero)))))))) h l = of_lt id 256 h
+call_applies id zero h l = lt-ltb id 256 h
+call_applies id (suc zero) h l = lt-ltb id 256 h
+call_applies id (suc (suc zero)) h l = lt-ltb id 256 h
+call_applies id (suc (suc (suc zero))) h l = lt-ltb id 256 h
+call_applies id (suc (suc (suc (suc zero)))) h l = lt-ltb id 256 h
+call_applies id (suc (suc (suc (suc (suc zero))))) h l = lt-ltb id 256 h
+call_applies id (suc (suc (suc (suc (suc (suc zero)))))) h l = lt-ltb id 256 h
+call_applies id (suc (suc (suc (suc (suc (suc (suc zero))))))) h l = lt-ltb id 256 h
+call_applies id (suc (suc (suc (suc (suc (suc (suc (suc zero)))))))) h l = lt-ltb id 256 h
 call_applies id (suc (suc (suc (suc (suc (suc (suc (suc (suc c))))))))) h l = absurd (omega arith)
 
 -- the other actions

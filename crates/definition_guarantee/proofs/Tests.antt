@@ -1,21 +1,15 @@
 -- Tests that are true or false, and the definition's functions on options and lists.
-use Prim.Native.Nat.{ℕ, zero, suc, ◌≤◌, ◌<◌}
+use Prim.Native.Nat.{ℕ, zero, suc}
 use mathlib.Core.Path.{◌≡◌, refl, sym, ◌∙◌, ap, subst}
-use mathlib.Core.Logic.{◌≢◌, ◌⊎◌, inl, inr}
+use mathlib.Core.Logic.{◌⊎◌, inl, inr}
 use mathlib.Core.Bool.{Bool, true, false, ◌&&◌}
 use mathlib.Core.List.{List, [], ◌∷◌, ◌++◌}
 use mathlib.Core.Option.{Option, none, some}
-use lib.Dec.{T, eqb, leb, ltb, eqb→eq, eqb_refl, leb→le, le→leb, ltb→lt, lt→ltb, nltb→le}
+use lib.Dec.{T, eqb}
 use lib.ListN.{get_elem?, set}
+use Rattle.std.proofs.lemmas.Bool.{eqb-true, eq-eqb}
 use Rattle.prelude.specs.Base.{when◌then◌else◌, ◌or◌, or_else, and_then, any, all, first, same_numbers}
 use Rattle.definition_guarantee.specs.Tests.{Each}
-
-pub T_of : {b : Bool} → b ≡ true → T b
-T_of e = subst T (sym e) tt
-
-pub of_T : (b : Bool) → T b → b ≡ true
-of_T true t = refl
-of_T false t = absurd t
 
 pub clash : {A : Type 0} {b : Bool} → b ≡ true → b ≡ false → A
 clash p q = absurd (subst T (sym p ∙ q) tt)
@@ -23,39 +17,8 @@ clash p q = absurd (subst T (sym p ∙ q) tt)
 pub never : {A : Type 0} → false ≡ true → A
 never h = clash h refl
 
-pub eq_of : (m n : ℕ) → eqb m n ≡ true → m ≡ n
-eq_of m n e = eqb→eq m n (T_of e)
-
-pub eq_same : (m n : ℕ) → m ≡ n → eqb m n ≡ true
-eq_same m n e = rw e (of_T (eqb n n) (eqb_refl n))
-
 pub same : (n : ℕ) → eqb n n ≡ true
-same n = eq_same n n refl
-
-pub differ : (m n : ℕ) → m ≢ n → eqb m n ≡ false
-differ m n h = go (eqb m n) refl
-  where
-    go : (b : Bool) → eqb m n ≡ b → b ≡ false
-    go true e = absurd (h (eq_of m n e))
-    go false e = refl
-
-pub differs : (m n : ℕ) → eqb m n ≡ false → m ≢ n
-differs m n e h = clash (eq_same m n h) e
-
-pub le_of : (m n : ℕ) → leb m n ≡ true → m ≤ n
-le_of m n e = leb→le m n (T_of e)
-
-pub of_le : (m n : ℕ) → m ≤ n → leb m n ≡ true
-of_le m n h = of_T (leb m n) (le→leb m n h)
-
-pub lt_of : (m n : ℕ) → ltb m n ≡ true → m < n
-lt_of m n e = ltb→lt m n (T_of e)
-
-pub of_lt : (m n : ℕ) → m < n → ltb m n ≡ true
-of_lt m n h = of_T (ltb m n) (lt→ltb m n h)
-
-pub not_lt : (m n : ℕ) → ltb m n ≡ false → n ≤ m
-not_lt m n e = nltb→le m n (rw e tt)
+same n = eq-eqb n n refl
 
 pub and_true : (a b : Bool) → a && b ≡ true → (a ≡ true) × (b ≡ true)
 and_true true b e = (refl, e)
@@ -167,10 +130,6 @@ module _ {A : Type 0} where
       go true d e r = (0, x, refl, d)
       go false d e r = let k = r e in (suc k.0, k.1, k.2, k.3)
 
-  pub append_none : (xs : List A) → xs ++ [] ≡ xs
-  append_none [] = refl
-  append_none (x ∷ xs) = ap (λ (l : List A). x ∷ l) (append_none xs)
-
 pub same-list : (xs : List ℕ) → same_numbers xs xs ≡ true
 unfolding same_numbers
 same-list [] = refl
@@ -178,7 +137,7 @@ same-list (x ∷ xs) = if_both (same x) (same-list xs)
 
 by_head : (x y : ℕ) (xs ys : List ℕ) → (b : Bool) → eqb x y ≡ b → (same_numbers xs ys ≡ true → xs ≡ ys)
     → (when b then same_numbers xs ys else false) ≡ true → (x ∷ xs) ≡ (y ∷ ys)
-by_head x y xs ys true e tails h = let p : x ≡ y = eq_of x y e in let q : xs ≡ ys = tails h in cc
+by_head x y xs ys true e tails h = let p : x ≡ y = eqb-true x y e in let q : xs ≡ ys = tails h in cc
 by_head x y xs ys false e tails h = never h
 
 pub list_same : (xs ys : List ℕ) → same_numbers xs ys ≡ true → xs ≡ ys

@@ -16,7 +16,8 @@ use Rattle.definition.specs.Sizes.{steps_of, Sizing, update_operand_sizes, backw
 use Rattle.definition.specs.End.{is_build, builds, implicit_builds}
 use Rattle.definition.specs.ActionList.{places_label}
 use Rattle.definition.specs.Checker.{places, labels_once, all_built, layout_fits, sizes_hold, operation_holds, shape_of, counts_fit, same_count, option_fits, base_fits}
-use Rattle.definition_guarantee.proofs.Tests.{clash, eq_of, same, differ, differs, both, all_cons, In, none_some}
+use Rattle.std.proofs.lemmas.Bool.{eqb-true, ne_eqb, eqb-false}
+use Rattle.definition_guarantee.proofs.Tests.{clash, same, both, all_cons, In, none_some}
 use Rattle.definition_guarantee.proofs.Rules.{Alike, alike_refl, steps_alike}
 use Rattle.definition_guarantee.proofs.Words.{Laid, laid_fits}
 use Rattle.definition_guarantee.proofs.Finish as end
@@ -56,7 +57,7 @@ not_placed n (a ∷ xs) h = go (placing a.kind) (not_placed n xs) h
   where
     go : (b : Bool) → (¬ In n (label_numbers xs) → any (places n) xs ≡ false) → ¬ In n (place b a.number (label_numbers xs))
         → (when b && eqb n a.number then true else any (places n) xs) ≡ false
-    go true r h = rw (differ n a.number (λ e. h (inl e))) (r (λ i. h (inr i)))
+    go true r h = rw (ne_eqb n a.number (λ e. h (inl e))) (r (λ i. h (inr i)))
     go false r h = r h
 
 pub distinct_once : (xs : List SemanticAction) → Distinct (label_numbers xs) → labels_once xs ≡ true
@@ -127,8 +128,8 @@ module _ (sec : Section) where
   subpiece-places_not : (k : ActionKind) (op : Operation) → operation_of k ≡ some op → is_op Operation.Subpiece op ≡ true
       → placing k ≡ false
   unfolding placing or_else and_then operation_number
-  subpiece-places_not k op e d = rw e (differ 62 (operation_number op)
-      (λ h. let n = eq_of 66 (operation_number op) d in absurd (omega arith)))
+  subpiece-places_not k op e d = rw e (ne_eqb 62 (operation_number op)
+      (λ h. let n = eqb-true 66 (operation_number op) d in absurd (omega arith)))
 
   copy_places_not : (k : ActionKind) → k ≡ ActionKind.Op Operation.Copy → (placing k ≡ false) × (is_build k ≡ false)
   unfolding placing or_else and_then operation_number operation_of is_build
@@ -198,9 +199,9 @@ built_each xs ys j (suc n) i h p q = go (eqb i j) refl (any (builds j) xs) refl 
 
     go : (c : Bool) → eqb i j ≡ c → (b : Bool) → any (builds j) xs ≡ b → (suc j ≤ i → any (builds i) (rest ++ ys) ≡ true)
         → any (builds i) ((when b then rest else build_of j ∷ rest) ++ ys) ≡ true
-    go false c b d r = onward b (r (let k = differs i j c in omega arith))
-    go true c true d r = let k : i ≡ j = eq_of i j c in any_right (builds i) rest ys (h (rw k d))
-    go true c false d r = let k : i ≡ j = eq_of i j c in rw k (own_build j (rest ++ ys))
+    go false c b d r = onward b (r (let k = eqb-false i j c in omega arith))
+    go true c true d r = let k : i ≡ j = eqb-true i j c in any_right (builds i) rest ys (h (rw k d))
+    go true c false d r = let k : i ≡ j = eqb-true i j c in rw k (own_build j (rest ++ ys))
 
 pub built_below : (actions : List SemanticAction) (n : ℕ) → ((i : ℕ) → i < n → any (builds i) actions ≡ true) → all_built actions n ≡ true
 unfolding all_built

@@ -16,7 +16,8 @@ use Rattle.definition.specs.ActionList.{or_none, value_words, input_words, actio
 use Rattle.definition.specs.Checker.{Shape, OperationShape, shapes, operation_numbered, op_numbered, action_kind_numbered, kinds, size_from, value_from, inputs_from, some_value, output_from, action_from, actions_from, same_count, counts_fit, shape_fits, option_fits, shape_of, number_fits, value_fits, layout_fits, base_fits, sizes_hold, labels_once, all_built, list_holds, check}
 use Rattle.definition.proofs.EveryOperation.{alike}
 use Rattle.definition.proofs.Openers.{base_opens, operations_opens}
-use Rattle.definition_guarantee.proofs.Tests.{clash, eq_of, differ, le_of, lt_of, of_le, of_lt, and_true, both, if_true, all_parts, all_at, first_from, or_true, then_some, same-list, any_from, chosen, some_same}
+use Rattle.std.proofs.lemmas.Bool.{eqb-true, ne_eqb, leb-true, ltb-true, le-leb, lt-ltb}
+use Rattle.definition_guarantee.proofs.Tests.{clash, and_true, both, if_true, all_parts, all_at, first_from, or_true, then_some, same-list, any_from, chosen, some_same}
 
 -- the second word of a value: its kind, offset and size
 
@@ -70,7 +71,7 @@ op_numbered_lem op h = rw (numbered op h)
 size_back : (z : Option ℕ) → or_else 0 z < 65535 → size_from (or_none z) ≡ z
 unfolding size_from or_none or_else
 size_back none h = refl
-size_back (some n) h = rw (differ n 65535 (omega arith))
+size_back (some n) h = rw (ne_eqb n 65535 (omega arith))
 
 pub size_word : (z : Option ℕ) → or_else 0 z < 65535 → or_none z ≤ 65535
 unfolding or_none or_else
@@ -88,11 +89,11 @@ unfolding value_fits
 fits_parts {t} {sub} {v} h =
     let k = and_true _ _ h in
     let j = and_true _ _ k.0 in
-    record { number = j.0; offset = le_of _ _ j.1; size = lt_of _ _ k.1 }
+    record { number = j.0; offset = leb-true _ _ j.1; size = ltb-true _ _ k.1 }
 
 pub parts_fit : {t sub : ℕ} {v : Value} → Fits t sub v → value_fits t sub v ≡ true
 unfolding value_fits
-parts_fit f = both (both f.number (of_le _ _ f.offset)) (of_lt _ _ f.size)
+parts_fit f = both (both f.number (le-leb _ _ f.offset)) (lt-ltb _ _ f.size)
 
 -- the second word
 abbrev packed : Value → ℕ
@@ -123,7 +124,7 @@ inputs_back t sub (v ∷ vs) (suc (suc m)) h f =
 -- an output
 
 no_clash : (v : Value) → eqb (packed v) 255 ≡ false
-no_clash v = let k = kind_small v.kind in differ (packed v) 255 (λ e. absurd (omega arith))
+no_clash v = let k = kind_small v.kind in ne_eqb (packed v) 255 (λ e. absurd (omega arith))
 
 output_back : (v : Value) → v.offset ≤ 65535 → or_else 0 v.size < 65535 → (operation : Operation)
     → output_from (ActionKind.Op operation) v.number (packed v) ≡ some (some v)
@@ -218,7 +219,7 @@ module _ (t sub : ℕ) where
       let s = then_some (shape_of t sub a.kind) _ true (or_true _ i.0) in
       let c = and_true _ _ (some_same s.2) in
       record {
-        shaped = record { shape = s.0; is = s.1; counts = c.0; number = lt_of _ _ c.1 };
+        shaped = record { shape = s.0; is = s.1; counts = c.0; number = ltb-true _ _ c.1 };
         inputs = i.1;
         output = j.1;
         base = k.1;
@@ -229,7 +230,7 @@ module _ (t sub : ℕ) where
   laid_fits a l =
       let s = l.shaped in
       let q : or_else false (and_then (shape_of t sub a.kind) λ shape. some (shape_fits a shape)) ≡ true =
-      rw s.is (both s.counts (of_lt _ _ s.number)) in
+      rw s.is (both s.counts (lt-ltb _ _ s.number)) in
       both (both (both q l.inputs) l.output) l.base
 
   count_small : (a : SemanticAction) → Laid a → length a.inputs ≤ 8
@@ -237,8 +238,8 @@ module _ (t sub : ℕ) where
   count_small a l =
       let s = l.shaped in
       let c = any_from _ s.shape.counts s.counts in
-      let h = le_of _ _ (all_at small_count_lem s.shape.counts c.0 c.1 (shape-small a.kind s.shape s.is) c.2) in
-      let e : length a.inputs ≡ c.1.0 = eq_of _ _ (and_true _ _ c.3).0 in
+      let h = leb-true _ _ (all_at small_count_lem s.shape.counts c.0 c.1 (shape-small a.kind s.shape s.is) c.2) in
+      let e : length a.inputs ≡ c.1.0 = eqb-true _ _ (and_true _ _ c.3).0 in
       rw e h
 
   not_subpiece : {number : ℕ} {inputs : List Value} {output : Option Value} (op : Operation)
@@ -318,5 +319,5 @@ module _ (t sub : ℕ) where
       → labels_once xs ≡ true → all_built xs sub ≡ true → check (filled la (list_words xs)) (length xs) t sub pointer_size ≡ true
   unfolding check list_holds or_else and_then
   words-pass xs la p h f z l b =
-      rw (filled_length la (list_words xs), of_le (24 * length xs) la h, actions_back xs la h f)
+      rw (filled_length la (list_words xs), le-leb (24 * length xs) la h, actions_back xs la h f)
       (both (both (both (both (same-list (filled la (list_words xs))) f) z) l) b)

@@ -25,7 +25,7 @@ use Rattle.file_refinement.specs.Holds.{Holds, bit_range_at, symbol_word}
 use Rattle.definition_guarantee.proofs.Tests.{some_same}
 use Rattle.definition_guarantee.proofs.Globals.{place-below, FoundPlaced, found_placed}
 pub use Rattle.definition_guarantee.proofs.Entries.{find-each}
-pub use Rattle.list_refinement.proofs.Finishing.{test_sym as eqb_swap}
+pub use Rattle.file_refinement.proofs.AgreeStream.{eqb_sym as eqb_swap}
 use Rattle.list_refinement.specs.Encoding.{Sound}
 use Rattle.expr_scope.specs.declared.scope.ExprValue.{ExprValue as WordExpr}
 use Rattle.expr_scope.specs.Outcomes.{Meaning as WordMeaning}

@@ -45,7 +45,7 @@ code_agrees s {A} P alternatives f n p v b st past k = go (leb (p + 1) (length s
         let o : p + 1 ≡ suc p = omega arith in
         rw (u8_at s p (omega arith), h, g, o) (k (get_or s p 0) (ltb-true _ _ g) refl (omega arith))
 
-past : {A : Type 0} (l : List A) (b : ℕ) → length l ≤ b → get_elem? l b ≡ none
+pub past : {A : Type 0} (l : List A) (b : ℕ) → length l ≤ b → get_elem? l b ≡ none
 past [] b h = refl
 past (x ∷ l) zero h = absurd (omega arith)
 past (x ∷ l) (suc b) h = past l b (omega arith)

@@ -1,5 +1,6 @@
 -- The whole stream: the code's reading agrees with the definition's, list by list.
-use mathlib.Core.Path.{◌≡◌, refl, sym, ◌∙◌, ap}
+use Rattle.std.proofs.lemmas.Bool.Decides.{nat_tests}
+use mathlib.Core.Path.{◌≡◌, refl, ◌∙◌, ap}
 use mathlib.Core.Bool.{Bool, true, false}
 use mathlib.Core.List.{List, [], ◌∷◌, ◌++◌, map, append-nil}
 use Prim.Native.Nat.{ℕ, zero, suc, ◌+◌, ◌-◌, ◌%◌, ◌≤◌, ◌<◌}
@@ -7,7 +8,6 @@ use native.Mathlib.Omega.{arith}
 use lib.ListN.{length, get_or, set, drop, length-set, drop_of_length-le}
 use lib.Seq.{drop-cons, get_or-set_other}
 use lib.Dec.{eqb}
-use borrow.Author.Tests.{eqb-true, eqb-false, eq-eqb, ne_eqb}
 use Rattle.prelude.specs.Base.{when◌then◌else◌, all}
 use Rattle.definition.specs.Refusals.{refusal_number, malformed}
 use Rattle.definition.specs.Ast.{Space, Register, BitRange, Table, Macro, Field, Subtable, Statement, Section}
@@ -29,12 +29,8 @@ use Rattle.file_refinement.proofs.AgreeEntries.{base_global, base-local, space_a
 
 -- The tail.
 
-eqb_sym : (a b : ℕ) → eqb a b ≡ eqb b a
-eqb_sym a b = go (eqb a b) refl
-  where
-    go : (x : Bool) → eqb a b ≡ x → eqb a b ≡ eqb b a
-    go true e = rw (e, eq-eqb b a (sym (eqb-true a b e)))
-    go false e = rw (e, ne_eqb b a (λ z. eqb-false a b e (sym z)))
+pub eqb_sym : (a b : ℕ) → eqb a b ≡ eqb b a
+eqb_sym a b = grind (arith, nat_tests)
 
 zeros_all : (n q : ℕ) (s : List ℕ) → n ≡ length s - q → zeros n q s ≡ all (eqb 0) (drop q s)
 unfolding zeros all

@@ -1,5 +1,4 @@
 -- The end of each action: its sizes fixed, and a subpiece turned into a copy; or a refusal.
-use Rattle.std.proofs.lemmas.Bool.Decides.{nat_tests}
 use Prim.Native.Nat.{ℕ, suc, ◌+◌, ◌*◌, ◌%◌, ◌^◌, ◌≤◌, ◌<◌}
 use mathlib.Core.Path.{◌≡◌, refl, sym, ◌∙◌, ap, subst}
 use mathlib.Core.Bool.{Bool, true, false}
@@ -22,6 +21,7 @@ use Rattle.definition.specs.End as d
 use Rattle.definition.specs.End.{sliced_inputs, is_build, builds}
 use Rattle.definition.specs.ActionList.{or_none, input_words, value_words, action_kind_number, operation_word, filled, action_words, list_words}
 use Rattle.definition.proofs.Openers.{base_opens}
+use Rattle.file_refinement.proofs.AgreeStream.{eqb_sym}
 use Rattle.list_values.specs.declared.value.Value.{Value as WordValue}
 use Rattle.list_values.specs.declared.sizes.Sizing.{Sizing as WordSizing}
 use Rattle.list_end.specs.Outcomes.{Finished}
@@ -83,9 +83,6 @@ pub record Piece (number : ℕ) (inputs : List Value) (output : Option Value) : 
   pub one_input : inputs ≡ input ∷ []
   pub an_output : output ≡ some result
   pub small : number < 65536
-
-pub test_sym : (m n : ℕ) → eqb m n ≡ eqb n m
-test_sym m n = grind (arith, nat_tests)
 
 module _ (pre post : List ℕ) (at0 : ℕ) (begins : length pre ≡ at0) where
   set_at : (ws : List ℕ) (i v : ℕ) → i < length ws → set (pre ++ (ws ++ post)) (at0 + i) v ≡ pre ++ (set ws i v ++ post)
@@ -189,7 +186,7 @@ module _ (pre post : List ℕ) (at0 : ℕ) (begins : length pre ≡ at0) where
         let a : get_or (words_of pre post (X vs y)) (at0 + 1) 0
         ≡ operation_number op = get_in pre (action_words (X vs y)) post at0 begins 1 (rw (action_length (X vs y)) (omega arith))
         ∙ rw (words_of_lem (X vs y)) (unfold operation_of operation_word in refl) in
-        let b : is_op Operation.Subpiece op ≡ eqb (operation_number op) 66 = unfold operation_number in test_sym 66 (operation_number op) in
+        let b : is_op Operation.Subpiece op ≡ eqb (operation_number op) 66 = unfold operation_number in eqb_sym 66 (operation_number op) in
         rw (a, b) (tested_is (eqb (operation_number op) 66) vs y f p)
 
 -- An action that the end can finish.

@@ -15,7 +15,8 @@ use Rattle.definition.specs.Sizes.{in0, in1, out, at}
 use Rattle.definition.specs.Checker.{Shape, shapes, shape_of, same_count, counts_fit, number_fits, value_fits, option_fits}
 use Rattle.definition.proofs.EveryOperation.{alike}
 use Rattle.definition.proofs.Openers.{base_opens, operations_opens}
-use Rattle.definition_guarantee.proofs.Tests.{clash, eq_of, le_of, lt_of, and_true, some_same, all_at, all_parts, any_from}
+use Rattle.std.proofs.lemmas.Bool.{eqb-true, leb-true, ltb-true}
+use Rattle.definition_guarantee.proofs.Tests.{clash, and_true, some_same, all_at, all_parts, any_from}
 use Rattle.definition_guarantee.proofs.Words.{Fits, fits_parts, Laid, subpiece_shapeless}
 use Rattle.definition_guarantee.proofs.Layouts.{Rough, laid_out, subpiece}
 use Rattle.list_refinement.specs.Encoding.{Within, Sound, Each, EachOption, SoundAction}
@@ -57,23 +58,23 @@ no_second (x ∷ y ∷ xs) h = absurd (omega arith)
 module _ (x : SemanticAction) where
   all_three : leb 2 (length x.inputs) && is_some x.output ≡ true → (has in0 x ≡ true) × (has in1 x ≡ true) × (has out x ≡ true)
   unfolding at
-  all_three e = let k = and_true _ _ e in let n = le_of 2 (length x.inputs) k.0 in
+  all_three e = let k = and_true _ _ e in let n = leb-true 2 (length x.inputs) k.0 in
       (first_there x.inputs (omega arith), second_there x.inputs n, k.1)
 
   pub suited : (k : RuleKind) → suits k (length x.inputs) (is_some x.output) ≡ true → Operands k x
   unfolding suits at
   suited RuleKind.unruled e = tt
-  suited RuleKind.pair e = let k = and_true _ _ e in (first_there x.inputs (le_of 1 (length x.inputs) k.0), k.1)
+  suited RuleKind.pair e = let k = and_true _ _ e in (first_there x.inputs (leb-true 1 (length x.inputs) k.0), k.1)
   suited RuleKind.shift e = all_three e
   suited RuleKind.triple e = all_three e
   suited RuleKind.comparison e = all_three e
   suited RuleKind.boolean e = all_three e
-  suited RuleKind.negation e = let k = and_true _ _ e in let n = eq_of (length x.inputs) 1 k.0 in
+  suited RuleKind.negation e = let k = and_true _ _ e in let n = eqb-true (length x.inputs) 1 k.0 in
       (first_there x.inputs (omega arith), no_second x.inputs n, k.1)
   suited RuleKind.nan e = e
-  suited RuleKind.address e = first_there x.inputs (le_of 1 (length x.inputs) e)
-  suited RuleKind.branch e = let n = le_of 2 (length x.inputs) e in (first_there x.inputs (omega arith), second_there x.inputs n)
-  suited RuleKind.condition e = first_there x.inputs (le_of 1 (length x.inputs) e)
+  suited RuleKind.address e = first_there x.inputs (leb-true 1 (length x.inputs) e)
+  suited RuleKind.branch e = let n = leb-true 2 (length x.inputs) e in (first_there x.inputs (omega arith), second_there x.inputs n)
+  suited RuleKind.condition e = first_there x.inputs (leb-true 1 (length x.inputs) e)
 
 -- The counts of an operation's shape are what its rule needs, and no action has more than eight inputs.
 
@@ -126,13 +127,13 @@ module _ (t sub : ℕ) (x : SemanticAction) (laid : Laid t sub x) where
       let c = any_from _ laid.shaped.shape.counts laid.shaped.counts in
       let j = all_at (counted k) laid.shaped.shape.counts c.0 c.1 h c.2 in
       let p = and_true _ _ c.3 in
-      let n : length x.inputs ≡ c.1.0 = eq_of _ _ p.0 in
+      let n : length x.inputs ≡ c.1.0 = eqb-true _ _ p.0 in
       let o : is_some x.output ≡ c.1.1 = same_flag (is_some x.output) c.1.1 p.1 in
       same_count_lem k n o j
 
   pub laid_few : length x.inputs ≤ 8
   unfolding counted
-  laid_few = le_of (length x.inputs) 8 (and_true (suits RuleKind.unruled (length x.inputs) (is_some x.output))
+  laid_few = leb-true (length x.inputs) 8 (and_true (suits RuleKind.unruled (length x.inputs) (is_some x.output))
       (leb (length x.inputs) 8) (counts_are RuleKind.unruled (kind_suits t sub x.kind laid.shaped.shape laid.shaped.is))).1
 
   laid_kind : (k : ActionKind) → x.kind ≡ k → Ruled k x
@@ -175,9 +176,9 @@ module _ (sec : Section) (t : ℕ) where
   within_kind Kind.InstNext n h r = tt
   within_kind Kind.Register n h r = r
   within_kind Kind.Field n h r = r
-  within_kind Kind.Subtable n h r = lt_of n (length sec.subtables) h
-  within_kind Kind.SubtableRef n h r = lt_of n (length sec.subtables) h
-  within_kind Kind.PcodeTmp n h r = lt_of n t h
+  within_kind Kind.Subtable n h r = ltb-true n (length sec.subtables) h
+  within_kind Kind.SubtableRef n h r = ltb-true n (length sec.subtables) h
+  within_kind Kind.PcodeTmp n h r = ltb-true n t h
   within_kind Kind.Constant n h r = tt
 
   pub fits-sound : (v : Value) → Fits t (length sec.subtables) v → Ranged sec v → Sound sec t v
