@@ -4,7 +4,7 @@
 ghost use Rattle.std.specs.Prelude.{◌≡◌};
 ghost use Rattle.codes.specs.Refusals.{number_or_zero};
 ghost use Rattle.list_values.specs.Base.{listed};
-ghost use Rattle.list_end.specs.Outcomes.{to_finished};
+ghost use Rattle.list_end.specs.Outcomes.{to_fixed, to_finished};
 ghost use Rattle.list_end.specs.End.{fix_size, fix_operand, fix_inputs, fix_output, fix_operands, write_copy, subpiece_copy, finish_op, finish_actions, mark_build, mark_built, write_build, implicit_builds, implicit_build, move_action, move_down, assemble};
 
 use codes::action::{NO_OUTPUT, OUTPUT_WORD, SIZE_PLACE};
@@ -20,14 +20,7 @@ use list_values::value::{
 // How many subtables can be marked as built.
 const MARKS: usize = 32;
 
-// A value with its size fixed, and the sizing after that.
-#[derive(Clone, Copy)]
-pub struct Fixed {
-    pub v: Value,
-    pub z: Sizing,
-}
-
-// The known size, else the fallback, else an error.
+// A value with its size fixed, and the sizing after that: the known size, else the fallback, else an error.
 #[tactic(auto, unfolding(crate::specs::End::fix_size, list_values::specs::Sizes::error))]
 pub fn fix_size(
     section: Section<'_>,
@@ -35,26 +28,17 @@ pub fn fix_size(
     value: Value,
     pointer: u64,
     sizing: Sizing,
-) -> Fixed
-    ensures { result ≡ fix_size section.entry.stream.now section.entry.table.now temporaries.now value pointer sizing }
+) -> (Value, Sizing)
+    ensures { to_fixed result ≡ fix_size section.entry.stream.now section.entry.table.now temporaries.now value pointer sizing }
 {
     let known = size_of(section, temporaries, value);
     if known != NONE {
-        return Fixed {
-            v: with_size(value, known),
-            z: sizing,
-        };
+        return (with_size(value, known), sizing);
     }
     if falls_back(value) {
-        return Fixed {
-            v: with_size(value, pointer),
-            z: sizing,
-        };
+        return (with_size(value, pointer), sizing);
     }
-    Fixed {
-        v: value,
-        z: record_errors(sizing, 1),
-    }
+    (value, record_errors(sizing, 1))
 }
 
 #[tactic(auto, using(crate::proofs::EndLaws::fix_sized), unfolding(crate::specs::End::fix_operand, crate::specs::End::put_fixed))]
@@ -73,15 +57,15 @@ fn fix_operand(
     if get(actions, at, usize::from(index) + 1) / SIZE_PLACE < NONE {
         return sizing;
     }
-    let f = fix_size(
+    let (value, sizing) = fix_size(
         section,
         temporaries,
         value_at(actions, at, index),
         pointer,
         sizing,
     );
-    put_value(actions, at, index, f.v);
-    f.z
+    put_value(actions, at, index, value);
+    sizing
 }
 
 #[tactic(auto, using(access::proofs::LoopLaws::run_again, access::proofs::LoopLaws::run_end), unfolding(crate::specs::End::fix_inputs, crate::specs::End::fix_input, list_values::specs::Base::then_l))]

@@ -2,13 +2,14 @@
 ghost use Rattle.std.specs.Prelude.{◌≡◌, Some};
 ghost use Rattle.list_values.specs.Sizes.{sized};
 ghost use Rattle.stmt_walk.specs.Outcomes.{to_walk, to_export};
+ghost use Rattle.resolve_answer.specs.Answers.{resolved_to};
 ghost use Rattle.resolve_answer.specs.Outcomes.{to_resolved};
-ghost use Rattle.resolve_answer.specs.Ends.{judged, export_fixed, finish_export, finish_sized, actions_between, both_passes, finish};
+ghost use Rattle.resolve_answer.specs.Ends.{judged, export_with, finish_export, finish_sized, actions_between, both_passes, finish};
 
-use crate::answer::{Answer, Rejected, accepted};
+use crate::answer::{Answer, Rejected, accepted, refused};
 use codes::refusal::Refusal;
 use codes::{action, header};
-use list_end::end::{Fixed, finish_actions, fix_size};
+use list_end::end::{finish_actions, fix_size};
 use list_end::passes::size_pass;
 use list_values::section::Section;
 use list_values::sizes::Sizing;
@@ -63,11 +64,10 @@ fn exported(export: Export) -> Value
     }
 }
 
-// The export with its value as it was fixed.
-fn with_fixed(export: Export, fixed: Fixed) -> Export
-    ensures { to_export (Some result) ≡ export_fixed (to_export (Some export)) fixed }
+// The export with another value, as it was fixed.
+fn with_value(export: Export, pointer: Value) -> Export
+    ensures { to_export (Some result) ≡ export_with (to_export (Some export)) pointer }
 {
-    let pointer = fixed.v;
     match export {
         Export::Value(_) => Export::Value(pointer),
         Export::RamRef { size, .. } => Export::RamRef { pointer, size },
@@ -88,15 +88,15 @@ fn finish_export(
     let Some(export) = ending.walk.export else {
         return judged(actions, temporaries, ending, None, sizing);
     };
-    let fixed = fix_size(
+    let (value, sizing) = fix_size(
         section,
         temporaries,
         exported(export),
         ending.pointer,
         sizing,
     );
-    let export = Some(with_fixed(export, fixed));
-    judged(actions, temporaries, ending, export, fixed.z)
+    let export = Some(with_value(export, value));
+    judged(actions, temporaries, ending, export, sizing)
 }
 
 // From the actions with the sizes that the passes found.
@@ -169,7 +169,7 @@ fn both_passes(
 }
 
 #[tactic(auto, unfolding(crate::specs::Ends::finish, crate::specs::Ends::finish_all, list_values::specs::Sizes::then_s))]
-pub fn finish(
+fn finished(
     section: Section<'_>,
     actions: &mut [u64],
     temporaries: &mut [u64],
@@ -197,4 +197,20 @@ pub fn finish(
         walk,
     };
     finish_sized(section, actions, temporaries, ending, sizing)
+}
+
+// After a refusal both lists are zero, which is done here alone.
+pub fn finish(
+    section: Section<'_>,
+    actions: &mut [u64],
+    temporaries: &mut [u64],
+    pointer: u64,
+    walk: Walk,
+) -> Answer
+    ensures { resolved_to result actions.new temporaries.new ≡ finish section.entry.stream.now section.entry.table.now actions.old temporaries.old pointer (to_walk walk) }
+{
+    match finished(section, actions, temporaries, pointer, walk) {
+        Ok(answer) => answer,
+        Err(why) => refused(actions, temporaries, why),
+    }
 }
