@@ -1,5 +1,6 @@
-// The end: sizes fixed, subpieces turned into copies, the implicit Builds in front, unused words zero. Its loops go by an index:
-// an action may reach past the list's end, where words are read as 0 and none are written, which no method of slices does.
+// The end: sizes fixed, subpieces turned into copies, the implicit Builds in front, unused words zero. All its loops, over actions,
+// over an action's inputs and words, and over subtables, whose Builds are actions, go by an index: an action may reach past the
+// list's end, where words are read as 0 and none are written, which no method of slices does.
 // Kinds and operations are numbers, since they are words of the list, which may hold any.
 ghost use Rattle.std.specs.Prelude.{◌≡◌};
 ghost use Rattle.codes.specs.Refusals.{number_or_zero};
@@ -87,6 +88,7 @@ fn fix_inputs(
             actions,
             temporaries,
             at,
+            // Below 8, so the cast loses nothing.
             INPUT_0 + (i % 8) as u8 * 2,
             pointer,
             sizing,
@@ -210,7 +212,7 @@ pub fn finish_actions(
     Ok(sizing)
 }
 
-// Marks the subtables that one of the n actions from a position on builds.
+// Marks the subtables that one of so many actions from a position on builds.
 #[tactic(auto, using(access::proofs::LoopLaws::run_again, access::proofs::LoopLaws::run_end), unfolding(crate::specs::End::mark_built, crate::specs::End::mark_action))]
 fn mark_built(actions: &[u64], base: usize, count: usize, built: &mut [bool])
     ensures { built.new ≡ mark_built actions.now base count built.old }
@@ -244,7 +246,7 @@ fn write_build(actions: &mut [u64], at: usize, number: u64)
     put(actions, at, action::NUMBER, number);
 }
 
-// A Build of each of the first n subtables that is not built yet, from the list's start on: how many.
+// A Build of each of the first so many subtables that is not built yet, from the list's start on: how many.
 #[tactic(auto, using(access::proofs::LoopLaws::run_again, access::proofs::LoopLaws::run_end), unfolding(crate::specs::End::implicit_builds))]
 fn implicit_builds(actions: &mut [u64], built: &[bool], count: usize) -> usize
     ensures { listed result actions.new ≡ implicit_builds actions.old built.now count }
@@ -278,7 +280,7 @@ fn move_action(actions: &mut [u64], from: usize, to: usize)
     }
 }
 
-// Moves n actions down, from a position to behind k actions.
+// Moves so many actions down, from a position to behind the Builds.
 #[tactic(auto, using(access::proofs::LoopLaws::run_again, access::proofs::LoopLaws::run_end), unfolding(crate::specs::End::move_down, crate::specs::End::move_to))]
 fn move_down(actions: &mut [u64], base: usize, builds: usize, count: usize)
     ensures { actions.new ≡ move_down actions.old base builds count }
@@ -291,12 +293,13 @@ fn move_down(actions: &mut [u64], base: usize, builds: usize, count: usize)
     }
 }
 
-// The list in its final order: the implicit Builds, the n actions that stand behind room for all subtables, zeros.
+// The list in its final order: the implicit Builds, the actions pushed, which stand behind room for all subtables, zeros.
 // How many actions it has.
 #[tactic(auto, unfolding(crate::specs::End::assemble, list_values::specs::Base::then_l, crate::specs::End::zero_from))]
 pub fn assemble(actions: &mut [u64], subtables: usize, pushed: usize) -> usize
     ensures { listed result actions.new ≡ assemble actions.old subtables pushed }
 {
+    // Fixed memory: the library has no heap.
     let mut built = [false; MARKS];
     let base = place(0, subtables);
     mark_built(actions, base, pushed, &mut built);

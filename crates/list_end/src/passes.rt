@@ -1,4 +1,4 @@
-// A pass over the n actions from a position on, whose errors are recorded: backward, or forward with fallback.
+// A pass over the actions from a position on, whose errors are recorded: backward, or forward with fallback.
 ghost use Rattle.std.specs.Prelude.{◌≡◌};
 ghost use Rattle.list_values.specs.Sizes.{sized};
 ghost use Rattle.list_end.specs.Passes.{size_pass};

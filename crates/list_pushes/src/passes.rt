@@ -9,7 +9,7 @@ use list_values::section::Section;
 use list_values::sizes::sum_of_errors;
 use list_values::value::place;
 
-// Where action i stands of those from a position on; the first may stand anywhere.
+// Where the action of an index stands of those from a position on; the first may stand anywhere.
 #[tactic(auto, unfolding(crate::specs::Passes::action_place))]
 fn action_place(base: usize, index: usize) -> usize
     ensures { result ≡ action_place base index }
@@ -17,7 +17,8 @@ fn action_place(base: usize, index: usize) -> usize
     if index == 0 { base } else { place(base, index) }
 }
 
-// Which of n actions is next after i of them, forward or backward.
+// Which action is next after so many of them, forward or backward. One loop turns both ways, so that the rules are compiled into
+// one: an iterator and its `rev` are two types.
 #[tactic(auto, unfolding(crate::specs::Passes::turn))]
 fn turn(forward: bool, count: usize, index: usize) -> usize
     requires { index < count }
@@ -26,7 +27,7 @@ fn turn(forward: bool, count: usize, index: usize) -> usize
     if forward { index } else { count - 1 - index }
 }
 
-// The n actions from a position on, forward with fallback or backward without: how many errors.
+// The actions from a position on, forward with fallback or backward without: how many errors.
 #[tactic(auto, using(crate::proofs::PassLaws::pass_laws))]
 pub fn pass(
     section: Section<'_>,

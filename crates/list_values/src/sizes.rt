@@ -29,7 +29,7 @@ pub fn entry(table: &[u16; table::LENGTH], list: usize, bytes: u64) -> usize
     usize::from(access::get(table, table::LISTS + list % 16)) + (bytes % 1048576) as usize
 }
 
-// The size of entry i of list k, whose entries are a name and a size.
+// The size of an entry of a list, whose entries are a name and a size.
 #[tactic(auto, unfolding(crate::specs::Sizes::list_size))]
 fn list_size(section: Section<'_>, list: List, index: u64) -> u64
     ensures { result ≡ list_size section.entry.stream.now section.entry.table.now (list_number list) index }
@@ -169,7 +169,7 @@ pub fn settle(temporaries: &mut [u64], value: Value, known: u64, size: u64) -> u
     1
 }
 
-// Sets the size of the operand i after a position.
+// Sets the size of the operand at an index after a position.
 #[tactic(auto, unfolding(crate::specs::Sizes::set_operand, crate::specs::Sizes::size_at, crate::specs::Base::then_l))]
 #[inline(always)]
 pub fn set_operand(
