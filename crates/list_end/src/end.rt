@@ -11,8 +11,7 @@ ghost use Rattle.list_end.specs.End.{fix_size, fix_operand, fix_inputs, fix_outp
 use codes::action::{NO_OUTPUT, OUTPUT_WORD, SIZE_PLACE};
 use codes::refusal::Refusal;
 use codes::{NONE, action, action_kind, operation};
-use list_values::section::Section;
-use list_values::sizes::{Sizing, falls_back, record_errors, size_of};
+use list_values::sizes::{Sizing, Sources, falls_back, record_errors, size_of};
 use list_values::value::{
     INPUT_0, OUTPUT, Value, get, place, put, put_value, slice_bytes, value_at, with_size,
     zero_words,
@@ -24,73 +23,63 @@ const MARKS: usize = 32;
 // A value with its size fixed, and the sizing after that: the known size, else the fallback, else an error.
 #[tactic(auto, unfolding(crate::specs::End::fix_size, list_values::specs::Sizes::error))]
 pub fn fix_size(
-    section: Section<'_>,
+    sources: &Sources<'_>,
     temporaries: &[u64],
     value: Value,
-    pointer: u64,
     sizing: Sizing,
 ) -> (Value, Sizing)
-    ensures { to_fixed result ≡ fix_size section.entry.stream.now section.entry.table.now temporaries.now value pointer sizing }
+    ensures { to_fixed result ≡ fix_size sources.entry.now.section.stream.now sources.entry.now.section.table.now temporaries.now value sources.entry.now.pointer sizing }
 {
-    let known = size_of(section, temporaries, value);
+    let known = size_of(sources.section, temporaries, value);
     if known != NONE {
         return (with_size(value, known), sizing);
     }
     if falls_back(value) {
-        return (with_size(value, pointer), sizing);
+        return (with_size(value, sources.pointer), sizing);
     }
     (value, record_errors(sizing, 1))
 }
 
 #[tactic(auto, using(crate::proofs::EndLaws::fix_sized), unfolding(crate::specs::End::fix_operand, crate::specs::End::put_fixed))]
 fn fix_operand(
-    section: Section<'_>,
+    sources: &Sources<'_>,
     actions: &mut [u64],
     temporaries: &[u64],
     at: usize,
     index: u8,
-    pointer: u64,
     sizing: Sizing,
 ) -> Sizing
-    ensures { listed result actions.new ≡ fix_operand section.entry.stream.now section.entry.table.now actions.old temporaries.now at index pointer sizing }
+    ensures { listed result actions.new ≡ fix_operand sources.entry.now.section.stream.now sources.entry.now.section.table.now actions.old temporaries.now at index sources.entry.now.pointer sizing }
 {
     // Most operands have a size of their own by now, and stay as they are.
     if get(actions, at, usize::from(index) + 1) / SIZE_PLACE < NONE {
         return sizing;
     }
-    let (value, sizing) = fix_size(
-        section,
-        temporaries,
-        value_at(actions, at, index),
-        pointer,
-        sizing,
-    );
+    let (value, sizing) = fix_size(sources, temporaries, value_at(actions, at, index), sizing);
     put_value(actions, at, index, value);
     sizing
 }
 
 #[tactic(auto, using(access::proofs::LoopLaws::run_again, access::proofs::LoopLaws::run_end), unfolding(crate::specs::End::fix_inputs, crate::specs::End::fix_input, list_values::specs::Base::then_l))]
 fn fix_inputs(
-    section: Section<'_>,
+    sources: &Sources<'_>,
     actions: &mut [u64],
     temporaries: &[u64],
     at: usize,
     count: usize,
-    pointer: u64,
     sizing: Sizing,
 ) -> Sizing
-    ensures { listed result actions.new ≡ fix_inputs section.entry.stream.now section.entry.table.now actions.old temporaries.now at count pointer sizing }
+    ensures { listed result actions.new ≡ fix_inputs sources.entry.now.section.stream.now sources.entry.now.section.table.now actions.old temporaries.now at count sources.entry.now.pointer sizing }
 {
     let mut sizing = sizing;
     for i in 0..count {
         sizing = fix_operand(
-            section,
+            sources,
             actions,
             temporaries,
             at,
             // Below 8, so the cast loses nothing.
             INPUT_0 + (i % 8) as u8 * 2,
-            pointer,
             sizing,
         );
     }
@@ -99,43 +88,33 @@ fn fix_inputs(
 
 #[tactic(auto, unfolding(crate::specs::End::fix_output))]
 fn fix_output(
-    section: Section<'_>,
+    sources: &Sources<'_>,
     actions: &mut [u64],
     temporaries: &[u64],
     at: usize,
-    pointer: u64,
     sizing: Sizing,
 ) -> Sizing
-    ensures { listed result actions.new ≡ fix_output section.entry.stream.now section.entry.table.now actions.old temporaries.now at pointer sizing }
+    ensures { listed result actions.new ≡ fix_output sources.entry.now.section.stream.now sources.entry.now.section.table.now actions.old temporaries.now at sources.entry.now.pointer sizing }
 {
     if get(actions, at, OUTPUT_WORD) == NO_OUTPUT {
         return sizing;
     }
-    fix_operand(section, actions, temporaries, at, OUTPUT, pointer, sizing)
+    fix_operand(sources, actions, temporaries, at, OUTPUT, sizing)
 }
 
 #[tactic(auto, unfolding(crate::specs::End::fix_operands, list_values::specs::Base::then_l))]
 fn fix_operands(
-    section: Section<'_>,
+    sources: &Sources<'_>,
     actions: &mut [u64],
     temporaries: &[u64],
     at: usize,
-    pointer: u64,
     sizing: Sizing,
 ) -> Sizing
-    ensures { listed result actions.new ≡ fix_operands section.entry.stream.now section.entry.table.now actions.old temporaries.now at pointer sizing }
+    ensures { listed result actions.new ≡ fix_operands sources.entry.now.section.stream.now sources.entry.now.section.table.now actions.old temporaries.now at sources.entry.now.pointer sizing }
 {
     let n = get(actions, at, action::INPUT_COUNT) % 16;
-    let y = fix_inputs(
-        section,
-        actions,
-        temporaries,
-        at,
-        n as usize,
-        pointer,
-        sizing,
-    );
-    fix_output(section, actions, temporaries, at, pointer, y)
+    let y = fix_inputs(sources, actions, temporaries, at, n as usize, sizing);
+    fix_output(sources, actions, temporaries, at, y)
 }
 
 // The Copy of a part of a value.
@@ -172,19 +151,18 @@ pub struct Unfinished {
 
 #[tactic(auto, unfolding(crate::specs::End::finish_op, crate::specs::End::finish_fixed, list_values::specs::Base::then_l))]
 fn finish_op(
-    section: Section<'_>,
+    sources: &Sources<'_>,
     actions: &mut [u64],
     temporaries: &[u64],
     at: usize,
-    pointer: u64,
     sizing: Sizing,
 ) -> Result<Sizing, Unfinished>
-    ensures { listed (to_finished result) actions.new ≡ finish_op section.entry.stream.now section.entry.table.now actions.old temporaries.now at pointer sizing }
+    ensures { listed (to_finished result) actions.new ≡ finish_op sources.entry.now.section.stream.now sources.entry.now.section.table.now actions.old temporaries.now at sources.entry.now.pointer sizing }
 {
     if get(actions, at, action::KIND) != action_kind::OP {
         return Ok(sizing);
     }
-    let sizing = fix_operands(section, actions, temporaries, at, pointer, sizing);
+    let sizing = fix_operands(sources, actions, temporaries, at, sizing);
     if get(actions, at, action::OPERATION) != operation::SUBPIECE {
         return Ok(sizing);
     }
@@ -194,20 +172,19 @@ fn finish_op(
 
 #[tactic(auto, using(crate::proofs::EndLaws::finish_laws))]
 pub fn finish_actions(
-    section: Section<'_>,
+    sources: &Sources<'_>,
     actions: &mut [u64],
     temporaries: &[u64],
     base: usize,
     count: usize,
-    pointer: u64,
     sizing: Sizing,
 ) -> Result<Sizing, Unfinished>
-    ensures { listed (to_finished result) actions.new ≡ finish_actions section.entry.stream.now section.entry.table.now actions.old temporaries.now base count pointer sizing }
+    ensures { listed (to_finished result) actions.new ≡ finish_actions sources.entry.now.section.stream.now sources.entry.now.section.table.now actions.old temporaries.now base count sources.entry.now.pointer sizing }
 {
     let mut sizing = sizing;
     for i in 0..count {
         let at = place(base, i);
-        sizing = finish_op(section, actions, temporaries, at, pointer, sizing)?;
+        sizing = finish_op(sources, actions, temporaries, at, sizing)?;
     }
     Ok(sizing)
 }

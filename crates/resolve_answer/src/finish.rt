@@ -12,17 +12,16 @@ use codes::{action, header};
 use list_end::end::{finish_actions, fix_size};
 use list_end::passes::size_pass;
 use list_values::section::Section;
-use list_values::sizes::Sizing;
+use list_values::sizes::{Direction, Rules, Sizing, Sources};
 use list_values::value::{Value, place};
 use stmt_walk::walk::{Export, Walk};
 
-// What is to be finished: how many subtables the section has, how many actions stand behind room for their Builds, the pointer
-// size, and the walk that pushed them.
+// What is to be finished: how many subtables the section has, how many actions stand behind room for their Builds, and the walk
+// that pushed them.
 #[derive(Clone, Copy)]
 struct Ending {
     subtables: usize,
     count: usize,
-    pointer: u64,
     walk: Walk,
 }
 
@@ -48,7 +47,6 @@ fn judged(
         subtables,
         count,
         walk,
-        ..
     } = ending;
     Ok(accepted(actions, temporaries, subtables, count, walk, export))
 }
@@ -77,24 +75,18 @@ fn with_value(export: Export, pointer: Value) -> Export
 
 #[tactic(auto, unfolding(crate::specs::Ends::finish_export, crate::specs::Ends::judged_fixed))]
 fn finish_export(
-    section: Section<'_>,
+    sources: &Sources<'_>,
     actions: &mut [u64],
     temporaries: &mut [u64],
     ending: Ending,
     sizing: Sizing,
 ) -> Result<Answer, Rejected>
-    ensures { to_resolved result actions.new temporaries.new ≡ finish_export section.entry.stream.now section.entry.table.now actions.old temporaries.old ending.subtables ending.count ending.pointer (to_walk ending.walk) sizing }
+    ensures { to_resolved result actions.new temporaries.new ≡ finish_export sources.entry.now.section.stream.now sources.entry.now.section.table.now actions.old temporaries.old ending.subtables ending.count sources.entry.now.pointer (to_walk ending.walk) sizing }
 {
     let Some(export) = ending.walk.export else {
         return judged(actions, temporaries, ending, None, sizing);
     };
-    let (value, sizing) = fix_size(
-        section,
-        temporaries,
-        exported(export),
-        ending.pointer,
-        sizing,
-    );
+    let (value, sizing) = fix_size(sources, temporaries, exported(export), sizing);
     let export = Some(with_value(export, value));
     judged(actions, temporaries, ending, export, sizing)
 }
@@ -102,25 +94,17 @@ fn finish_export(
 // From the actions with the sizes that the passes found.
 #[tactic(auto, unfolding(crate::specs::Ends::finish_sized, crate::specs::Ends::finish_done, list_values::specs::Base::then_l))]
 fn finish_sized(
-    section: Section<'_>,
+    sources: &Sources<'_>,
     actions: &mut [u64],
     temporaries: &mut [u64],
     ending: Ending,
     sizing: Sizing,
 ) -> Result<Answer, Rejected>
-    ensures { to_resolved result actions.new temporaries.new ≡ finish_sized section.entry.stream.now section.entry.table.now actions.old temporaries.old ending.subtables ending.count ending.pointer (to_walk ending.walk) sizing }
+    ensures { to_resolved result actions.new temporaries.new ≡ finish_sized sources.entry.now.section.stream.now sources.entry.now.section.table.now actions.old temporaries.old ending.subtables ending.count sources.entry.now.pointer (to_walk ending.walk) sizing }
 {
     let base = place(0, ending.subtables);
-    let sizing = finish_actions(
-        section,
-        actions,
-        temporaries,
-        base,
-        ending.count,
-        ending.pointer,
-        sizing,
-    )?;
-    finish_export(section, actions, temporaries, ending, sizing)
+    let sizing = finish_actions(sources, actions, temporaries, base, ending.count, sizing)?;
+    finish_export(sources, actions, temporaries, ending, sizing)
 }
 
 // How many actions stand between two positions.
@@ -136,67 +120,46 @@ fn actions_between(base: usize, end: usize) -> usize
 
 #[tactic(auto, unfolding(crate::specs::Ends::both_passes, list_values::specs::Sizes::then_s))]
 fn both_passes(
-    section: Section<'_>,
+    sources: &Sources<'_>,
     actions: &mut [u64],
     temporaries: &mut [u64],
     base: usize,
     count: usize,
-    pointer: u64,
     sizing: Sizing,
 ) -> Sizing
-    ensures { sized result actions.new temporaries.new ≡ both_passes section.entry.stream.now section.entry.table.now actions.old temporaries.old base count pointer sizing }
+    ensures { sized result actions.new temporaries.new ≡ both_passes sources.entry.now.section.stream.now sources.entry.now.section.table.now actions.old temporaries.old base count sources.entry.now.pointer sizing }
 {
-    let back = size_pass(
-        section,
-        false,
-        actions,
-        temporaries,
-        base,
-        count,
-        pointer,
-        sizing,
-    );
-    size_pass(
-        section,
-        true,
-        actions,
-        temporaries,
-        base,
-        count,
-        pointer,
-        back,
-    )
+    let backward = Rules {
+        sources: *sources,
+        direction: Direction::Backward,
+    };
+    let forward = Rules {
+        direction: Direction::Forward,
+        ..backward
+    };
+    let back = size_pass(&backward, actions, temporaries, base, count, sizing);
+    size_pass(&forward, actions, temporaries, base, count, back)
 }
 
 #[tactic(auto, unfolding(crate::specs::Ends::finish, crate::specs::Ends::finish_all, list_values::specs::Sizes::then_s))]
 fn finished(
-    section: Section<'_>,
+    sources: &Sources<'_>,
     actions: &mut [u64],
     temporaries: &mut [u64],
-    pointer: u64,
     walk: Walk,
 ) -> Result<Answer, Rejected>
-    ensures { to_resolved result actions.new temporaries.new ≡ finish section.entry.stream.now section.entry.table.now actions.old temporaries.old pointer (to_walk walk) }
+    ensures { to_resolved result actions.new temporaries.new ≡ finish sources.entry.now.section.stream.now sources.entry.now.section.table.now actions.old temporaries.old sources.entry.now.pointer (to_walk walk) }
 {
-    let subtables = access::u16_at(section.stream, header::SUBTABLES) as usize;
+    let subtables = access::u16_at(sources.section.stream, header::SUBTABLES) as usize;
     let base = place(0, subtables);
     let count = actions_between(base, walk.st.end);
-    let sizing = both_passes(
-        section,
-        actions,
-        temporaries,
-        base,
-        count,
-        pointer,
-        walk.st.sizing,
-    );
+    let sizing = both_passes(sources, actions, temporaries, base, count, walk.st.sizing);
     let ending = Ending {
         subtables,
         count,
-        pointer,
         walk,
     };
-    finish_sized(section, actions, temporaries, ending, sizing)
+    finish_sized(sources, actions, temporaries, ending, sizing)
 }
 
 // After a refusal both lists are zero, which is done here alone.
@@ -209,7 +172,8 @@ pub fn finish(
 ) -> Answer
     ensures { resolved_to result actions.new temporaries.new ≡ finish section.entry.stream.now section.entry.table.now actions.old temporaries.old pointer (to_walk walk) }
 {
-    match finished(section, actions, temporaries, pointer, walk) {
+    let sources = Sources { section, pointer };
+    match finished(&sources, actions, temporaries, walk) {
         Ok(answer) => answer,
         Err(why) => refused(actions, temporaries, why),
     }
