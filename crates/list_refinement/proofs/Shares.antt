@@ -50,9 +50,6 @@ small_test n h = ne_eqb n 65535 (λ e. omega arith)
 test_small : (n : ℕ) → n < 65535 → eqb 65535 n ≡ false
 test_small n h = ne_eqb 65535 n (λ e. omega arith)
 
-same_test : (n : ℕ) → eqb n n ≡ true
-same_test n = eq-eqb n n refl
-
 equal_test : (n : ℕ) (b c : Option ℕ) → n < 65535 → or_else 0 b < 65535 → or_else 0 c < 65535
     → (when eqb n (or_none b) then eqb (or_none b) (or_none c) else false) ≡ (when contains n b then contains n c else false)
 unfolding or_none or_else contains
@@ -150,15 +147,15 @@ module _ (s t : List ℕ) (sec : Section) (holds : SizesHold s t sec) (tail : Li
               → set_operand s t (words_of pre post x) (temporaries_of tail z) place (operand_at q) m (enc_z z)
               ≡ held pre post tail (d.share_size sec (some m)
               (fallback late) (p ∷ q ∷ []) x z)
-          part e f = unfold base_opens d.share_size contains but_first in rw (e, f, same_test m) (one_is m k q p x z (suc (suc room)) r j)
+          part e f = unfold base_opens d.share_size contains but_first in rw (e, f, eq-eqb m m refl) (one_is m k q p x z (suc (suc room)) r j)
       pair_shares late (some m) (some n) e f k l = rw (small_test m k) (part (eqb m n) refl)
         where
           part : (c : Bool) → eqb m n ≡ c → (when c then held pre post tail (x, z) else set_operand s t (words_of pre post x)
               (temporaries_of tail z) place (operand_at q) m (enc_z z))
               ≡ held pre post tail (d.share_size sec (some m)
               (fallback late) (p ∷ q ∷ []) x z)
-          part true g = unfold base_opens d.share_size contains but_first in rw (e, f, same_test m, g)
-          part false g = unfold base_opens d.share_size contains but_first in rw (e, f, same_test m, g)
+          part true g = unfold base_opens d.share_size contains but_first in rw (e, f, eq-eqb m m refl, g)
+          part false g = unfold base_opens d.share_size contains but_first in rw (e, f, eq-eqb m m refl, g)
               (one_is m k q p x z (suc (suc room)) r j)
 
       pub pair_is : (late : Bool) → set_size_of_pair s t late (words_of pre post x) (temporaries_of tail z) place (operand_at p)
@@ -222,11 +219,11 @@ module _ (s t : List ℕ) (sec : Section) (holds : SizesHold s t sec) (tail : Li
             → (when (when u then v else false) then held pre post tail (x, z) else set_two s t (words_of pre post x)
             (temporaries_of tail z) place 8 4 n (enc_z z)) ≡ Shared (some n) late
         unfolding base_opens d.share_size but_first
-        by_first n b c true true l e f g = let i : contains n (some n) ≡ true = unfold contains in same_test n in rw (e.0, i, e.1, f, e.2, g)
+        by_first n b c true true l e f g = let i : contains n (some n) ≡ true = unfold contains in eq-eqb n n refl in rw (e.0, i, e.1, f, e.2, g)
         by_first n b c true false l e f g = let i : contains n (some n)
-            ≡ true = unfold contains in same_test n in rw (e.0, i, e.1, f, e.2, g) (two_is n l in1 out x z (suc room) r j k)
+            ≡ true = unfold contains in eq-eqb n n refl in rw (e.0, i, e.1, f, e.2, g) (two_is n l in1 out x z (suc room) r j k)
         by_first n b c false v l e f g = let i : contains n (some n)
-            ≡ true = unfold contains in same_test n in rw (e.0, i, e.1, f) (two_is n l in1 out x z (suc room) r j k)
+            ≡ true = unfold contains in eq-eqb n n refl in rw (e.0, i, e.1, f) (two_is n l in1 out x z (suc room) r j k)
 
         triple_shares : (a b c : Option ℕ) → or_else 0 a < 65535 → or_else 0 b < 65535 → or_else 0 c < 65535 → Known a b c
             → share_triple s t late (words_of pre post x) (temporaries_of tail z) place (or_none a) (or_none b) (or_none c)
