@@ -36,7 +36,7 @@ pub enum Direction {
     Forward,
 }
 
-// What the size rules go by. It is lent by reference, as a walk's context is, since by value a push takes longer.
+// What the size rules go by. It is lent by reference, as a walk's context is.
 #[derive(Clone, Copy)]
 pub struct Rules<'a> {
     pub sources: Sources<'a>,

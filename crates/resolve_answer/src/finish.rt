@@ -162,7 +162,7 @@ fn finished(
     finish_sized(sources, actions, temporaries, ending, sizing)
 }
 
-// After a refusal both lists are zero, which is done here alone.
+// The end of a walk whole. Where it refuses the section both lists are zero.
 pub fn finish(
     section: Section<'_>,
     actions: &mut [u64],
