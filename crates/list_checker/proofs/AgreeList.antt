@@ -4,6 +4,7 @@ use mathlib.Core.Path.{◌≡◌, refl, sym, ◌∙◌, ap}
 use mathlib.Core.Bool.{Bool, true, false, ◌&&◌, ◌||◌, not}
 use Rattle.std.proofs.lemmas.Bool.Decides.{nat_tests}
 use Rattle.std.proofs.Math.Bool.{and_assoc, and-true, and-false}
+use Rattle.std.proofs.lemmas.Bool.{and_parts}
 use mathlib.Core.List.{List, [], ◌∷◌, ◌++◌}
 use mathlib.Core.Option.{Option, none, some}
 use native.Mathlib.Omega.{arith}
@@ -22,7 +23,7 @@ use Rattle.list_checker.specs.Sweep as w
 use Rattle.list_checker.specs.Sweep.{noted, note_label, when_new, rows_fit, labels_new, builds_it, any_builds, all_built_by, list_fit}
 use Rattle.list_checker.proofs.AgreeValue.{same-zeros}
 use Rattle.list_checker.proofs.AgreeKind.{operation_right, KindIs, kind_is}
-use Rattle.list_checker.proofs.AgreeSizes.{if_and, eqb_comm, and_left, and_right}
+use Rattle.list_checker.proofs.AgreeSizes.{if_and, eqb_comm}
 use Rattle.list_checker.proofs.AgreeRow.{right, row_agrees}
 
 -- One row of a list.
@@ -213,7 +214,7 @@ labels-agree zero ws [] end q seen h = refl
 labels-agree (suc n) ws (a ∷ rest) (more e r) q seen h =
     let m = marked (take 24 ws) a e in
     rw (← m.number, ← m.label)
-    (go (λ s i. labels-agree n (drop 24 ws) rest r (and_right (when places_label a then ltb a.number 256 else true) (small rest) q) s i) (places_label a) (not (get_or seen a.number false)) (and_left (when places_label a then ltb a.number 256 else true) (small rest) q))
+    (go (λ s i. labels-agree n (drop 24 ws) rest r (and_parts (when places_label a then ltb a.number 256 else true) (small rest) q).1 s i) (places_label a) (not (get_or seen a.number false)) (and_parts (when places_label a then ltb a.number 256 else true) (small rest) q).0)
   where
     turn : (l n f : Bool) → (l && (n && f)) ≡ (n && l && f)
     turn true true f = refl
@@ -235,12 +236,12 @@ labels-agree (suc n) ws (a ∷ rest) (more e r) q seen h =
 
 label_head : (s p : ℕ) (b : Bool) (ws : List ℕ) → eqb (get_or ws 0 0) 0 ≡ true → get_or ws 1 0 ≡ 62 → head_fit s p b ws ≡ true → ltb (get_or ws 2 0) 256 ≡ true
 unfolding head_fit operation_fit row_fit row_of
-label_head s p b ws k o h = and_right (eqb (get_or ws 3 0) 0 && not b) _ (rw (k, o) at h)
+label_head s p b ws k o h = (and_parts (eqb (get_or ws 3 0) 0 && not b) _ (rw (k, o) at h)).1
 
 label-below : (t s p : ℕ) (ws : List ℕ) → action_fit t s p ws ≡ true → w.places_label ws ≡ true → ltb (get_or ws 2 0) 256 ≡ true
 unfolding action_fit w.places_label
 label-below t s p ws h l =
-    label_head s p (output_there ws) ws (and_left (eqb (get_or ws 0 0) 0) _ l) (eqb-true _ _ (and_right (eqb (get_or ws 0 0) 0) _ l)) (and_right ((not (output_there ws) || value_fit t s (eqb (get_or ws 0 0) 0) (get_or ws 4 0) (get_or ws 5 0)) && inputs_fit t s (eqb (get_or ws 0 0) 0) ws) _ h)
+    label_head s p (output_there ws) ws (and_parts (eqb (get_or ws 0 0) 0) _ l).0 (eqb-true _ _ (and_parts (eqb (get_or ws 0 0) 0) _ l).1) (and_parts ((not (output_there ws) || value_fit t s (eqb (get_or ws 0 0) 0) (get_or ws 4 0) (get_or ws 5 0)) && inputs_fit t s (eqb (get_or ws 0 0) 0) ws) _ h).1
 
 labels-small : (t s p n : ℕ) (ws : List ℕ) (found : List SemanticAction) → Reads n ws found → rows_fit t s p n ws ≡ true → small found ≡ true
 unfolding rows_fit small places_label
@@ -249,8 +250,8 @@ labels-small t s p (suc n) ws [] x4 h = elim x4 [ ]
 labels-small t s p zero ws [] end h = refl
 labels-small t s p (suc n) ws (a ∷ rest) (more e r) h =
     let m = marked (take 24 ws) a e in
-    let f = and_left (action_fit t s p (take 24 ws)) _ h in
-    rw (labels-small t s p n (drop 24 ws) rest r (and_right (action_fit t s p (take 24 ws)) _ h), m.number)
+    let f = (and_parts (action_fit t s p (take 24 ws)) _ h).0 in
+    rw (labels-small t s p n (drop 24 ws) rest r (and_parts (action_fit t s p (take 24 ws)) _ h).1, m.number)
     (go (λ l. label-below t s p (take 24 ws) f (sym m.label ∙ l)) (places_label a) refl)
   where
     go : (places_label a ≡ true → ltb (get_or (take 24 ws) 2 0) 256 ≡ true) → (b : Bool) → places_label a ≡ b → ((when b then ltb (get_or (take 24 ws) 2 0) 256 else true) && true) ≡ true

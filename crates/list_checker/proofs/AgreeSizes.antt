@@ -4,6 +4,7 @@ use Prim.Native.Nat.{ℕ, zero, suc, ◌/◌}
 use mathlib.Core.Path.{◌≡◌, refl, sym, ◌∙◌}
 use mathlib.Core.Bool.{Bool, true, false, ◌&&◌, ◌||◌, not}
 use Rattle.std.proofs.Math.Bool.{and_assoc, and-true}
+use Rattle.std.proofs.lemmas.Bool.{and_parts}
 use mathlib.Core.List.{List, [], ◌∷◌}
 use mathlib.Core.Option.{Option, none, some}
 use native.Mathlib.Omega.{arith}
@@ -36,12 +37,6 @@ if_and a b = grind (arith, nat_tests)
 
 pub eqb_comm : (a b : ℕ) → eqb a b ≡ eqb b a
 eqb_comm a b = grind (arith, nat_tests)
-
-pub and_left : (a b : Bool) → (a && b) ≡ true → a ≡ true
-and_left a b h1 = grind (arith, nat_tests)
-
-pub and_right : (a b : Bool) → (a && b) ≡ true → b ≡ true
-and_right a b h1 = grind (arith, nat_tests)
 
 assoc_3 : (a b c d : Bool) → (a && (b && (c && d))) ≡ (a && b && c && d)
 assoc_3 a b c d = grind (arith, nat_tests)
@@ -127,11 +122,11 @@ module _ (pointer : ℕ) (kind : ActionKind) (number x0 y0 x1 y1 : ℕ) (r : Lis
 
   in_0 : (n : ℕ) → inputs_sized (suc n) words ≡ true → (value_of x0 y0).size ≡ some (y0 / 16777216)
   unfolding inputs_sized value_of
-  in_0 n h = size_some (y0 / 16777216) (and_left _ _ h)
+  in_0 n h = size_some (y0 / 16777216) (and_parts _ _ h).0
 
   in_1 : (n : ℕ) → inputs_sized (suc (suc n)) words ≡ true → (value_of x1 y1).size ≡ some (y1 / 16777216)
   unfolding inputs_sized value_of
-  in_1 n h = size_some (y1 / 16777216) (and_left _ _ (and_right (not (eqb (y0 / 16777216) 65535)) _ h))
+  in_1 n h = size_some (y1 / 16777216) (and_parts _ _ (and_parts (not (eqb (y0 / 16777216) 65535)) _ h).1).0
 
   out_0 : output_sized true o1 ≡ true → (value_of o0 o1).size ≡ some (o1 / 16777216)
   unfolding output_sized value_of

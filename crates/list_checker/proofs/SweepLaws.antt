@@ -2,7 +2,8 @@
 use Prim.Native.Nat.{ℕ, zero, suc, ◌+◌, ◌-◌, ◌*◌, ◌/◌, ◌≤◌, ◌<◌}
 use mathlib.Core.Path.{◌≡◌, refl, sym, ◌∙◌, ap}
 use mathlib.Core.Bool.{Bool, true, false, ◌&&◌, ◌||◌, not}
-use Rattle.std.proofs.Math.Bool.{and_assoc, and-true}
+use Rattle.std.proofs.Math.Bool.{and_assoc, and-true, or-false, or-true}
+use Rattle.std.proofs.lemmas.Bool.{and_parts}
 use mathlib.Core.List.{List, [], ◌∷◌}
 use native.Mathlib.Omega.{arith}
 use native.Mathlib.Nat.{add-zero}
@@ -16,7 +17,6 @@ use Rattle.prelude.specs.Base.{when◌then◌else◌}
 use Rattle.definition.specs.Checker.{check}
 use Rattle.list_checker.specs.Action.{zeros, action_fit}
 use Rattle.list_checker.specs.Sweep.{Noted, noted, note_label, note_build, all_marked, when_new, sweep, rows_fit, labels_new, built_after, builds_it, any_builds, all_built_by, list_fit}
-use Rattle.list_checker.proofs.AgreeSizes.{and_right}
 use Rattle.list_checker.proofs.FitLaws.{first_few}
 use Rattle.list_checker.proofs.AgreeList.{unmarked_at, check_agrees, check-short}
 
@@ -43,31 +43,23 @@ note_at : (base : ℕ) (w : List ℕ) (built : List Bool) (j : ℕ) → j < leng
 unfolding note_build builds_it
 note_at base w built j h = go (eqb (get_or w 0 0) 5) (leb base (get_or w 2 0)) refl (eqb (base + j) (get_or w 2 0)) refl
   where
-    or_false : (x : Bool) → x ≡ (x || false)
-    or_false true = refl
-    or_false false = refl
-
-    or_true : (x : Bool) → true ≡ (x || true)
-    or_true true = refl
-    or_true false = refl
-
     go : (k l : Bool) → leb base (get_or w 2 0) ≡ l → (b : Bool) → eqb (base + j) (get_or w 2 0) ≡ b →
         get_or (when k && l then set built (get_or w 2 0 - base) true else built) j false ≡ (get_or built j false || (k && b))
-    go false l e b f = or_false _
+    go false l e b f = sym (or-false _)
     go true false e true f =
         let i : get_or w 2 0 < base = leb-false _ _ e in
         let z : base + j ≡ get_or w 2 0 = eqb-true _ _ f in
         absurd (omega arith)
-    go true false e false f = or_false _
+    go true false e false f = sym (or-false _)
     go true true e true f =
         let i : base ≤ get_or w 2 0 = leb-true _ _ e in
         let y : base + j ≡ get_or w 2 0 = eqb-true _ _ f in
         let z : get_or w 2 0 - base ≡ j = omega arith in
-        rw (z, get_or-set_same built j true false h) (or_true (get_or built j false))
+        rw (z, get_or-set_same built j true false h) (sym (or-true (get_or built j false)))
     go true true e false f =
         let i : base ≤ get_or w 2 0 = leb-true _ _ e in
         let y : base + j ≡ get_or w 2 0 → ⊥ = eqb-false _ _ f in
-        rw (get_or-set_other built (get_or w 2 0 - base) j true false (λ z. y (omega arith))) (or_false (get_or built j false))
+        rw (get_or-set_other built (get_or w 2 0 - base) j true false (λ z. y (omega arith))) (sym (or-false (get_or built j false)))
 
 note_length : (base : ℕ) (w : List ℕ) (built : List Bool) → length (note_build base w built) ≡ length built
 unfolding note_build
@@ -138,7 +130,7 @@ built_none n ws = refl
 built_below : (n m c : ℕ) (ws : List ℕ) → all_built_by n ws (c + m) ≡ true → all_built_by n ws m ≡ true
 unfolding all_built_by
 built_below n m zero ws h = let z : 0 + m ≡ m = omega arith in rw z at h
-built_below n m (suc c) ws h = let z : suc c + m ≡ suc (c + m) = omega arith in built_below n m c ws (and_right (any_builds (c + m) n ws) _ (rw z at h))
+built_below n m (suc c) ws h = let z : suc c + m ≡ suc (c + m) = omega arith in built_below n m c ws (and_parts (any_builds (c + m) n ws) _ (rw z at h)).1
 
 -- a sweep that is true with more than 256 subtables left, one that is false, and one that is true with no more
 
@@ -161,7 +153,7 @@ module _ (t s p base n : ℕ) (ws : List ℕ) (rows : List (List ℕ)) (r : Bool
       rw (← marks 256 (omega arith), ← f) (e ∙ sweep_parts t s p base n ws (replicate 256 false) (replicate 256 false))
 
   pub sweep_goes : r ≡ true → 256 < s - base → all_built_by n ws (base + 256) ≡ true
-  sweep_goes h l = and_right (labels_new n ws (replicate 256 false)) _ (and_right (rows_fit t s p n ws) _ (sym (many l) ∙ h))
+  sweep_goes h l = (and_parts (labels_new n ws (replicate 256 false)) _ (and_parts (rows_fit t s p n ws) _ (sym (many l) ∙ h)).1).1
 
   pub sweep-last : r ≡ true → base ≤ s → s - base ≤ 256 → true ≡ list_fit t s p n ws
   unfolding list_fit

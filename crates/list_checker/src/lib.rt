@@ -194,6 +194,7 @@ impl Counts {
         requires { base ≤ self.now.subtables }
         ensures { result ≡ sweep self.now.temporaries self.now.subtables self.now.pointer base actions.now (replicate 256 false) (replicate 256 false) }
     {
+        // Fixed memory: the library has no heap.
         let mut seen = [false; LABELS as usize];
         let mut built = [false; SWEPT as usize];
         for action in actions {

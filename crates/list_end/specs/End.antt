@@ -4,8 +4,7 @@ use Rattle.std.specs.Prelude.{ℕ, zero, suc, ◌+◌, ◌-◌, ◌*◌, ◌%◌
 use Rattle.list_values.specs.declared.value.Value.{Value}
 use Rattle.list_values.specs.Outcomes.{Slice}
 use Rattle.list_values.specs.declared.sizes.Sizing.{Sizing}
-use Rattle.list_end.specs.declared.end.Fixed.{Fixed}
-use Rattle.list_end.specs.Outcomes.{Finished}
+use Rattle.list_end.specs.Outcomes.{Fixed, Finished}
 use Rattle.list_values.specs.Base.{Listed, listed, then_l}
 use Rattle.prelude.specs.Base.{when◌then◌else◌}
 use Rattle.access.specs.Loops.{run}

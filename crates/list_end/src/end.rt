@@ -1,17 +1,17 @@
-// The end: sizes fixed, subpieces turned into copies, the implicit Builds in front, unused words zero. Its loops go by an index:
-// an action may reach past the list's end, where words are read as 0 and none are written, which no method of slices does.
+// The end: sizes fixed, subpieces turned into copies, the implicit Builds in front, unused words zero. All its loops, over actions,
+// over an action's inputs and words, and over subtables, whose Builds are actions, go by an index: an action may reach past the
+// list's end, where words are read as 0 and none are written, which no method of slices does.
 // Kinds and operations are numbers, since they are words of the list, which may hold any.
 ghost use Rattle.std.specs.Prelude.{◌≡◌};
 ghost use Rattle.codes.specs.Refusals.{number_or_zero};
 ghost use Rattle.list_values.specs.Base.{listed};
-ghost use Rattle.list_end.specs.Outcomes.{to_finished};
+ghost use Rattle.list_end.specs.Outcomes.{to_fixed, to_finished};
 ghost use Rattle.list_end.specs.End.{fix_size, fix_operand, fix_inputs, fix_output, fix_operands, write_copy, subpiece_copy, finish_op, finish_actions, mark_build, mark_built, write_build, implicit_builds, implicit_build, move_action, move_down, assemble};
 
 use codes::action::{NO_OUTPUT, OUTPUT_WORD, SIZE_PLACE};
 use codes::refusal::Refusal;
 use codes::{NONE, action, action_kind, operation};
-use list_values::section::Section;
-use list_values::sizes::{Sizing, falls_back, record_errors, size_of};
+use list_values::sizes::{Sizing, Sources, falls_back, record_errors, size_of};
 use list_values::value::{
     INPUT_0, OUTPUT, Value, get, place, put, put_value, slice_bytes, value_at, with_size,
     zero_words,
@@ -20,91 +20,66 @@ use list_values::value::{
 // How many subtables can be marked as built.
 const MARKS: usize = 32;
 
-// A value with its size fixed, and the sizing after that.
-#[derive(Clone, Copy)]
-pub struct Fixed {
-    pub v: Value,
-    pub z: Sizing,
-}
-
-// The known size, else the fallback, else an error.
+// A value with its size fixed, and the sizing after that: the known size, else the fallback, else an error.
 #[tactic(auto, unfolding(crate::specs::End::fix_size, list_values::specs::Sizes::error))]
 pub fn fix_size(
-    section: Section<'_>,
+    sources: &Sources<'_>,
     temporaries: &[u64],
     value: Value,
-    pointer: u64,
     sizing: Sizing,
-) -> Fixed
-    ensures { result ≡ fix_size section.entry.stream.now section.entry.table.now temporaries.now value pointer sizing }
+) -> (Value, Sizing)
+    ensures { to_fixed result ≡ fix_size sources.entry.now.section.stream.now sources.entry.now.section.table.now temporaries.now value sources.entry.now.pointer sizing }
 {
-    let known = size_of(section, temporaries, value);
+    let known = size_of(sources.section, temporaries, value);
     if known != NONE {
-        return Fixed {
-            v: with_size(value, known),
-            z: sizing,
-        };
+        return (with_size(value, known), sizing);
     }
     if falls_back(value) {
-        return Fixed {
-            v: with_size(value, pointer),
-            z: sizing,
-        };
+        return (with_size(value, sources.pointer), sizing);
     }
-    Fixed {
-        v: value,
-        z: record_errors(sizing, 1),
-    }
+    (value, record_errors(sizing, 1))
 }
 
 #[tactic(auto, using(crate::proofs::EndLaws::fix_sized), unfolding(crate::specs::End::fix_operand, crate::specs::End::put_fixed))]
 fn fix_operand(
-    section: Section<'_>,
+    sources: &Sources<'_>,
     actions: &mut [u64],
     temporaries: &[u64],
     at: usize,
     index: u8,
-    pointer: u64,
     sizing: Sizing,
 ) -> Sizing
-    ensures { listed result actions.new ≡ fix_operand section.entry.stream.now section.entry.table.now actions.old temporaries.now at index pointer sizing }
+    ensures { listed result actions.new ≡ fix_operand sources.entry.now.section.stream.now sources.entry.now.section.table.now actions.old temporaries.now at index sources.entry.now.pointer sizing }
 {
     // Most operands have a size of their own by now, and stay as they are.
     if get(actions, at, usize::from(index) + 1) / SIZE_PLACE < NONE {
         return sizing;
     }
-    let f = fix_size(
-        section,
-        temporaries,
-        value_at(actions, at, index),
-        pointer,
-        sizing,
-    );
-    put_value(actions, at, index, f.v);
-    f.z
+    let (value, sizing) = fix_size(sources, temporaries, value_at(actions, at, index), sizing);
+    put_value(actions, at, index, value);
+    sizing
 }
 
 #[tactic(auto, using(access::proofs::LoopLaws::run_again, access::proofs::LoopLaws::run_end), unfolding(crate::specs::End::fix_inputs, crate::specs::End::fix_input, list_values::specs::Base::then_l))]
 fn fix_inputs(
-    section: Section<'_>,
+    sources: &Sources<'_>,
     actions: &mut [u64],
     temporaries: &[u64],
     at: usize,
     count: usize,
-    pointer: u64,
     sizing: Sizing,
 ) -> Sizing
-    ensures { listed result actions.new ≡ fix_inputs section.entry.stream.now section.entry.table.now actions.old temporaries.now at count pointer sizing }
+    ensures { listed result actions.new ≡ fix_inputs sources.entry.now.section.stream.now sources.entry.now.section.table.now actions.old temporaries.now at count sources.entry.now.pointer sizing }
 {
     let mut sizing = sizing;
     for i in 0..count {
         sizing = fix_operand(
-            section,
+            sources,
             actions,
             temporaries,
             at,
+            // Below 8, so the cast loses nothing.
             INPUT_0 + (i % 8) as u8 * 2,
-            pointer,
             sizing,
         );
     }
@@ -113,43 +88,33 @@ fn fix_inputs(
 
 #[tactic(auto, unfolding(crate::specs::End::fix_output))]
 fn fix_output(
-    section: Section<'_>,
+    sources: &Sources<'_>,
     actions: &mut [u64],
     temporaries: &[u64],
     at: usize,
-    pointer: u64,
     sizing: Sizing,
 ) -> Sizing
-    ensures { listed result actions.new ≡ fix_output section.entry.stream.now section.entry.table.now actions.old temporaries.now at pointer sizing }
+    ensures { listed result actions.new ≡ fix_output sources.entry.now.section.stream.now sources.entry.now.section.table.now actions.old temporaries.now at sources.entry.now.pointer sizing }
 {
     if get(actions, at, OUTPUT_WORD) == NO_OUTPUT {
         return sizing;
     }
-    fix_operand(section, actions, temporaries, at, OUTPUT, pointer, sizing)
+    fix_operand(sources, actions, temporaries, at, OUTPUT, sizing)
 }
 
 #[tactic(auto, unfolding(crate::specs::End::fix_operands, list_values::specs::Base::then_l))]
 fn fix_operands(
-    section: Section<'_>,
+    sources: &Sources<'_>,
     actions: &mut [u64],
     temporaries: &[u64],
     at: usize,
-    pointer: u64,
     sizing: Sizing,
 ) -> Sizing
-    ensures { listed result actions.new ≡ fix_operands section.entry.stream.now section.entry.table.now actions.old temporaries.now at pointer sizing }
+    ensures { listed result actions.new ≡ fix_operands sources.entry.now.section.stream.now sources.entry.now.section.table.now actions.old temporaries.now at sources.entry.now.pointer sizing }
 {
     let n = get(actions, at, action::INPUT_COUNT) % 16;
-    let y = fix_inputs(
-        section,
-        actions,
-        temporaries,
-        at,
-        n as usize,
-        pointer,
-        sizing,
-    );
-    fix_output(section, actions, temporaries, at, pointer, y)
+    let y = fix_inputs(sources, actions, temporaries, at, n as usize, sizing);
+    fix_output(sources, actions, temporaries, at, y)
 }
 
 // The Copy of a part of a value.
@@ -186,19 +151,18 @@ pub struct Unfinished {
 
 #[tactic(auto, unfolding(crate::specs::End::finish_op, crate::specs::End::finish_fixed, list_values::specs::Base::then_l))]
 fn finish_op(
-    section: Section<'_>,
+    sources: &Sources<'_>,
     actions: &mut [u64],
     temporaries: &[u64],
     at: usize,
-    pointer: u64,
     sizing: Sizing,
 ) -> Result<Sizing, Unfinished>
-    ensures { listed (to_finished result) actions.new ≡ finish_op section.entry.stream.now section.entry.table.now actions.old temporaries.now at pointer sizing }
+    ensures { listed (to_finished result) actions.new ≡ finish_op sources.entry.now.section.stream.now sources.entry.now.section.table.now actions.old temporaries.now at sources.entry.now.pointer sizing }
 {
     if get(actions, at, action::KIND) != action_kind::OP {
         return Ok(sizing);
     }
-    let sizing = fix_operands(section, actions, temporaries, at, pointer, sizing);
+    let sizing = fix_operands(sources, actions, temporaries, at, sizing);
     if get(actions, at, action::OPERATION) != operation::SUBPIECE {
         return Ok(sizing);
     }
@@ -208,25 +172,24 @@ fn finish_op(
 
 #[tactic(auto, using(crate::proofs::EndLaws::finish_laws))]
 pub fn finish_actions(
-    section: Section<'_>,
+    sources: &Sources<'_>,
     actions: &mut [u64],
     temporaries: &[u64],
     base: usize,
     count: usize,
-    pointer: u64,
     sizing: Sizing,
 ) -> Result<Sizing, Unfinished>
-    ensures { listed (to_finished result) actions.new ≡ finish_actions section.entry.stream.now section.entry.table.now actions.old temporaries.now base count pointer sizing }
+    ensures { listed (to_finished result) actions.new ≡ finish_actions sources.entry.now.section.stream.now sources.entry.now.section.table.now actions.old temporaries.now base count sources.entry.now.pointer sizing }
 {
     let mut sizing = sizing;
     for i in 0..count {
         let at = place(base, i);
-        sizing = finish_op(section, actions, temporaries, at, pointer, sizing)?;
+        sizing = finish_op(sources, actions, temporaries, at, sizing)?;
     }
     Ok(sizing)
 }
 
-// Marks the subtables that one of the n actions from a position on builds.
+// Marks the subtables that one of so many actions from a position on builds.
 #[tactic(auto, using(access::proofs::LoopLaws::run_again, access::proofs::LoopLaws::run_end), unfolding(crate::specs::End::mark_built, crate::specs::End::mark_action))]
 fn mark_built(actions: &[u64], base: usize, count: usize, built: &mut [bool])
     ensures { built.new ≡ mark_built actions.now base count built.old }
@@ -260,7 +223,7 @@ fn write_build(actions: &mut [u64], at: usize, number: u64)
     put(actions, at, action::NUMBER, number);
 }
 
-// A Build of each of the first n subtables that is not built yet, from the list's start on: how many.
+// A Build of each of the first so many subtables that is not built yet, from the list's start on: how many.
 #[tactic(auto, using(access::proofs::LoopLaws::run_again, access::proofs::LoopLaws::run_end), unfolding(crate::specs::End::implicit_builds))]
 fn implicit_builds(actions: &mut [u64], built: &[bool], count: usize) -> usize
     ensures { listed result actions.new ≡ implicit_builds actions.old built.now count }
@@ -294,7 +257,7 @@ fn move_action(actions: &mut [u64], from: usize, to: usize)
     }
 }
 
-// Moves n actions down, from a position to behind k actions.
+// Moves so many actions down, from a position to behind the Builds.
 #[tactic(auto, using(access::proofs::LoopLaws::run_again, access::proofs::LoopLaws::run_end), unfolding(crate::specs::End::move_down, crate::specs::End::move_to))]
 fn move_down(actions: &mut [u64], base: usize, builds: usize, count: usize)
     ensures { actions.new ≡ move_down actions.old base builds count }
@@ -307,12 +270,13 @@ fn move_down(actions: &mut [u64], base: usize, builds: usize, count: usize)
     }
 }
 
-// The list in its final order: the implicit Builds, the n actions that stand behind room for all subtables, zeros.
+// The list in its final order: the implicit Builds, the actions pushed, which stand behind room for all subtables, zeros.
 // How many actions it has.
 #[tactic(auto, unfolding(crate::specs::End::assemble, list_values::specs::Base::then_l, crate::specs::End::zero_from))]
 pub fn assemble(actions: &mut [u64], subtables: usize, pushed: usize) -> usize
     ensures { listed result actions.new ≡ assemble actions.old subtables pushed }
 {
+    // Fixed memory: the library has no heap.
     let mut built = [false; MARKS];
     let base = place(0, subtables);
     mark_built(actions, base, pushed, &mut built);

@@ -1,15 +1,15 @@
 // A pass over actions: the rule of each, applied in place. A push is a pass over the one action that it has pushed, so that
 // the rules are compiled into one loop.
 ghost use Rattle.std.specs.Prelude.{◌≡◌, ◌<◌};
+ghost use Rattle.list_values.specs.Directions.{forwards};
 ghost use Rattle.list_values.specs.Sizes.{Counted};
 ghost use Rattle.list_pushes.specs.Passes.{action_place, turn, pass};
 
 use crate::rules::update_operand_sizes;
-use list_values::section::Section;
-use list_values::sizes::sum_of_errors;
+use list_values::sizes::{Direction, Rules, sum_of_errors};
 use list_values::value::place;
 
-// Where action i stands of those from a position on; the first may stand anywhere.
+// Where the action of an index stands of those from a position on; the first may stand anywhere.
 #[tactic(auto, unfolding(crate::specs::Passes::action_place))]
 fn action_place(base: usize, index: usize) -> usize
     ensures { result ≡ action_place base index }
@@ -17,35 +17,34 @@ fn action_place(base: usize, index: usize) -> usize
     if index == 0 { base } else { place(base, index) }
 }
 
-// Which of n actions is next after i of them, forward or backward.
+// Which action is next after so many of them, forward or backward. One loop turns both ways, so that the rules are compiled into
+// one: an iterator and its `rev` are two types.
 #[tactic(auto, unfolding(crate::specs::Passes::turn))]
-fn turn(forward: bool, count: usize, index: usize) -> usize
+fn turn(direction: Direction, count: usize, index: usize) -> usize
     requires { index < count }
-    ensures { result ≡ turn forward count index }
+    ensures { result ≡ turn (forwards direction) count index }
 {
-    if forward { index } else { count - 1 - index }
+    match direction {
+        Direction::Forward => index,
+        Direction::Backward => count - 1 - index,
+    }
 }
 
-// The n actions from a position on, forward with fallback or backward without: how many errors.
+// The actions from a position on, forward with fallback or backward without: how many errors.
 #[tactic(auto, using(crate::proofs::PassLaws::pass_laws))]
 pub fn pass(
-    section: Section<'_>,
-    forward: bool,
+    rules: &Rules<'_>,
     actions: &mut [u64],
     temporaries: &mut [u64],
     base: usize,
     count: usize,
-    pointer: u64,
 ) -> u64
-    ensures { Counted result actions.new temporaries.new (pass section.entry.stream.now section.entry.table.now forward actions.old temporaries.old base count pointer) }
+    ensures { Counted result actions.new temporaries.new (pass rules.entry.now.sources.section.stream.now rules.entry.now.sources.section.table.now (forwards rules.entry.now.direction) actions.old temporaries.old base count rules.entry.now.sources.pointer) }
 {
     let mut k = 0;
     for i in 0..count {
-        let at = action_place(base, turn(forward, count, i));
-        k = sum_of_errors(
-            k,
-            update_operand_sizes(section, forward, actions, temporaries, at, pointer),
-        );
+        let at = action_place(base, turn(rules.direction, count, i));
+        k = sum_of_errors(k, update_operand_sizes(rules, actions, temporaries, at));
     }
     k
 }

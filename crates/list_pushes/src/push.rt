@@ -10,7 +10,7 @@ use crate::passes::pass;
 use codes::refusal::Refusal;
 use codes::{NONE, action, action_kind, value_kind};
 use list_values::section::Section;
-use list_values::sizes::{Sizing, record_errors};
+use list_values::sizes::{Direction, Rules, Sizing, Sources, record_errors};
 use list_values::value::{
     INPUT_0, INPUT_1, OUTPUT, Value, absent, local, put, put_value, value_at, zero_words,
 };
@@ -192,16 +192,22 @@ pub fn push(
 #[tactic(auto, using(crate::proofs::PassLaws::pass_one), unfolding(crate::specs::Pushes::update_last, list_values::specs::Sizes::then_s))]
 #[inline(always)]
 fn update_last(
-    section: Section<'_>,
+    context: &Context<'_>,
     actions: &mut [u64],
     temporaries: &mut [u64],
     at: usize,
-    pointer: u64,
     before: State,
 ) -> State
-    ensures { state result actions.new temporaries.new ≡ update_last section.entry.stream.now section.entry.table.now actions.old temporaries.old at pointer before }
+    ensures { state result actions.new temporaries.new ≡ update_last context.entry.now.section.stream.now context.entry.now.section.table.now actions.old temporaries.old at context.entry.now.env.pointer before }
 {
-    let k = pass(section, false, actions, temporaries, at, 1, pointer);
+    let rules = Rules {
+        sources: Sources {
+            section: context.section,
+            pointer: context.env.pointer,
+        },
+        direction: Direction::Backward,
+    };
+    let k = pass(&rules, actions, temporaries, at, 1);
     State {
         sizing: record_errors(before.sizing, k),
         ..before
@@ -222,14 +228,7 @@ pub fn push_op(
 {
     let at = state.end;
     let next = push(actions, action_kind::OP, operation, out, state)?;
-    Ok(update_last(
-        context.section,
-        actions,
-        temporaries,
-        at,
-        context.env.pointer,
-        next,
-    ))
+    Ok(update_last(context, actions, temporaries, at, next))
 }
 
 // An operation with an output, and the output as its rule left it.

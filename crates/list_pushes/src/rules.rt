@@ -1,6 +1,7 @@
 // The size rule of each operation, applied in place to an action of the list, and how many errors that gives. Kinds and
 // operations are numbers here: they are words of the list, which may hold any, and a rule holds for runs of them.
 ghost use Rattle.std.specs.Prelude.{◌≡◌};
+ghost use Rattle.list_values.specs.Directions.{forwards};
 ghost use Rattle.list_values.specs.Sizes.{Counted};
 ghost use Rattle.list_pushes.specs.RuleNumbers.{rule_number, partner, pair_rule};
 ghost use Rattle.list_pushes.specs.Rules.{rule_of_operator, rule_of_one_input, rule_of_other, rule_of, bool_not, branch, apply_rule, update_operand_sizes};
@@ -8,8 +9,8 @@ ghost use Rattle.list_pushes.specs.Rules.{rule_of_operator, rule_of_one_input, r
 use codes::{action, action_kind, operation};
 use list_values::section::Section;
 use list_values::sizes::{
-    set_operand, set_size_of_pair, set_size_of_triple, set_three, set_two, set_unsized,
-    sum_of_errors,
+    Rules, Sources, set_operand, set_size_of_pair, set_size_of_triple, set_three, set_two,
+    set_unsized, sum_of_errors,
 };
 use list_values::value::{INPUT_0, INPUT_1, OUTPUT, get};
 
@@ -108,34 +109,24 @@ fn partner(paired: Paired) -> u8
 // its own each, a push takes longer.
 #[tactic(auto, using(list_values::proofs::SizeLaws::record_sum), unfolding(crate::specs::Rules::shift, crate::specs::Rules::comparison, list_values::specs::Sizes::then_s))]
 fn pair_rule(
-    section: Section<'_>,
+    rules: &Rules<'_>,
     paired: Paired,
-    fallback: bool,
     actions: &mut [u64],
     temporaries: &mut [u64],
     at: usize,
-    pointer: u64,
 ) -> u64
-    ensures { Counted result actions.new temporaries.new (pair_rule section.entry.stream.now section.entry.table.now paired fallback actions.old temporaries.old at pointer) }
+    ensures { Counted result actions.new temporaries.new (pair_rule rules.entry.now.sources.section.stream.now rules.entry.now.sources.section.table.now paired (forwards rules.entry.now.direction) actions.old temporaries.old at rules.entry.now.sources.pointer) }
 {
-    let x = set_size_of_pair(
-        section,
-        fallback,
-        actions,
-        temporaries,
-        at,
-        INPUT_0,
-        partner(paired),
-        pointer,
-    );
+    let sources = &rules.sources;
+    let x = set_size_of_pair(rules, actions, temporaries, at, INPUT_0, partner(paired));
     match paired {
         Paired::Alone => x,
         Paired::Shift => {
-            let more = set_unsized(section, actions, temporaries, at, INPUT_1, pointer);
+            let more = set_unsized(sources, actions, temporaries, at, INPUT_1);
             sum_of_errors(x, more)
         }
         Paired::Comparison => {
-            let more = set_operand(section, actions, temporaries, at, OUTPUT, 1);
+            let more = set_operand(sources.section, actions, temporaries, at, OUTPUT, 1);
             sum_of_errors(x, more)
         }
     }
@@ -149,43 +140,34 @@ fn bool_not(section: Section<'_>, actions: &mut [u64], temporaries: &mut [u64], 
 }
 
 #[tactic(auto, using(list_values::proofs::SizeLaws::record_sum), unfolding(crate::specs::Rules::branch, list_values::specs::Sizes::then_s))]
-fn branch(
-    section: Section<'_>,
-    actions: &mut [u64],
-    temporaries: &mut [u64],
-    at: usize,
-    pointer: u64,
-) -> u64
-    ensures { Counted result actions.new temporaries.new (branch section.entry.stream.now section.entry.table.now actions.old temporaries.old at pointer) }
+fn branch(sources: &Sources<'_>, actions: &mut [u64], temporaries: &mut [u64], at: usize) -> u64
+    ensures { Counted result actions.new temporaries.new (branch sources.entry.now.section.stream.now sources.entry.now.section.table.now actions.old temporaries.old at sources.entry.now.pointer) }
 {
-    let condition = set_operand(section, actions, temporaries, at, INPUT_0, 1);
-    let target = set_unsized(section, actions, temporaries, at, INPUT_1, pointer);
+    let condition = set_operand(sources.section, actions, temporaries, at, INPUT_0, 1);
+    let target = set_unsized(sources, actions, temporaries, at, INPUT_1);
     sum_of_errors(condition, target)
 }
 
 #[tactic(auto, unfolding(crate::specs::Rules::apply_rule, crate::specs::Rules::few_operands, list_values::specs::Sizes::recorded))]
 fn apply_rule(
-    section: Section<'_>,
+    rules: &Rules<'_>,
     rule: Rule,
-    fallback: bool,
     actions: &mut [u64],
     temporaries: &mut [u64],
     at: usize,
-    pointer: u64,
 ) -> u64
-    ensures { Counted result actions.new temporaries.new (apply_rule section.entry.stream.now section.entry.table.now (rule_number rule) fallback actions.old temporaries.old at pointer) }
+    ensures { Counted result actions.new temporaries.new (apply_rule rules.entry.now.sources.section.stream.now rules.entry.now.sources.section.table.now (rule_number rule) (forwards rules.entry.now.direction) actions.old temporaries.old at rules.entry.now.sources.pointer) }
 {
+    let Sources { section, pointer } = rules.sources;
     match rule {
         Rule::Unsized => 0,
-        Rule::Paired(paired) => {
-            pair_rule(section, paired, fallback, actions, temporaries, at, pointer)
-        }
-        Rule::Triple => set_size_of_triple(section, fallback, actions, temporaries, at, pointer),
+        Rule::Paired(paired) => pair_rule(rules, paired, actions, temporaries, at),
+        Rule::Triple => set_size_of_triple(rules, actions, temporaries, at),
         Rule::Boolean => set_three(section, actions, temporaries, at, 1),
         Rule::Not => bool_not(section, actions, temporaries, at),
         Rule::Nan => set_operand(section, actions, temporaries, at, OUTPUT, 1),
         Rule::Pointer => set_operand(section, actions, temporaries, at, INPUT_0, pointer),
-        Rule::Branch => branch(section, actions, temporaries, at, pointer),
+        Rule::Branch => branch(&rules.sources, actions, temporaries, at),
         Rule::Condition => set_operand(section, actions, temporaries, at, INPUT_0, 1),
     }
 }
@@ -193,25 +175,16 @@ fn apply_rule(
 // The rule of the Op at a position; other actions are not sized here.
 #[tactic(auto, unfolding(crate::specs::Rules::update_operand_sizes, list_values::specs::Sizes::recorded))]
 pub fn update_operand_sizes(
-    section: Section<'_>,
-    fallback: bool,
+    rules: &Rules<'_>,
     actions: &mut [u64],
     temporaries: &mut [u64],
     at: usize,
-    pointer: u64,
 ) -> u64
-    ensures { Counted result actions.new temporaries.new (update_operand_sizes section.entry.stream.now section.entry.table.now fallback actions.old temporaries.old at pointer) }
+    ensures { Counted result actions.new temporaries.new (update_operand_sizes rules.entry.now.sources.section.stream.now rules.entry.now.sources.section.table.now (forwards rules.entry.now.direction) actions.old temporaries.old at rules.entry.now.sources.pointer) }
 {
     if get(actions, at, action::KIND) != action_kind::OP {
         return 0;
     }
-    apply_rule(
-        section,
-        rule_of(get(actions, at, action::OPERATION)),
-        fallback,
-        actions,
-        temporaries,
-        at,
-        pointer,
-    )
+    let rule = rule_of(get(actions, at, action::OPERATION));
+    apply_rule(rules, rule, actions, temporaries, at)
 }

@@ -18,7 +18,7 @@ use Rattle.definition.specs.Sizes as d
 use Rattle.definition.specs.Sizes.{Sizing, pointer_size, fallback_size}
 use Rattle.definition.specs.ActionList.{or_none, value_words, input_words, action_kind_number, operation_word, filled, action_words}
 use Rattle.definition.proofs.Openers.{base_opens}
-use Rattle.list_end.specs.declared.end.Fixed.{Fixed}
+use Rattle.list_end.specs.Outcomes.{Fixed}
 use Rattle.list_values.specs.Base.{listed, then_l}
 use Rattle.access.specs.Loops.{run}
 use Rattle.list_values.specs.Values.{value_at, put_value, with_size}

@@ -232,6 +232,3 @@ module _ (sec : Section) (t : ℕ) where
   -- after the passes too: they keep an action rough and sound
   pub sound_finishable : (x : SemanticAction) → Rough t (length sec.subtables) x → SoundAction sec t x → Finishable sec t x
   sound_finishable x a f = record { sound = f; few = rough_few x a; piece = rough_piece x a }
-
-  pub rough_finishable : (x : SemanticAction) → Rough t (length sec.subtables) x → RangedAction sec x → Finishable sec t x
-  rough_finishable x a r = sound_finishable x a (rough_sound x a r)

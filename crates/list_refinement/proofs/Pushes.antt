@@ -1,5 +1,6 @@
 -- Temporaries and pushes: what the words answer is what the definition answers.
 use Rattle.std.proofs.lemmas.Bool.Decides.{nat_tests}
+use Rattle.std.proofs.lemmas.List.{map-append, length-map}
 use Prim.Native.Nat.{ℕ, suc, ◌+◌, ◌*◌, ◌^◌, ◌≤◌, ◌<◌, min}
 use mathlib.Core.Path.{◌≡◌, refl, sym, ◌∙◌, ap, subst}
 use mathlib.Core.Bool.{Bool, true, false}
@@ -37,22 +38,14 @@ use Rattle.list_refinement.proofs.Focus.{value_of, words_of}
 use Rattle.list_refinement.proofs.After.{After, after_ready}
 use Rattle.list_refinement.proofs.Rules.{update_is, Ruled, ruled-after, updated_after}
 use Rattle.list_refinement.proofs.Lists.{list_length, list_focus, focus_at, write-action}
-use Rattle.list_refinement.proofs.Seen.{bind_tmp, bind_pushed, yes, seen_read, seen_pushed, seen_tmp, seen_push, outcome, outcome_map}
+use Rattle.list_refinement.proofs.Seen.{bind_tmp, bind_pushed, yes, seen_read, seen_pushed, seen_tmp, seen_push, outcome}
 use Rattle.list_refinement.specs.RuleKinds.{kind_of, Operands}
 
 -- temporaries
 
-words_last : (ts : List Temporary) (t : Temporary) → map temporary_word (ts ++ (t ∷ [])) ≡ map temporary_word ts ++ (temporary_word t ∷ [])
-words_last [] t = refl
-words_last (u ∷ ts) t = ap (λ (l : List ℕ). temporary_word u ∷ l) (words_last ts t)
-
-pub words_length : (ts : List Temporary) → length (map temporary_word ts) ≡ length ts
-words_length [] = refl
-words_length (t ∷ ts) = ap suc (words_length ts)
-
 pub tmps_length : (rest : List ℕ) (ts : List Temporary) → length ts ≤ length rest → length (temporaries_in rest ts) ≡ length rest
 tmps_length rest ts h = length-append (map temporary_word ts) (drop (length ts) rest)
-    ∙ rw (words_length ts, length-drop (length ts) rest) (omega arith)
+    ∙ rw (length-map ts temporary_word, length-drop (length ts) rest) (omega arith)
 
 tmp-word : (name size : Option ℕ) → or_none name ≤ 65535 → or_else 0 size < 65535 → tmp_word (or_none name) (or_none size)
     ≡ temporary_word (record { name = name; size = size })
@@ -65,8 +58,8 @@ module _ (rest : List ℕ) (ts : List Temporary) (t : Temporary) where
       let c : length (ts ++ (t ∷ [])) ≡ suc (length ts) = length-append ts (t ∷ []) ∙ omega arith in
       rw (
         drop-cons rest (length ts) 0 h,
-        set_at (map temporary_word ts) (get_or rest (length ts) 0) (drop (suc (length ts)) rest) (temporary_word t) (length ts) (words_length ts),
-        words_last ts t,
+        set_at (map temporary_word ts) (get_or rest (length ts) 0) (drop (suc (length ts)) rest) (temporary_word t) (length ts) (length-map ts temporary_word),
+        map-append temporary_word ts (t ∷ []),
         c,
       )
       (sym (append_assoc (map temporary_word ts) (temporary_word t ∷ []) (drop (suc (length ts)) rest)))
@@ -300,14 +293,6 @@ module _ (e : Env) (s : State) (front tail rest : List ℕ) (lent : Lent e front
                 { end = end_more updated.0 i; temporaries = count i; sizing = enc_z updated.1 })
                 (actions_in front tail (s.actions ++ (updated.0 ∷ []))) (temporaries_in rest updated.1.temporaries))
             go false p = unfold on_push require seen_pushed outcome refusal_number in refl
-
-        pub op_no_output_is : output ≡ none
-            → seen_pushed (push_op stream table (actions_in front tail s.actions) (temporaries_in rest ts) we (operation_number operation) number
-            (length inputs) (output_of (some operation) output) (first_of inputs) (second_of inputs) (enc_s (length front) s))
-            ≡ outcome front tail rest (λ x. x) (d.op_no_output operation number inputs e s)
-        unfolding d.op_no_output
-        op_no_output_is none-given =
-            push-op_is ∙ rw none-given (sym (outcome_map front tail rest e (λ x. x) (λ _. tt) (d.push_op operation number inputs none e s)))
 
         -- what a push that is done leaves
         pub push-op-done : (a : SemanticAction) (u : State) → d.push_op operation number inputs output e s ≡ done a u

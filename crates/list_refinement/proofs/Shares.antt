@@ -8,7 +8,7 @@ use mathlib.Core.Option.{Option, none, some}
 use native.Mathlib.Omega.{arith}
 use lib.ListN.{length}
 use lib.Dec.{eqb}
-use borrow.Author.Tests.{ne_eqb}
+use borrow.Author.Tests.{ne_eqb, eq-eqb}
 use Rattle.prelude.specs.Base as definition
 use Rattle.prelude.specs.Base.{◌or◌, or_else, and_then, first, when◌then◌else◌, contains}
 use Rattle.definition.specs.Value.{Kind, Value, SemanticAction}
@@ -17,7 +17,6 @@ use Rattle.definition.specs.Sizes as d
 use Rattle.definition.specs.Sizes.{Operand, in0, in1, out, at, Sizing, but_first, known_at, set_operands, set_size_of_all, fallback_size, pointer_size}
 use Rattle.definition.specs.ActionList.{or_none}
 use Rattle.definition.proofs.Openers.{base_opens, value_opens}
-use Rattle.definition_guarantee.proofs.Tests.{same}
 use Rattle.list_values.specs.Values.{value_at}
 use Rattle.list_values.specs.Sizes.{Sized, then_s, set_operand, set_two, set_three, falls_back, pair_fallback, share_pair, set_size_of_pair, triple_falls_back, triple_fallback, share_size, all_equal, share_triple, set_size_of_triple, set_unsized}
 use Rattle.list_refinement.specs.Encoding.{enc_v, enc_z, SizesHold}
@@ -148,15 +147,15 @@ module _ (s t : List ℕ) (sec : Section) (holds : SizesHold s t sec) (tail : Li
               → set_operand s t (words_of pre post x) (temporaries_of tail z) place (operand_at q) m (enc_z z)
               ≡ held pre post tail (d.share_size sec (some m)
               (fallback late) (p ∷ q ∷ []) x z)
-          part e f = unfold base_opens d.share_size contains but_first in rw (e, f, same m) (one_is m k q p x z (suc (suc room)) r j)
+          part e f = unfold base_opens d.share_size contains but_first in rw (e, f, eq-eqb m m refl) (one_is m k q p x z (suc (suc room)) r j)
       pair_shares late (some m) (some n) e f k l = rw (small_test m k) (part (eqb m n) refl)
         where
           part : (c : Bool) → eqb m n ≡ c → (when c then held pre post tail (x, z) else set_operand s t (words_of pre post x)
               (temporaries_of tail z) place (operand_at q) m (enc_z z))
               ≡ held pre post tail (d.share_size sec (some m)
               (fallback late) (p ∷ q ∷ []) x z)
-          part true g = unfold base_opens d.share_size contains but_first in rw (e, f, same m, g)
-          part false g = unfold base_opens d.share_size contains but_first in rw (e, f, same m, g)
+          part true g = unfold base_opens d.share_size contains but_first in rw (e, f, eq-eqb m m refl, g)
+          part false g = unfold base_opens d.share_size contains but_first in rw (e, f, eq-eqb m m refl, g)
               (one_is m k q p x z (suc (suc room)) r j)
 
       pub pair_is : (late : Bool) → set_size_of_pair s t late (words_of pre post x) (temporaries_of tail z) place (operand_at p)
@@ -220,11 +219,11 @@ module _ (s t : List ℕ) (sec : Section) (holds : SizesHold s t sec) (tail : Li
             → (when (when u then v else false) then held pre post tail (x, z) else set_two s t (words_of pre post x)
             (temporaries_of tail z) place 8 4 n (enc_z z)) ≡ Shared (some n) late
         unfolding base_opens d.share_size but_first
-        by_first n b c true true l e f g = let i : contains n (some n) ≡ true = unfold contains in same n in rw (e.0, i, e.1, f, e.2, g)
+        by_first n b c true true l e f g = let i : contains n (some n) ≡ true = unfold contains in eq-eqb n n refl in rw (e.0, i, e.1, f, e.2, g)
         by_first n b c true false l e f g = let i : contains n (some n)
-            ≡ true = unfold contains in same n in rw (e.0, i, e.1, f, e.2, g) (two_is n l in1 out x z (suc room) r j k)
+            ≡ true = unfold contains in eq-eqb n n refl in rw (e.0, i, e.1, f, e.2, g) (two_is n l in1 out x z (suc room) r j k)
         by_first n b c false v l e f g = let i : contains n (some n)
-            ≡ true = unfold contains in same n in rw (e.0, i, e.1, f) (two_is n l in1 out x z (suc room) r j k)
+            ≡ true = unfold contains in eq-eqb n n refl in rw (e.0, i, e.1, f) (two_is n l in1 out x z (suc room) r j k)
 
         triple_shares : (a b c : Option ℕ) → or_else 0 a < 65535 → or_else 0 b < 65535 → or_else 0 c < 65535 → Known a b c
             → share_triple s t late (words_of pre post x) (temporaries_of tail z) place (or_none a) (or_none b) (or_none c)

@@ -3,3 +3,4 @@ pub mod Base
 pub mod Outcomes
 pub mod Values
 pub mod Sizes
+pub mod Directions

@@ -4,6 +4,7 @@
 // need in each contract two clauses more, that it still holds the same ones.
 ghost use Rattle.std.specs.Prelude.{◌≡◌};
 ghost use Rattle.codes.specs.Lists.{list_number};
+ghost use Rattle.list_values.specs.Directions.{forwards};
 ghost use Rattle.list_values.specs.Sizes.{Settles, Counted, entry, list_size, export_size_of, tmp_size, listed_size, size_of, size_at, sum_of_errors, recorded, size_temporary, settled, set_operand, set_two, set_three, falls_back, pair_fallback, set_size_of_pair, triple_falls_back, triple_fallback, share_size, all_equal, set_size_of_triple, set_unsized};
 
 use crate::section::Section;
@@ -21,6 +22,27 @@ pub struct Sizing {
     pub first: u64,
 }
 
+// What sizes come from: the section, and the pointer size, to which a value may fall back.
+#[derive(Clone, Copy)]
+pub struct Sources<'a> {
+    pub section: Section<'a>,
+    pub pointer: u64,
+}
+
+// Which way a pass over the actions goes. Forward it falls back to pointer size, backward it does not.
+#[derive(Clone, Copy, Debug, PartialEq, Eq)]
+pub enum Direction {
+    Backward,
+    Forward,
+}
+
+// What the size rules go by. It is lent by reference, as a walk's context is.
+#[derive(Clone, Copy)]
+pub struct Rules<'a> {
+    pub sources: Sources<'a>,
+    pub direction: Direction,
+}
+
 // A position so many bytes into a list. The list is a number, since the promise holds for any; `List` has the nine by name.
 #[tactic(auto, unfolding(crate::specs::Sizes::entry))]
 pub fn entry(table: &[u16; table::LENGTH], list: usize, bytes: u64) -> usize
@@ -29,7 +51,7 @@ pub fn entry(table: &[u16; table::LENGTH], list: usize, bytes: u64) -> usize
     usize::from(access::get(table, table::LISTS + list % 16)) + (bytes % 1048576) as usize
 }
 
-// The size of entry i of list k, whose entries are a name and a size.
+// The size of an entry of a list, whose entries are a name and a size.
 #[tactic(auto, unfolding(crate::specs::Sizes::list_size))]
 fn list_size(section: Section<'_>, list: List, index: u64) -> u64
     ensures { result ≡ list_size section.entry.stream.now section.entry.table.now (list_number list) index }
@@ -169,7 +191,7 @@ pub fn settle(temporaries: &mut [u64], value: Value, known: u64, size: u64) -> u
     1
 }
 
-// Sets the size of the operand i after a position.
+// Sets the size of the operand at an index after a position.
 #[tactic(auto, unfolding(crate::specs::Sizes::set_operand, crate::specs::Sizes::size_at, crate::specs::Base::then_l))]
 #[inline(always)]
 pub fn set_operand(
@@ -236,18 +258,17 @@ pub fn falls_back(value: Value) -> bool
 
 #[tactic(auto, unfolding(crate::specs::Sizes::pair_fallback, crate::specs::Sizes::recorded))]
 fn pair_fallback(
-    section: Section<'_>,
-    fallback: bool,
+    rules: &Rules<'_>,
     actions: &mut [u64],
     temporaries: &mut [u64],
     at: usize,
     index: u8,
     other: u8,
-    pointer: u64,
 ) -> u64
-    ensures { Counted result actions.new temporaries.new (pair_fallback section.entry.stream.now section.entry.table.now fallback actions.old temporaries.old at index other pointer) }
+    ensures { Counted result actions.new temporaries.new (pair_fallback rules.entry.now.sources.section.stream.now rules.entry.now.sources.section.table.now (forwards rules.entry.now.direction) actions.old temporaries.old at index other rules.entry.now.sources.pointer) }
 {
-    if fallback
+    let Sources { section, pointer } = rules.sources;
+    if rules.direction == Direction::Forward
         && (falls_back(value_at(actions, at, index)) || falls_back(value_at(actions, at, other)))
     {
         return set_two(section, actions, temporaries, at, index, other, pointer);
@@ -258,31 +279,21 @@ fn pair_fallback(
 // Two operands have one size.
 #[tactic(auto, unfolding(crate::specs::Sizes::set_size_of_pair, crate::specs::Sizes::share_pair, crate::specs::Sizes::recorded))]
 pub fn set_size_of_pair(
-    section: Section<'_>,
-    fallback: bool,
+    rules: &Rules<'_>,
     actions: &mut [u64],
     temporaries: &mut [u64],
     at: usize,
     index: u8,
     other: u8,
-    pointer: u64,
 ) -> u64
-    ensures { Counted result actions.new temporaries.new (set_size_of_pair section.entry.stream.now section.entry.table.now fallback actions.old temporaries.old at index other pointer) }
+    ensures { Counted result actions.new temporaries.new (set_size_of_pair rules.entry.now.sources.section.stream.now rules.entry.now.sources.section.table.now (forwards rules.entry.now.direction) actions.old temporaries.old at index other rules.entry.now.sources.pointer) }
 {
+    let section = rules.sources.section;
     let x = size_at(section, actions, temporaries, at, index);
     let y = size_at(section, actions, temporaries, at, other);
     if x == NONE {
         if y == NONE {
-            return pair_fallback(
-                section,
-                fallback,
-                actions,
-                temporaries,
-                at,
-                index,
-                other,
-                pointer,
-            );
+            return pair_fallback(rules, actions, temporaries, at, index, other);
         }
         return set_operand(section, actions, temporaries, at, index, y);
     }
@@ -303,16 +314,15 @@ fn triple_falls_back(actions: &[u64], at: usize) -> bool
 
 #[tactic(auto, unfolding(crate::specs::Sizes::triple_fallback, crate::specs::Sizes::recorded))]
 fn triple_fallback(
-    section: Section<'_>,
-    fallback: bool,
+    rules: &Rules<'_>,
     actions: &mut [u64],
     temporaries: &mut [u64],
     at: usize,
-    pointer: u64,
 ) -> u64
-    ensures { Counted result actions.new temporaries.new (triple_fallback section.entry.stream.now section.entry.table.now fallback actions.old temporaries.old at pointer) }
+    ensures { Counted result actions.new temporaries.new (triple_fallback rules.entry.now.sources.section.stream.now rules.entry.now.sources.section.table.now (forwards rules.entry.now.direction) actions.old temporaries.old at rules.entry.now.sources.pointer) }
 {
-    if fallback && triple_falls_back(actions, at) {
+    if rules.direction == Direction::Forward && triple_falls_back(actions, at) {
+        let Sources { section, pointer } = rules.sources;
         return set_three(section, actions, temporaries, at, pointer);
     }
     0
@@ -350,21 +360,20 @@ fn all_equal(first: u64, second: u64, third: u64) -> bool
 // Both inputs and the output have one size.
 #[tactic(auto, unfolding(crate::specs::Sizes::set_size_of_triple, crate::specs::Sizes::share_triple, crate::specs::Sizes::recorded))]
 pub fn set_size_of_triple(
-    section: Section<'_>,
-    fallback: bool,
+    rules: &Rules<'_>,
     actions: &mut [u64],
     temporaries: &mut [u64],
     at: usize,
-    pointer: u64,
 ) -> u64
-    ensures { Counted result actions.new temporaries.new (set_size_of_triple section.entry.stream.now section.entry.table.now fallback actions.old temporaries.old at pointer) }
+    ensures { Counted result actions.new temporaries.new (set_size_of_triple rules.entry.now.sources.section.stream.now rules.entry.now.sources.section.table.now (forwards rules.entry.now.direction) actions.old temporaries.old at rules.entry.now.sources.pointer) }
 {
+    let section = rules.sources.section;
     let x = size_at(section, actions, temporaries, at, INPUT_0);
     let y = size_at(section, actions, temporaries, at, INPUT_1);
     let w = size_at(section, actions, temporaries, at, OUTPUT);
     if all_equal(x, y, w) {
         if x == NONE {
-            return triple_fallback(section, fallback, actions, temporaries, at, pointer);
+            return triple_fallback(rules, actions, temporaries, at);
         }
         return 0;
     }
@@ -375,15 +384,15 @@ pub fn set_size_of_triple(
 #[tactic(auto, unfolding(crate::specs::Sizes::set_unsized, crate::specs::Sizes::recorded))]
 #[inline(never)]
 pub fn set_unsized(
-    section: Section<'_>,
+    sources: &Sources<'_>,
     actions: &mut [u64],
     temporaries: &mut [u64],
     at: usize,
     index: u8,
-    pointer: u64,
 ) -> u64
-    ensures { Counted result actions.new temporaries.new (set_unsized section.entry.stream.now section.entry.table.now actions.old temporaries.old at index pointer) }
+    ensures { Counted result actions.new temporaries.new (set_unsized sources.entry.now.section.stream.now sources.entry.now.section.table.now actions.old temporaries.old at index sources.entry.now.pointer) }
 {
+    let Sources { section, pointer } = *sources;
     if size_at(section, actions, temporaries, at, index) == NONE {
         return set_operand(section, actions, temporaries, at, index, pointer);
     }

@@ -98,7 +98,7 @@ pub fn word(value: Value) -> u64
     value.kind % 256 + value.offset % 65536 * 256 + value.size % 65536 * SIZE_PLACE
 }
 
-// The element i after a position, and 0 past the end.
+// The element at an index after a position, and 0 past the end.
 pub fn get(list: &[u64], at: usize, index: usize) -> u64
     ensures { result ≡ get_or list.now (at + index) 0 }
 {
@@ -111,7 +111,7 @@ pub fn put(list: &mut [u64], at: usize, index: usize, word: u64)
     access::put_in(list, at, index, word);
 }
 
-// The value whose first word is i after a position.
+// The value whose first word stands at an index after a position.
 #[tactic(auto, unfolding(crate::specs::Values::value_at, crate::specs::Values::value_of))]
 pub fn value_at(list: &[u64], at: usize, index: u8) -> Value
     ensures { result ≡ value_at list.now at index }
@@ -156,7 +156,7 @@ pub fn zero_words(list: &mut [u64], at: usize, from: usize)
     }
 }
 
-// Where action i stands in a list whose first is at a position.
+// Where the action of an index stands in a list whose first is at a position.
 #[tactic(auto, unfolding(crate::specs::Values::place))]
 pub fn place(base: usize, index: usize) -> usize
     ensures { result ≡ place base index }

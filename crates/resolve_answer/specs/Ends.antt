@@ -1,9 +1,9 @@
 -- The end of a walk. In all of these s is the stream, t the section's table, a the actions, m the temporaries.
-use Rattle.std.specs.Prelude.{ℕ, ◌-◌, ◌/◌, Bool, true, false, List, eqb, ltb}
+use Rattle.std.specs.Prelude.{ℕ, ◌-◌, ◌/◌, true, false, List, eqb, ltb}
 use Rattle.access.specs.Le.{le16}
 use Rattle.list_values.specs.declared.sizes.Sizing.{Sizing}
-use Rattle.list_end.specs.declared.end.Fixed.{Fixed}
-use Rattle.list_end.specs.Outcomes.{Finished}
+use Rattle.list_end.specs.Outcomes.{Fixed, Finished}
+use Rattle.list_values.specs.declared.value.Value.{Value}
 use Rattle.list_values.specs.Base.{then_l}
 use Rattle.prelude.specs.Base.{when◌then◌else◌}
 use Rattle.list_values.specs.Values.{place}
@@ -18,9 +18,13 @@ use Rattle.resolve_answer.specs.Answers.{Resolved, refused, accepted}
 unfoldable pub judged : List ℕ → List ℕ → ℕ → ℕ → Walk → Export → Sizing → Resolved
 judged a m subtables n w x z = when eqb z.errors 0 then accepted a m subtables n w x else refused a m 51 z.first z.errors
 
+-- with another value
+abbrev pub export_with : Export → Value → Export
+export_with x v = record { kind = x.kind; v = v; size = x.size }
+
 -- with the size fixed
 abbrev pub export_fixed : Export → Fixed → Export
-export_fixed x f = record { kind = x.kind; v = f.v; size = x.size }
+export_fixed x f = export_with x f.v
 
 unfoldable pub judged_fixed : List ℕ → List ℕ → ℕ → ℕ → Walk → Fixed → Resolved
 judged_fixed a m subtables n w f = judged a m subtables n w (export_fixed w.export f) f.z

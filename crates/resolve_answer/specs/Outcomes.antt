@@ -6,7 +6,6 @@ use Rattle.list_end.specs.declared.end.Unfinished.{Unfinished}
 use Rattle.stmt_walk.specs.declared.walk.Stopped.{Stopped}
 use Rattle.stmt_walk.specs.Outcomes.{Export}
 use Rattle.resolve_answer.specs.declared.answer.Answer.{Answer}
-use Rattle.resolve_answer.specs.declared.answer.ExportWords.{ExportWords}
 use Rattle.resolve_answer.specs.declared.answer.Rejected.{Rejected}
 use Rattle.resolve_answer.specs.Answers.{Resolved, resolved_to, refused, export_words}
 
@@ -24,6 +23,19 @@ of_statement s = record { refusal = s.refusal; ordinal = Some s.ordinal; errors 
 abbrev pub of_end : Unfinished → Rejected
 of_end u = record { refusal = u.refusal; ordinal = Some u.sizing.begun; errors = 0 }
 
--- the export's four numbers
-abbrev pub export_numbers : Export → ExportWords
-export_numbers x = record { kind = x.kind; number = (export_words x).number; word = (export_words x).second; size = x.size }
+-- the export's four numbers, and zeros elsewhere
+abbrev pub export_numbers : Export → Answer
+export_numbers x = record {
+  refusal = 0;
+  ordinal = 0;
+  statements = 0;
+  actions = 0;
+  temporaries = 0;
+  labels = 0;
+  points = 0;
+  errors = 0;
+  kind = x.kind;
+  number = (export_words x).number;
+  word = (export_words x).second;
+  size = x.size;
+}

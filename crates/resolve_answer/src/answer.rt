@@ -109,39 +109,25 @@ fn points(actions: u64, temporaries: u64) -> u64
     0
 }
 
-// The export's four numbers, all 0 where there is none.
-#[derive(Clone, Copy, Default)]
-pub struct ExportWords {
-    pub kind: u64,
-    pub number: u64,
-    pub word: u64,
-    pub size: u64,
-}
-
+// An answer with the export's four numbers, all 0 where there is none, and with zeros elsewhere.
 #[tactic(auto, unfolding(crate::specs::Answers::export_words))]
-fn export_words(export: Option<Export>) -> ExportWords
+fn export_words(export: Option<Export>) -> Answer
     ensures { result ≡ export_numbers (to_export export) }
 {
-    match export {
-        None => ExportWords::default(),
-        Some(Export::Value(v)) => ExportWords {
-            kind: export_kind::VALUE,
-            number: v.number,
-            word: word(v),
-            size: 0,
-        },
-        Some(Export::RamRef { pointer, size }) => ExportWords {
-            kind: export_kind::RAM_REF,
-            number: pointer.number,
-            word: word(pointer),
-            size,
-        },
-        Some(Export::RegisterRef { pointer, size }) => ExportWords {
-            kind: export_kind::REGISTER_REF,
-            number: pointer.number,
-            word: word(pointer),
-            size,
-        },
+    let Some(export) = export else {
+        return Answer::default();
+    };
+    let (kind, value, size) = match export {
+        Export::Value(value) => (export_kind::VALUE, value, 0),
+        Export::RamRef { pointer, size } => (export_kind::RAM_REF, pointer, size),
+        Export::RegisterRef { pointer, size } => (export_kind::REGISTER_REF, pointer, size),
+    };
+    Answer {
+        kind,
+        number: value.number,
+        word: word(value),
+        size,
+        ..Answer::default()
     }
 }
 
@@ -159,19 +145,13 @@ pub fn accepted(
     let k = list_end::end::assemble(actions, subtables, count);
     let made = walk.st.temporaries;
     access::zero_from(temporaries, made);
-    let export = export_words(export);
     Answer {
-        refusal: 0,
         ordinal: NONE,
         statements: walk.statements,
         actions: k as u64,
         temporaries: made as u64,
         labels: walk.placed,
         points: points(k as u64, made as u64),
-        errors: 0,
-        kind: export.kind,
-        number: export.number,
-        word: export.word,
-        size: export.size,
+        ..export_words(export)
     }
 }

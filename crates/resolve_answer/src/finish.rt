@@ -2,26 +2,26 @@
 ghost use Rattle.std.specs.Prelude.{◌≡◌, Some};
 ghost use Rattle.list_values.specs.Sizes.{sized};
 ghost use Rattle.stmt_walk.specs.Outcomes.{to_walk, to_export};
+ghost use Rattle.resolve_answer.specs.Answers.{resolved_to};
 ghost use Rattle.resolve_answer.specs.Outcomes.{to_resolved};
-ghost use Rattle.resolve_answer.specs.Ends.{judged, export_fixed, finish_export, finish_sized, actions_between, both_passes, finish};
+ghost use Rattle.resolve_answer.specs.Ends.{judged, export_with, finish_export, finish_sized, actions_between, both_passes, finish};
 
-use crate::answer::{Answer, Rejected, accepted};
+use crate::answer::{Answer, Rejected, accepted, refused};
 use codes::refusal::Refusal;
 use codes::{action, header};
-use list_end::end::{Fixed, finish_actions, fix_size};
+use list_end::end::{finish_actions, fix_size};
 use list_end::passes::size_pass;
 use list_values::section::Section;
-use list_values::sizes::Sizing;
+use list_values::sizes::{Direction, Rules, Sizing, Sources};
 use list_values::value::{Value, place};
 use stmt_walk::walk::{Export, Walk};
 
-// What is to be finished: how many subtables the section has, how many actions stand behind room for their Builds, the pointer
-// size, and the walk that pushed them.
+// What is to be finished: how many subtables the section has, how many actions stand behind room for their Builds, and the walk
+// that pushed them.
 #[derive(Clone, Copy)]
 struct Ending {
     subtables: usize,
     count: usize,
-    pointer: u64,
     walk: Walk,
 }
 
@@ -47,7 +47,6 @@ fn judged(
         subtables,
         count,
         walk,
-        ..
     } = ending;
     Ok(accepted(actions, temporaries, subtables, count, walk, export))
 }
@@ -63,11 +62,10 @@ fn exported(export: Export) -> Value
     }
 }
 
-// The export with its value as it was fixed.
-fn with_fixed(export: Export, fixed: Fixed) -> Export
-    ensures { to_export (Some result) ≡ export_fixed (to_export (Some export)) fixed }
+// The export with another value, as it was fixed.
+fn with_value(export: Export, pointer: Value) -> Export
+    ensures { to_export (Some result) ≡ export_with (to_export (Some export)) pointer }
 {
-    let pointer = fixed.v;
     match export {
         Export::Value(_) => Export::Value(pointer),
         Export::RamRef { size, .. } => Export::RamRef { pointer, size },
@@ -77,50 +75,36 @@ fn with_fixed(export: Export, fixed: Fixed) -> Export
 
 #[tactic(auto, unfolding(crate::specs::Ends::finish_export, crate::specs::Ends::judged_fixed))]
 fn finish_export(
-    section: Section<'_>,
+    sources: &Sources<'_>,
     actions: &mut [u64],
     temporaries: &mut [u64],
     ending: Ending,
     sizing: Sizing,
 ) -> Result<Answer, Rejected>
-    ensures { to_resolved result actions.new temporaries.new ≡ finish_export section.entry.stream.now section.entry.table.now actions.old temporaries.old ending.subtables ending.count ending.pointer (to_walk ending.walk) sizing }
+    ensures { to_resolved result actions.new temporaries.new ≡ finish_export sources.entry.now.section.stream.now sources.entry.now.section.table.now actions.old temporaries.old ending.subtables ending.count sources.entry.now.pointer (to_walk ending.walk) sizing }
 {
     let Some(export) = ending.walk.export else {
         return judged(actions, temporaries, ending, None, sizing);
     };
-    let fixed = fix_size(
-        section,
-        temporaries,
-        exported(export),
-        ending.pointer,
-        sizing,
-    );
-    let export = Some(with_fixed(export, fixed));
-    judged(actions, temporaries, ending, export, fixed.z)
+    let (value, sizing) = fix_size(sources, temporaries, exported(export), sizing);
+    let export = Some(with_value(export, value));
+    judged(actions, temporaries, ending, export, sizing)
 }
 
 // From the actions with the sizes that the passes found.
 #[tactic(auto, unfolding(crate::specs::Ends::finish_sized, crate::specs::Ends::finish_done, list_values::specs::Base::then_l))]
 fn finish_sized(
-    section: Section<'_>,
+    sources: &Sources<'_>,
     actions: &mut [u64],
     temporaries: &mut [u64],
     ending: Ending,
     sizing: Sizing,
 ) -> Result<Answer, Rejected>
-    ensures { to_resolved result actions.new temporaries.new ≡ finish_sized section.entry.stream.now section.entry.table.now actions.old temporaries.old ending.subtables ending.count ending.pointer (to_walk ending.walk) sizing }
+    ensures { to_resolved result actions.new temporaries.new ≡ finish_sized sources.entry.now.section.stream.now sources.entry.now.section.table.now actions.old temporaries.old ending.subtables ending.count sources.entry.now.pointer (to_walk ending.walk) sizing }
 {
     let base = place(0, ending.subtables);
-    let sizing = finish_actions(
-        section,
-        actions,
-        temporaries,
-        base,
-        ending.count,
-        ending.pointer,
-        sizing,
-    )?;
-    finish_export(section, actions, temporaries, ending, sizing)
+    let sizing = finish_actions(sources, actions, temporaries, base, ending.count, sizing)?;
+    finish_export(sources, actions, temporaries, ending, sizing)
 }
 
 // How many actions stand between two positions.
@@ -136,65 +120,61 @@ fn actions_between(base: usize, end: usize) -> usize
 
 #[tactic(auto, unfolding(crate::specs::Ends::both_passes, list_values::specs::Sizes::then_s))]
 fn both_passes(
-    section: Section<'_>,
+    sources: &Sources<'_>,
     actions: &mut [u64],
     temporaries: &mut [u64],
     base: usize,
     count: usize,
-    pointer: u64,
     sizing: Sizing,
 ) -> Sizing
-    ensures { sized result actions.new temporaries.new ≡ both_passes section.entry.stream.now section.entry.table.now actions.old temporaries.old base count pointer sizing }
+    ensures { sized result actions.new temporaries.new ≡ both_passes sources.entry.now.section.stream.now sources.entry.now.section.table.now actions.old temporaries.old base count sources.entry.now.pointer sizing }
 {
-    let back = size_pass(
-        section,
-        false,
-        actions,
-        temporaries,
-        base,
-        count,
-        pointer,
-        sizing,
-    );
-    size_pass(
-        section,
-        true,
-        actions,
-        temporaries,
-        base,
-        count,
-        pointer,
-        back,
-    )
+    let backward = Rules {
+        sources: *sources,
+        direction: Direction::Backward,
+    };
+    let forward = Rules {
+        direction: Direction::Forward,
+        ..backward
+    };
+    let back = size_pass(&backward, actions, temporaries, base, count, sizing);
+    size_pass(&forward, actions, temporaries, base, count, back)
 }
 
 #[tactic(auto, unfolding(crate::specs::Ends::finish, crate::specs::Ends::finish_all, list_values::specs::Sizes::then_s))]
+fn finished(
+    sources: &Sources<'_>,
+    actions: &mut [u64],
+    temporaries: &mut [u64],
+    walk: Walk,
+) -> Result<Answer, Rejected>
+    ensures { to_resolved result actions.new temporaries.new ≡ finish sources.entry.now.section.stream.now sources.entry.now.section.table.now actions.old temporaries.old sources.entry.now.pointer (to_walk walk) }
+{
+    let subtables = access::u16_at(sources.section.stream, header::SUBTABLES) as usize;
+    let base = place(0, subtables);
+    let count = actions_between(base, walk.st.end);
+    let sizing = both_passes(sources, actions, temporaries, base, count, walk.st.sizing);
+    let ending = Ending {
+        subtables,
+        count,
+        walk,
+    };
+    finish_sized(sources, actions, temporaries, ending, sizing)
+}
+
+// The end of a walk whole. Where it refuses the section both lists are zero.
 pub fn finish(
     section: Section<'_>,
     actions: &mut [u64],
     temporaries: &mut [u64],
     pointer: u64,
     walk: Walk,
-) -> Result<Answer, Rejected>
-    ensures { to_resolved result actions.new temporaries.new ≡ finish section.entry.stream.now section.entry.table.now actions.old temporaries.old pointer (to_walk walk) }
+) -> Answer
+    ensures { resolved_to result actions.new temporaries.new ≡ finish section.entry.stream.now section.entry.table.now actions.old temporaries.old pointer (to_walk walk) }
 {
-    let subtables = access::u16_at(section.stream, header::SUBTABLES) as usize;
-    let base = place(0, subtables);
-    let count = actions_between(base, walk.st.end);
-    let sizing = both_passes(
-        section,
-        actions,
-        temporaries,
-        base,
-        count,
-        pointer,
-        walk.st.sizing,
-    );
-    let ending = Ending {
-        subtables,
-        count,
-        pointer,
-        walk,
-    };
-    finish_sized(section, actions, temporaries, ending, sizing)
+    let sources = Sources { section, pointer };
+    match finished(&sources, actions, temporaries, walk) {
+        Ok(answer) => answer,
+        Err(why) => refused(actions, temporaries, why),
+    }
 }

@@ -120,7 +120,7 @@ fn resolve_section(
     }
     let pointer = pointer_size(section);
     let (_, walk) = walk_section(section, actions, temporaries, subtables, pointer)?;
-    finish(section, actions, temporaries, pointer, walk)
+    Ok(finish(section, actions, temporaries, pointer, walk))
 }
 
 #[tactic(auto, using(crate::proofs::FileLaws::file_laws))]

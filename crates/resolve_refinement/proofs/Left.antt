@@ -19,7 +19,7 @@ use Rattle.definition.proofs.Openers.{base_opens}
 use Rattle.list_values.specs.declared.value.Value.{Value as WordValue}
 use Rattle.list_values.specs.Outcomes.{Slice}
 use Rattle.list_values.specs.declared.sizes.Sizing.{Sizing as WordSizing}
-use Rattle.list_end.specs.declared.end.Fixed.{Fixed}
+use Rattle.list_end.specs.Outcomes.{Fixed}
 use Rattle.list_end.specs.Outcomes.{Finished}
 use Rattle.list_values.specs.Base.{Listed, listed, then_l}
 use Rattle.access.specs.Loops.{run}
