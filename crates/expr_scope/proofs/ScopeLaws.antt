@@ -13,6 +13,7 @@ use Rattle.std.specs.declared.ops.Range.{Range}
 use Rattle.std.specs.declared.iter.Rev.{Rev}
 use Rattle.std.specs.List.{find}
 use Rattle.std.proofs.lemmas.Iterator.{YieldsList}
+use Rattle.std.proofs.lemmas.Iterator.Adapters.{option_map_id}
 use Rattle.std.proofs.lemmas.Iterator.Splits.{YieldsList-from_shown_while}
 use Rattle.std.specs.Iterator.Adapters.{rev_steps}
 use Rattle.expr_scope.specs.Slots.{param_place}
@@ -49,10 +50,6 @@ yields_down s n e = subst (λ k. YieldsList (rev_steps back_steps) (λ x. x) s (
 
 -- the last of some parameters that has the name
 module _ (p : List ℕ) (name : ℕ) where
-  mapped : (r : Option ℕ) → one_more r ≡ one_more (option_map (λ x. x) r)
-  mapped (Some i) = refl
-  mapped None = refl
-
   step : (b : Bool) (k : ℕ) (rest : Option ℕ) (m : ℕ) → one_more rest ≡ m → one_more (cond b (Some k) rest) ≡ cond b (suc k) m
   step true k rest m e = refl
   step false k rest m e = e
@@ -63,7 +60,7 @@ module _ (p : List ℕ) (name : ℕ) where
   found (suc k) = step (eqb (get_or p (param_place k + 0) 0) name) k (find (λ i. eqb (get_or p (param_place i + 0) 0) name) (down_from k)) (find_param k p name) (found k)
 
   pub last_law : (n : ℕ) (r : Option ℕ) → option_map (λ x. x) r ≡ find (λ i. eqb (get_or p (param_place i + 0) 0) name) (down_from n) → one_more r ≡ find_param n p name
-  last_law n r e = mapped r ∙ (ap one_more e ∙ found n)
+  last_law n r e = ap one_more (sym (option_map_id r) ∙ e) ∙ found n
 
 -- what is told of a name at once is what it means
 local_means : (x : Meaning) (v : Value) → plain_of x ≡ Plain.Is v → x ≡ Meaning.Means (ExprValue.Local v)
