@@ -1,6 +1,7 @@
 -- The search for a subtable; and the export of what is read.
-use Rattle.std.proofs.Common.{◌≡◌, ap, refl, ◌∙◌, ℕ, suc, zero, ◌+◌, ◌*◌, ◌%◌, Bool, true, false, cond, eqb, List, Option, Some, None, unwrap_or, option_map, arith}
+use Rattle.std.proofs.Common.{◌≡◌, ap, refl, sym, ◌∙◌, ℕ, suc, zero, ◌+◌, ◌*◌, ◌%◌, Bool, true, false, cond, eqb, List, Option, Some, None, unwrap_or, option_map, arith}
 use Rattle.std.specs.List.{find, range_with_len}
+use Rattle.std.proofs.lemmas.Iterator.Adapters.{option_map_id}
 use Rattle.access.specs.Le.{le16}
 use Rattle.list_values.specs.Sizes.{entry}
 use Rattle.list_values.specs.declared.value.Value.{Value}
@@ -29,12 +30,8 @@ module _ (s t : List ℕ) (table m : ℕ) where
       let r : unwrap_or (find (λ k. eqb (le16 s (entry t 8 (k % 65536 * 4) + 2)) table) (range_with_len (i + 1) n)) m ≡ find_subtable n (suc i) s t table = rw o (found n (suc i) (omega arith)) in
       step (eqb (le16 s (entry t 8 (i % 65536 * 4) + 2)) table) i (find (λ k. eqb (le16 s (entry t 8 (k % 65536 * 4) + 2)) table) (range_with_len (i + 1) n)) (find_subtable n (suc i) s t table) r
 
-  mapped : (r : Option ℕ) → unwrap_or r m ≡ unwrap_or (option_map (λ k. k) r) m
-  mapped (Some i) = refl
-  mapped None = refl
-
   pub found_law : (r : Option ℕ) → option_map (λ k. k) r ≡ find (λ k. eqb (le16 s (entry t 8 (k % 65536 * 4) + 2)) table) (range_with_len 0 m) → unwrap_or r m ≡ find_subtable m 0 s t table
-  found_law r e = mapped r ∙ (ap (λ o. unwrap_or o m) e ∙ found m 0 (omega arith))
+  found_law r e = ap (λ o. unwrap_or o m) (sym (option_map_id r) ∙ e) ∙ found m 0 (omega arith)
 
 -- what is no reference is exported as it is read
 module _ (s t a m : List ℕ) (e : Env) (x : ExprValue) (next : ℕ) (st : State) (w : Walk) (r : Read) (a1 m1 : List ℕ) (z : Step) where

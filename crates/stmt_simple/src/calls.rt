@@ -105,7 +105,7 @@ fn read_args(
 }
 
 // The operands that so many arguments became, as the inputs of the action at a position.
-#[tactic(auto, using(crate::proofs::CallLaws::inputs_laws))]
+#[tactic(auto, using(access::proofs::LoopLaws::run_again, access::proofs::LoopLaws::run_end), unfolding(crate::specs::Calls::write_inputs, crate::specs::Calls::write_input))]
 fn write_inputs(actions: &mut [u64], at: usize, args: &[u64], count: u64)
     ensures { actions.new ≡ write_inputs count actions.old at args.now }
 {
@@ -188,7 +188,7 @@ pub fn macro_at(table: &[u16; table::LENGTH], id: u64) -> usize
 }
 
 // Gives so many arguments the names of the macro's parameters, which stand from a position on: each slot's first word.
-#[tactic(auto, using(crate::proofs::CallLaws::names_laws))]
+#[tactic(auto, using(access::proofs::LoopLaws::run_again, access::proofs::LoopLaws::run_end), unfolding(crate::specs::Calls::bind_names, crate::specs::Calls::bind_name))]
 fn bind_names(stream: &[u8], args: &mut [u64], names: usize, count: usize)
     ensures { args.new ≡ bind_names count stream.now names args.old }
 {
