@@ -242,19 +242,18 @@ fn plain_operand(
         return None;
     }
     match access::byte(context.section.stream, pos, 0) {
-        expression::IDENT => match plain_local(
-            context,
-            scope,
-            u16_in(context.section.stream, pos, 1),
-        ) {
-            Ok(Some(value)) => Some(Ok(Resolved {
-                value,
-                next: after(pos, 3),
-                state,
-            })),
-            Ok(None) => None,
-            Err(refusal) => Some(Err(refusal)),
-        },
+        expression::IDENT => {
+            let name = u16_in(context.section.stream, pos, 1);
+            match plain_local(context, scope, name) {
+                Ok(Some(value)) => Some(Ok(Resolved {
+                    value,
+                    next: after(pos, 3),
+                    state,
+                })),
+                Ok(None) => None,
+                Err(refusal) => Some(Err(refusal)),
+            }
+        }
         expression::INTEGER => Some(Ok(Resolved {
             value: constant(access::u64_at(context.section.stream, after(pos, 1))),
             next: after(pos, 9),

@@ -7,7 +7,7 @@ use native.Mathlib.Omega.{arith}
 use lib.ListN.{length, get_or}
 use lib.Dec.{eqb}
 use borrow.Author.Tests.{ne_eqb, lt-ltb}
-use Rattle.std.specs.Prelude.{Option, Some, None}
+use Rattle.std.specs.Prelude.{Option, Some}
 use Rattle.std.specs.Option.{MatchOption, option_map}
 use Rattle.std.specs.declared.ops.Range.{Range}
 use Rattle.std.specs.declared.iter.Rev.{Rev}

@@ -1,10 +1,9 @@
 -- The search for a subtable; and the export of what is read.
-use Rattle.std.proofs.Common.{◌≡◌, ap, refl, sym, ◌∙◌, ℕ, suc, zero, ◌+◌, ◌*◌, ◌%◌, Bool, true, false, cond, eqb, List, Option, Some, None, unwrap_or, option_map, arith}
+use Rattle.std.proofs.Common.{◌≡◌, ap, refl, sym, ◌∙◌, ℕ, suc, zero, ◌+◌, ◌*◌, ◌%◌, Bool, true, false, cond, eqb, List, Option, Some, unwrap_or, option_map, arith}
 use Rattle.std.specs.List.{find, range_with_len}
 use Rattle.std.proofs.lemmas.Iterator.Adapters.{option_map_id}
 use Rattle.access.specs.Le.{le16}
 use Rattle.list_values.specs.Sizes.{entry}
-use Rattle.list_values.specs.declared.value.Value.{Value}
 use Rattle.list_pushes.specs.declared.push.State.{State}
 use Rattle.list_pushes.specs.declared.push.Env.{Env}
 use Rattle.list_pushes.specs.Outcomes.{Read}
