@@ -130,17 +130,17 @@ fn export_words(export: Option<Export>) -> ExportWords
             word: word(v),
             size: 0,
         },
-        Some(Export::RamRef { pointer, size }) => ExportWords {
+        Some(Export::RamRef(to)) => ExportWords {
             kind: export_kind::RAM_REF,
-            number: pointer.number,
-            word: word(pointer),
-            size,
+            number: to.pointer.number,
+            word: word(to.pointer),
+            size: to.size,
         },
-        Some(Export::RegisterRef { pointer, size }) => ExportWords {
+        Some(Export::RegisterRef(to)) => ExportWords {
             kind: export_kind::REGISTER_REF,
-            number: pointer.number,
-            word: word(pointer),
-            size,
+            number: to.pointer.number,
+            word: word(to.pointer),
+            size: to.size,
         },
     }
 }

@@ -8,6 +8,7 @@ ghost use Rattle.resolve_answer.specs.Ends.{judged, export_fixed, finish_export,
 use crate::answer::{Answer, Rejected, accepted};
 use codes::refusal::Refusal;
 use codes::{action, header};
+use expr_scope::scope::Access;
 use list_end::end::{Fixed, finish_actions, fix_size};
 use list_end::passes::size_pass;
 use list_values::section::Section;
@@ -57,9 +58,8 @@ fn exported(export: Export) -> Value
     ensures { result ≡ (to_export (Some export)).v }
 {
     match export {
-        Export::Value(pointer)
-        | Export::RamRef { pointer, .. }
-        | Export::RegisterRef { pointer, .. } => pointer,
+        Export::Value(value) => value,
+        Export::RamRef(to) | Export::RegisterRef(to) => to.pointer,
     }
 }
 
@@ -70,8 +70,8 @@ fn with_fixed(export: Export, fixed: Fixed) -> Export
     let pointer = fixed.v;
     match export {
         Export::Value(_) => Export::Value(pointer),
-        Export::RamRef { size, .. } => Export::RamRef { pointer, size },
-        Export::RegisterRef { size, .. } => Export::RegisterRef { pointer, size },
+        Export::RamRef(to) => Export::RamRef(Access { pointer, ..to }),
+        Export::RegisterRef(to) => Export::RegisterRef(Access { pointer, ..to }),
     }
 }
 
