@@ -10,6 +10,7 @@ use Rattle.prelude.specs.Base.{sum}
 use Rattle.definition.specs.Ast.{Statement, Macro, Section}
 use Rattle.definition.specs.SectionFile.{parsed, list_of, statement}
 use Rattle.definition.specs.Statements as d
+use Rattle.definition_guarantee.proofs.Globals.{place-below}
 use Rattle.file_refinement.specs.Holds.{Holds, bodies}
 use Rattle.file_refinement.proofs.Inversion.{statement_at, MacroParts, macro_at_lem}
 use Rattle.stmt_simple.specs.Calls.{macro_at}
@@ -35,11 +36,6 @@ read_length s (suc k) pos xs end i h =
     let l = statement_at s (le16 s 2) k pos xs end i h in
     rw l.is (ap suc (read_length s k l.first_end l.others (drop l.others-end s) l.first_inside l.others-reads))
 
-pub element-below : {A : Type 0} (xs : List A) (i : ℕ) (x : A) → get_elem? xs i ≡ some x → i < length xs
-element-below [] i x h = let z : ◌≡◌ {A = ℕ} 0 1 = cc in absurd (omega arith)
-element-below (y ∷ xs) zero x h = omega arith
-element-below (y ∷ xs) (suc i) x h = let l = element-below xs i x h in omega arith
-
 module _ (s t : List ℕ) (sec : Section) (holds : Holds s t sec) where
   abbrev pub place : ℕ → ℕ
   place id = get_or t (3072 + id) 0
@@ -58,7 +54,7 @@ module _ (s t : List ℕ) (sec : Section) (holds : Holds s t sec) where
 
   module _ (id : ℕ) (m : Macro) (is : get_elem? sec.macros id ≡ some m) where
     pub below-macros : id < 128
-    below-macros = let a = element-below sec.macros id m is in omega (arith, holds.macro_count, holds.limits.macros)
+    below-macros = let a = place-below sec.macros id m is in omega (arith, holds.macro_count, holds.limits.macros)
 
     pub macro-place : macro_at t id ≡ place id
     unfolding macro_at
@@ -66,4 +62,4 @@ module _ (s t : List ℕ) (sec : Section) (holds : Holds s t sec) where
 
     pub first_ordinal_lem : first_ordinal t id ≡ d.ordinal_after (take id sec.macros)
     unfolding first_ordinal
-    first_ordinal_lem = let a = below-macros in let z : id % 128 ≡ id = omega arith in rw z (holds.macro_ordinal id (element-below sec.macros id m is) ∙ sym (ordinal_is (take id sec.macros)))
+    first_ordinal_lem = let a = below-macros in let z : id % 128 ≡ id = omega arith in rw z (holds.macro_ordinal id (place-below sec.macros id m is) ∙ sym (ordinal_is (take id sec.macros)))
