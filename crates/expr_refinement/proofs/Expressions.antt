@@ -31,7 +31,6 @@ use Rattle.list_values.specs.declared.value.Value.{Value as WordValue}
 use Rattle.list_pushes.specs.declared.push.State.{State as WordState}
 use Rattle.list_pushes.specs.declared.push.Env.{Env as WordEnv}
 use Rattle.list_pushes.specs.Outcomes.{Read as WordRead}
-use Rattle.list_values.specs.Values.{absent}
 use Rattle.list_pushes.specs.Operations.{unary as one_input, binary as two_inputs}
 use Rattle.list_pushes.specs.Pushes.{ReadOut, read}
 use Rattle.file_syntax.specs.Cursors.{Cursor}
