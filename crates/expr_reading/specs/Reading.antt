@@ -15,7 +15,7 @@ use Rattle.list_values.specs.Values.{local, with_size, absent, slice_bytes}
 use Rattle.list_values.specs.Sizes.{size_of, settled}
 use Rattle.list_pushes.specs.Pushes.{ReadOut, read, on_read, on_tmp, with_sizing, add_tmp, output_or, push, op_to, op}
 use Rattle.expr_scope.specs.declared.scope.ExprValue.{ExprValue}
-use Rattle.expr_reading.specs.declared.read.Stated.{Stated}
+use Rattle.expr_reading.specs.Outcomes.{Stated}
 
 abbrev pub needed_bytes : ℕ → ℕ
 needed_bytes bits = (bits + 7) / 8
@@ -131,7 +131,7 @@ read_value s t a m e (ExprValue.Apply o) given to st = op s t a m e o.code o.num
 read_value s t a m e (ExprValue.RamRef x) given to st = load s t a m e x.pointer x.size given to st
 read_value s t a m e (ExprValue.RegisterRef x) given to st = load_register s t a m x.pointer x.size given to st
 read_value s t a m e (ExprValue.AddressOf base size) given to st = read_address a m base size given to st
-read_value s t a m e (ExprValue.BitRange v bits) given to st = read_slice s t a m e v bits.from bits.count given to st
+read_value s t a m e (ExprValue.BitRange r) given to st = read_slice s t a m e r.base r.bits.from r.bits.count given to st
 
 -- as an operand, with no output given
 unfoldable pub read_operand : List ℕ → List ℕ → List ℕ → List ℕ → Env → ExprValue → State → ReadOut

@@ -4,11 +4,12 @@ ghost use Rattle.list_values.specs.Base.{listed};
 ghost use Rattle.list_values.specs.Values.{local, absent};
 ghost use Rattle.list_pushes.specs.Outcomes.{to_read};
 ghost use Rattle.list_pushes.specs.Pushes.{read};
+ghost use Rattle.expr_reading.specs.Outcomes.{to_stated};
 ghost use Rattle.expr_reading.specs.Reading.{needed_bytes, constant, set_size, set_stated, take_stated, copy_to, byte_aligned, sliced, masked, shift_and_mask, part_of, read_slice, read_address, load, load_register, read_value, read_operand};
 
 use codes::refusal::Refusal;
 use codes::{NONE, action_kind, operation, value_kind};
-use expr_scope::scope::{Access, Bits, ExprValue};
+use expr_scope::scope::{Access, BitRange, Bits, ExprValue};
 use list_pushes::push::{Context, Operation, State, add_tmp, op, op_to, output_or, push};
 use list_values::section::Section;
 use list_values::sizes::{record_errors, settle, size_of};
@@ -26,13 +27,7 @@ pub fn constant(count: u64) -> Value
     local(value_kind::CONSTANT, count)
 }
 
-// A value whose size was set, and the state then.
-#[derive(Clone, Copy)]
-pub struct Stated {
-    pub v: Value,
-    pub st: State,
-}
-
+// The value with this size, and the state then.
 #[tactic(auto, unfolding(crate::specs::Reading::set_size, list_values::specs::Base::then_l))]
 fn set_size(
     section: Section<'_>,
@@ -40,21 +35,19 @@ fn set_size(
     value: Value,
     size: u64,
     state: State,
-) -> Stated
-    ensures { listed result temporaries.new ≡ set_size section.entry.stream.now section.entry.table.now temporaries.old value size state }
+) -> (Value, State)
+    ensures { listed (to_stated result) temporaries.new ≡ set_size section.entry.stream.now section.entry.table.now temporaries.old value size state }
 {
     let known = size_of(section, temporaries, value);
     let errors = settle(temporaries, value, known, size);
-    Stated {
-        v: with_size(value, size),
-        st: State {
-            sizing: record_errors(state.sizing, errors),
-            ..state
-        },
-    }
+    let state = State {
+        sizing: record_errors(state.sizing, errors),
+        ..state
+    };
+    (with_size(value, size), state)
 }
 
-// A register access's stated size is set; 0 sets none.
+// A register access's stated size is set; 0, as slots and actions have it, sets none.
 #[tactic(auto, unfolding(crate::specs::Reading::set_stated))]
 pub fn set_stated(
     section: Section<'_>,
@@ -62,19 +55,16 @@ pub fn set_stated(
     value: Value,
     size: u64,
     state: State,
-) -> Stated
-    ensures { listed result temporaries.new ≡ set_stated section.entry.stream.now section.entry.table.now temporaries.old value size state }
+) -> (Value, State)
+    ensures { listed (to_stated result) temporaries.new ≡ set_stated section.entry.stream.now section.entry.table.now temporaries.old value size state }
 {
     if size == 0 {
-        return Stated {
-            v: value,
-            st: state,
-        };
+        return (value, state);
     }
     set_size(section, temporaries, value, size, state)
 }
 
-// A RAM access's stated size is taken silently; 0 sets none.
+// A RAM access's stated size is taken silently; 0, as slots and actions have it, sets none.
 #[tactic(auto, unfolding(crate::specs::Reading::take_stated))]
 pub fn take_stated(
     section: Section<'_>,
@@ -82,20 +72,14 @@ pub fn take_stated(
     value: Value,
     size: u64,
     state: State,
-) -> Stated
-    ensures { listed result temporaries.new ≡ take_stated section.entry.stream.now section.entry.table.now temporaries.old value size state }
+) -> (Value, State)
+    ensures { listed (to_stated result) temporaries.new ≡ take_stated section.entry.stream.now section.entry.table.now temporaries.old value size state }
 {
     if size == 0 {
-        return Stated {
-            v: value,
-            st: state,
-        };
+        return (value, state);
     }
     if size_of(section, temporaries, value) != NONE {
-        return Stated {
-            v: with_size(value, size),
-            st: state,
-        };
+        return (with_size(value, size), state);
     }
     set_size(section, temporaries, value, size, state)
 }
@@ -159,15 +143,15 @@ fn shift_and_mask(
     context: &Context<'_>,
     actions: &mut [u64],
     temporaries: &mut [u64],
-    value: Value,
-    bits: Bits,
+    range: BitRange,
     state: State,
 ) -> Result<(Value, State), Refusal>
-    ensures { read (to_read result) actions.new temporaries.new ≡ shift_and_mask context.entry.now.section.stream.now context.entry.now.section.table.now actions.old temporaries.old context.entry.now.env value bits.from bits.count state }
+    ensures { read (to_read result) actions.new temporaries.new ≡ shift_and_mask context.entry.now.section.stream.now context.entry.now.section.table.now actions.old temporaries.old context.entry.now.env range.base range.bits.from range.bits.count state }
 {
-    let size = size_of(context.section, temporaries, value);
+    let BitRange { base, bits } = range;
+    let size = size_of(context.section, temporaries, base);
     let (tmp, state) = add_tmp(temporaries, NONE, size, state)?;
-    let shift = Operation::binary(operation::INT_RIGHT, value, constant(bits.from));
+    let shift = Operation::binary(operation::INT_RIGHT, base, constant(bits.from));
     let (_, state) = masked(context, actions, temporaries, shift, tmp, bits.count, state)?;
     Ok((with_size(tmp, needed_bytes(bits.count)), state))
 }
@@ -177,16 +161,16 @@ fn part_of(
     context: &Context<'_>,
     actions: &mut [u64],
     temporaries: &mut [u64],
-    value: Value,
-    bits: Bits,
+    range: BitRange,
     state: State,
 ) -> Result<(Value, State), Refusal>
-    ensures { read (to_read result) actions.new temporaries.new ≡ part_of context.entry.now.section.stream.now context.entry.now.section.table.now actions.old temporaries.old context.entry.now.env value bits.from bits.count state }
+    ensures { read (to_read result) actions.new temporaries.new ≡ part_of context.entry.now.section.stream.now context.entry.now.section.table.now actions.old temporaries.old context.entry.now.env range.base range.bits.from range.bits.count state }
 {
+    let bits = range.bits;
     if byte_aligned(bits) {
-        return sliced(value, bits.from / 8, bits.count / 8, state);
+        return sliced(range.base, bits.from / 8, bits.count / 8, state);
     }
-    shift_and_mask(context, actions, temporaries, value, bits, state)
+    shift_and_mask(context, actions, temporaries, range, state)
 }
 
 #[tactic(auto, unfolding(crate::specs::Reading::read_slice, list_pushes::specs::Pushes::on_read))]
@@ -194,14 +178,13 @@ pub fn read_slice(
     context: &Context<'_>,
     actions: &mut [u64],
     temporaries: &mut [u64],
-    value: Value,
-    bits: Bits,
+    range: BitRange,
     to: Option<Value>,
     state: State,
 ) -> Result<(Value, State), Refusal>
-    ensures { read (to_read result) actions.new temporaries.new ≡ read_slice context.entry.now.section.stream.now context.entry.now.section.table.now actions.old temporaries.old context.entry.now.env value bits.from bits.count (is_some to) (unwrap_or to absent) state }
+    ensures { read (to_read result) actions.new temporaries.new ≡ read_slice context.entry.now.section.stream.now context.entry.now.section.table.now actions.old temporaries.old context.entry.now.env range.base range.bits.from range.bits.count (is_some to) (unwrap_or to absent) state }
 {
-    let (part, next) = part_of(context, actions, temporaries, value, bits, state)?;
+    let (part, next) = part_of(context, actions, temporaries, range, state)?;
     copy_to(context, actions, temporaries, to, part, next)
 }
 
@@ -237,9 +220,9 @@ fn load(
     ensures { read (to_read result) actions.new temporaries.new ≡ load context.entry.now.section.stream.now context.entry.now.section.table.now actions.old temporaries.old context.entry.now.env from.pointer from.size (is_some to) (unwrap_or to absent) state }
 {
     let (value, next) = output_or(temporaries, to, NONE, state)?;
-    let out = take_stated(context.section, temporaries, value, from.size, next);
+    let (output, next) = take_stated(context.section, temporaries, value, from.size, next);
     let load = Operation::unary(operation::LOAD, from.pointer);
-    op_to(context, actions, temporaries, load, out.v, out.st)
+    op_to(context, actions, temporaries, load, output, next)
 }
 
 // Not one function with `load`: an operation's rule sizes what it loads, and this action has its size as its number.
@@ -255,13 +238,13 @@ fn load_register(
     ensures { read (to_read result) actions.new temporaries.new ≡ load_register section.entry.stream.now section.entry.table.now actions.old temporaries.old from.pointer from.size (is_some to) (unwrap_or to absent) state }
 {
     let (value, next) = output_or(temporaries, to, from.size, state)?;
-    let out = set_stated(section, temporaries, value, from.size, next);
+    let (output, next) = set_stated(section, temporaries, value, from.size, next);
     let load = Operation {
         number: from.size,
         ..Operation::unary(0, from.pointer)
     };
-    let last = push(actions, action_kind::LOAD_REGISTER, load, out.v, out.st)?;
-    Ok((out.v, last))
+    let last = push(actions, action_kind::LOAD_REGISTER, load, output, next)?;
+    Ok((output, last))
 }
 
 #[tactic(auto, unfolding(crate::specs::Reading::read_value))]
@@ -276,8 +259,9 @@ pub fn read_value(
     ensures { read (to_read result) actions.new temporaries.new ≡ read_value context.entry.now.section.stream.now context.entry.now.section.table.now actions.old temporaries.old context.entry.now.env expr (is_some to) (unwrap_or to absent) state }
 {
     match expr {
-        ExprValue::Local(v) => copy_to(context, actions, temporaries, to, v, state),
-        ExprValue::Unbound(v) => copy_to(context, actions, temporaries, to, v, state),
+        ExprValue::Local(v) | ExprValue::Unbound(v) => {
+            copy_to(context, actions, temporaries, to, v, state)
+        }
         ExprValue::Const { value, size } => {
             let v = with_size(constant(value), size);
             copy_to(context, actions, temporaries, to, v, state)
@@ -290,9 +274,9 @@ pub fn read_value(
         ExprValue::AddressOf { base, size } => {
             read_address(actions, temporaries, base, size, to, state)
         }
-        ExprValue::BitRange { v, bits } => {
+        ExprValue::BitRange(range) => {
             // By a name of its own, so that the answers of the other arms need not go through memory.
-            let r = read_slice(context, actions, temporaries, v, bits, to, state);
+            let r = read_slice(context, actions, temporaries, range, to, state);
             r
         }
     }

@@ -27,7 +27,7 @@ use Rattle.list_pushes.specs.Pushes.{add_tmp, push, push_op, op_to}
 use Rattle.list_refinement.specs.Encoding.{enc_v, temporaries_in, enc_z, Sound, Each, SoundAction, SizesHold, first_of, second_of, output_of}
 use Rattle.list_refinement.proofs.Settled.{size_is, known_small, settled_is, settled_sets}
 use Rattle.list_refinement.proofs.Seen.{Seen, yes, seen_read, seen_pushed, seen_tmp, seen_push}
-use Rattle.expr_reading.specs.declared.read.Stated.{Stated}
+use Rattle.expr_reading.specs.Outcomes.{Stated}
 use Rattle.expr_reading.specs.Reading.{set_size}
 use Rattle.expr_refinement.proofs.Encodings.{sound_more, params_more, mapping_more, actions_more}
 use Rattle.expr_refinement.proofs.Answers.{acts, temps, word, Refines, refines_at}

@@ -1,14 +1,15 @@
 -- Expressions: the walk over their prefix code resolves each to what the definition resolves it to.
-use Prim.Native.Nat.{ℕ, zero, suc, ◌+◌, ◌*◌, ◌≤◌, ◌<◌}
+use Prim.Native.Nat.{ℕ, zero, suc, ◌+◌, ◌*◌, ◌≤◌, ◌<◌, max}
 use mathlib.Core.Path.{◌≡◌, refl, sym, ◌∙◌, ap}
 use mathlib.Core.Bool.{Bool, true, false}
 use mathlib.Core.List.{List, [], ◌∷◌}
 use mathlib.Core.Option.{Option, none, some}
 use native.Mathlib.Nat.{add-zero}
+use Rattle.std.proofs.Math.Nat.{max-eq_left, max-eq_right}
 use native.Mathlib.Omega.{arith}
 use lib.ListN.{length, get_or, drop, replicate, length-replicate}
-use lib.Dec.{eqb, ltb}
-use borrow.Author.Tests.{eqb-true, ne_eqb, lt-ltb, le-ltb, ltb-false}
+use lib.Dec.{eqb}
+use borrow.Author.Tests.{eqb-true, ne_eqb, lt-ltb}
 use Rattle.access.specs.Le.{le16, le64}
 use Rattle.prelude.specs.Base as definition
 use Rattle.prelude.specs.Base.{or_else, when◌then◌else◌, contains}
@@ -30,7 +31,6 @@ use Rattle.list_values.specs.declared.value.Value.{Value as WordValue}
 use Rattle.list_pushes.specs.declared.push.State.{State as WordState}
 use Rattle.list_pushes.specs.declared.push.Env.{Env as WordEnv}
 use Rattle.list_pushes.specs.Outcomes.{Read as WordRead}
-use Rattle.list_values.specs.Values.{absent}
 use Rattle.list_pushes.specs.Operations.{unary as one_input, binary as two_inputs}
 use Rattle.list_pushes.specs.Pushes.{ReadOut, read}
 use Rattle.file_syntax.specs.Cursors.{Cursor}
@@ -50,7 +50,7 @@ use Rattle.expr_terms.specs.Calls as calls
 use Rattle.expr_terms.specs.Calls.{inbuilt_or, call_user_op, subpiece}
 use Rattle.expr_terms.specs.Addresses.{resolve_address}
 use Rattle.expr_resolver.specs.Expressions as words
-use Rattle.expr_resolver.specs.Expressions.{value_then, local_address, address_meant, address_of, atom, later, skip_expr, order, order_of, operands_around, operands_of, apply1, apply2, part_at, with_part, expr_value, part, binary, by_code, resolve_expr}
+use Rattle.expr_resolver.specs.Expressions.{value_then, local_address, address_meant, address_of, atom, skip_expr, order, order_of, operands_around, operands_of, apply1, apply2, part_at, with_part, expr_value, part, binary, by_code, resolve_expr}
 use Rattle.expr_refinement.proofs.Inbuilts.{inbuilt_words}
 use Rattle.expr_refinement.proofs.Encodings.{sound_more, x_more}
 use Rattle.expr_refinement.proofs.Answers.{bind, bind_expr, bind_operand, bind_args, acts, temps, word, seen_expr, seen_operand, seen_args, Refines, refines_done, refines_stopped, refines_map, weaken}
@@ -292,16 +292,16 @@ module _ (s t : List ℕ) (e : Env) (p front tail rest : List ℕ) (we : WordEnv
       λ y st1 r g. operand_of_lem next st1 (read_operand s t (A st1) (M st1) we (enc_x y) (W st1)) (d.read_value y none e st1) (read-operand s t e front tail rest we below spare room st1 r.stood y g)
 
   -- an operation on a value and an operand
-  apply_second : (op : Operation) → Applies2 op → (v : Value) (end mid next : ℕ) → later end mid ≡ next → (st : State) → Sound e.section (count st) v → (y : OperandOut) (o : Outcome Value) → Gives mid st y o
+  apply_second : (op : Operation) → Applies2 op → (v : Value) (end mid next : ℕ) → max end mid ≡ next → (st : State) → Sound e.section (count st) v → (y : OperandOut) (o : Outcome Value) → Gives mid st y o
       → Answers next st (applied_to y (apply2 (operation_number op) (enc_v v) end)) (on e o λ right. λ e1 st1. done (ExprValue.Apply op 0 (v ∷ right ∷ [])) st1)
   unfolding seen_operand applied_to apply2 seen_expr
   apply_second op ok v end mid next q st h y o r =
       bind e.section front tail rest spare spare e st (λ (v : Value). (enc_v v, mid)) (Sound e.section) seen_expr (λ (x : ExprValue). (enc_x x, next)) (SoundX e.section) (λ right. λ e1 st1. done (ExprValue.Apply op 0 (v ∷ right ∷ [])) st1)
-      (seen_operand y) o (applied_to y (apply2 (operation_number op) (enc_v v) end)) (λ u st1 a m. resolved (Expr.Value (later end u.1) (WordExpr.Apply (two_inputs (operation_number op) (enc_v v) u.0)) st1) a m) r
+      (seen_operand y) o (applied_to y (apply2 (operation_number op) (enc_v v) end)) (λ u st1 a m. resolved (Expr.Value (max end u.1) (WordExpr.Apply (two_inputs (operation_number op) (enc_v v) u.0)) st1) a m) r
       (λ u st1 g k. rw q (unfold enc_x first_of second_of in answers next st1 g.stood (ExprValue.Apply op 0 (v ∷ u ∷ [])) (omega arith, ok v u, (sound_more e.section (count st) (count st1) g.later.temporaries v h, (k, tt)))))
       (go y) (stop y)
     where
-      go : (y : OperandOut) (u : WordValue × ℕ) (st1 : WordState) (a m : List ℕ) → seen_operand y ≡ yes u st1 a m → seen_expr (applied_to y (apply2 (operation_number op) (enc_v v) end)) ≡ seen_expr (resolved (Expr.Value (later end u.1) (WordExpr.Apply (two_inputs (operation_number op) (enc_v v) u.0)) st1) a m)
+      go : (y : OperandOut) (u : WordValue × ℕ) (st1 : WordState) (a m : List ℕ) → seen_operand y ≡ yes u st1 a m → seen_expr (applied_to y (apply2 (operation_number op) (enc_v v) end)) ≡ seen_expr (resolved (Expr.Value (max end u.1) (WordExpr.Apply (two_inputs (operation_number op) (enc_v v) u.0)) st1) a m)
       go (operand (Operand.Value z n st2) b w) u st1 a m q = (let i : (z, n) ≡ u = cc in let j : st2 ≡ st1 = cc in let k : b ≡ a = cc in let l : w ≡ m = cc in rw (← i, j, k, l))
       go (operand (Operand.No n) b w) u st1 a m q = cc
 
@@ -310,7 +310,7 @@ module _ (s t : List ℕ) (e : Env) (p front tail rest : List ℕ) (we : WordEnv
       stop (operand (Operand.No k) b w) n q = (let i : k ≡ n = cc in rw i)
 
   -- one operand after the other
-  both : (deep : ℕ) → Resolves deep → (op : Operation) → Applies2 op → (first : ℕ) (x : PcodeExpr) (end : ℕ) → ReadAt deep first x end → end ≤ length s → (second : ℕ) (y : PcodeExpr) (mid : ℕ) → ReadAt deep second y mid → mid ≤ length s → (next : ℕ) → later end mid ≡ next
+  both : (deep : ℕ) → Resolves deep → (op : Operation) → Applies2 op → (first : ℕ) (x : PcodeExpr) (end : ℕ) → ReadAt deep first x end → end ≤ length s → (second : ℕ) (y : PcodeExpr) (mid : ℕ) → ReadAt deep second y mid → mid ≤ length s → (next : ℕ) → max end mid ≡ next
       → (st : State) → Stands st → Scopes st
       → Answers next st (binary (resolve_expr deep s t p we) s t we (order (operation_number op) first second) (A st) (M st) (W st)) (d.binary op (d.value_of (d.resolve_expr x)) (d.value_of (d.resolve_expr y)) e st)
   unfolding binary d.binary
@@ -365,18 +365,6 @@ module _ (s t : List ℕ) (e : Env) (p front tail rest : List ℕ) (we : WordEnv
       stop : (y : OperandOut) (n : ℕ) → seen_operand y ≡ no n → seen_expr (applied_to y (apply1 (operation_number op))) ≡ no n
       stop (operand (Operand.Value z k st2) b w) n q = cc
       stop (operand (Operand.No k) b w) n q = (let i : k ≡ n = cc in rw i)
-
-  later_second : (a b : ℕ) → a ≤ b → later a b ≡ b
-  unfolding later
-  later_second a b h = go (ltb a b) refl
-    where
-      go : (c : Bool) → ltb a b ≡ c → (when c then b else a) ≡ b
-      go true q = refl
-      go false q = let k = ltb-false a b q in omega arith
-
-  later_first : (a b : ℕ) → b ≤ a → later a b ≡ a
-  unfolding later
-  later_first a b h = rw (le-ltb a b h)
 
   module _ (deep : ℕ) (small : suc deep ≤ 32) (walks : Resolves deep) (pos : ℕ) (x : PcodeExpr) (next : ℕ) (reads : ReadAt (suc deep) pos x next) (inside : next ≤ length s) (st : State) (f : Stands st) (c : Scopes st) where
     abbrev Done : ℕ → Type 0
@@ -467,9 +455,9 @@ module _ (s t : List ℕ) (e : Env) (p front tail rest : List ℕ) (we : WordEnv
         by_order : (i : OpAt s (le16 s 2) deep pos x (drop next s)) → next ≡ i.b_end → i.a_end + 1 ≤ i.b_end → (o : PcodeOp) → OrderIs o (get_or s i.a_end 0)
             → Answers next st (binary (resolve_expr deep s t p we) s t we (order_of (get_or s i.a_end 0) (pos + 1) (i.a_end + 1)) (A st) (M st) (W st)) (d.resolve_op o (d.value_of (d.resolve_expr i.a)) (d.value_of (d.resolve_expr i.b)) e st)
         by_order i k l (PcodeOp.plain op) h = unfold order_of d.resolve_op in
-            rw (h.0, ← h.1) (both deep walks op h.2 (pos + 1) i.a i.a_end i.a_reads i.a_inside (i.a_end + 1) i.b i.b_end i.b_reads i.b_inside next (later_second i.a_end i.b_end (omega arith) ∙ sym k) st f c)
+            rw (h.0, ← h.1) (both deep walks op h.2 (pos + 1) i.a i.a_end i.a_reads i.a_inside (i.a_end + 1) i.b i.b_end i.b_reads i.b_inside next (max-eq_right {n = i.a_end} {m = i.b_end} (omega arith) ∙ sym k) st f c)
         by_order i k l (PcodeOp.greater op) h = unfold order_of d.resolve_op in
-            rw (h.0, ← h.1) (both deep walks op h.2 (i.a_end + 1) i.b i.b_end i.b_reads i.b_inside (pos + 1) i.a i.a_end i.a_reads i.a_inside next (later_first i.b_end i.a_end (omega arith) ∙ sym k) st f c)
+            rw (h.0, ← h.1) (both deep walks op h.2 (i.a_end + 1) i.b i.b_end i.b_reads i.b_inside (pos + 1) i.a i.a_end i.a_reads i.a_inside next (max-eq_left {n = i.b_end} {m = i.a_end} (omega arith) ∙ sym k) st f c)
 
     -- a call: its name, the count of its arguments, and they
     module _ (q : get_or s pos 0 ≡ 8) where
@@ -522,7 +510,7 @@ module _ (s t : List ℕ) (e : Env) (p front tail rest : List ℕ) (we : WordEnv
             let r : on e (on e (d.resolve_arg_values (arg y no_args) e st1) λ vs. λ e2 st2. done (v ∷ vs) st2) (λ vs. λ e2 st2. done (ExprValue.Apply g.op 0 vs) st2) ≡ on e (d.value_of (d.resolve_expr y) e st1) (λ u. λ e2 st2. done (ExprValue.Apply g.op 0 (v ∷ u ∷ [])) st2) = unfold d.resolve_arg_values on in
             ap (λ (o : Outcome (List Value)). on e o (λ vs. λ e2 st2. done (ExprValue.Apply g.op 0 vs) st2)) (on_assoc e (d.value_of (d.resolve_expr y) e st1) (λ u. λ e2 st2. done (u ∷ []) st2) (λ vs. λ e2 st2. done (v ∷ vs) st2))
             ∙ on_assoc e (d.value_of (d.resolve_expr y) e st1) (λ u. λ e2 st2. done (v ∷ u ∷ []) st2) (λ vs. λ e2 st2. done (ExprValue.Apply g.op 0 vs) st2) in
-            rw r (apply_second g.op ok v 0 next next (later_second 0 next (omega arith)) st1 k _ _ (value_at_lem deep walks end y next h inside st1 f1 c1))
+            rw r (apply_second g.op ok v 0 next next (max-eq_right {n = 0} {m = next} (omega arith)) st1 k _ _ (value_at_lem deep walks end y next h inside st1 f1 c1))
 
         two_case : (g : Inbuilt) → Applies2 g.op → pos + 4 ≤ length s → num ≡ 2
             → Answers next st (words.call_inbuilt (resolve_expr deep s t p we) s t we pos (operation_number g.op) 2 (A st) (M st) (W st)) (on e (d.resolve_arg_values i.args e st) λ vs. λ e1 st1. done (ExprValue.Apply g.op 0 vs) st1)

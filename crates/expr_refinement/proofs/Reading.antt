@@ -34,7 +34,7 @@ use Rattle.list_pushes.specs.Pushes.{ReadOut, read, on_read, output_or, push, op
 use Rattle.list_refinement.specs.Encoding.{enc_v, Sound, Each, EachOption, first_of, second_of, output_of}
 use Rattle.list_refinement.proofs.Settled.{size_is, known_small}
 use Rattle.list_refinement.proofs.Seen.{yes, no, seen_read, seen_tmp, seen_push}
-use Rattle.expr_reading.specs.declared.read.Stated.{Stated}
+use Rattle.expr_reading.specs.Outcomes.{Stated}
 use Rattle.expr_reading.specs.Reading.{needed_bytes, set_stated, take_stated, copy_to, byte_aligned, slice_read, sliced, shift_to, shift_and_mask, part_of, read_slice, pushed_to, pushed_out, read_address, load_to, load, load_register_to, load_register, read_value, read_operand}
 use Rattle.expr_refinement.proofs.Encodings.{sound_more, each_more, stood_more}
 use Rattle.expr_refinement.proofs.Answers.{bind, bind_read, bind_tmp, bind_require, acts, temps, word, Refines, refines_done, refines_stopped}

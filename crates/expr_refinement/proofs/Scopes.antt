@@ -27,8 +27,7 @@ use Rattle.definition_guarantee.proofs.Globals.{place-below, FoundPlaced, found_
 pub use Rattle.definition_guarantee.proofs.Entries.{find-each}
 pub use Rattle.file_refinement.proofs.AgreeStream.{eqb_sym as eqb_swap}
 use Rattle.list_refinement.specs.Encoding.{Sound}
-use Rattle.expr_scope.specs.declared.scope.ExprValue.{ExprValue as WordExpr}
-use Rattle.expr_scope.specs.Outcomes.{Meaning as WordMeaning}
+use Rattle.expr_scope.specs.Outcomes.{Meaning as WordMeaning, Found}
 use Rattle.expr_terms.specs.Answers.{resolved}
 use Rattle.expr_resolver.specs.Expressions.{means_at}
 use Rattle.expr_scope.specs.Slots.{of_slot, slot_at, param_place}
@@ -125,21 +124,21 @@ module _ (s t : List ℕ) (e : Env) (p : List ℕ) (we : WordEnv) (holds : Holds
   inner_is : words.inner_meaning s t p we name
       ≡ enc_m (meaning_of e.section ((definition.when◌then◌else◌ (eqb name e.section.header.inst_next) (some (ExprValue.Local (local Kind.InstNext 0))) none) or (definition.when◌then◌else◌ (eqb name e.section.header.inst_start) (some (ExprValue.Local (local Kind.InstStart 0))) none)
       or (and_then (find name st.scope.mapping) λ v. some (ExprValue.Local v))) name)
-  unfolding words.inner_meaning
+  unfolding words.inner_meaning words.local_meaning
   inner_is =
       rw (scoped.locals name known, lookup_is s t e.section holds name known, ← holds.inst_next, ← holds.inst_start)
       (go (eqb name e.section.header.inst_next) (eqb name e.section.header.inst_start) (find name st.scope.mapping))
     where
       go : (a b : Bool) (v : Option Value)
-          → (when a then WordMeaning.Means (WordExpr.Local (record { kind = 1; number = 0; offset = 0; size = 65535 })) else when b then WordMeaning.Means (WordExpr.Local (record { kind = 0; number = 0; offset = 0; size = 65535 })) else found_or (enc_f v) (words.global_meaning s t (enc_symbol (find name (globals e.section)))))
+          → found_or (when a then Found.Is (record { kind = 1; number = 0; offset = 0; size = 65535 }) else when b then Found.Is (record { kind = 0; number = 0; offset = 0; size = 65535 }) else enc_f v) (words.global_meaning s t (enc_symbol (find name (globals e.section))))
           ≡ enc_m (meaning_of e.section ((definition.when◌then◌else◌ a (some (ExprValue.Local (local Kind.InstNext 0))) none) or (definition.when◌then◌else◌ b (some (ExprValue.Local (local Kind.InstStart 0))) none) or (and_then v λ v. some (ExprValue.Local v))) name)
-      go true b v = unfold base_opens meaning_of enc_m enc_x kind_number or_none or_else in refl
-      go false true v = unfold base_opens meaning_of enc_m enc_x kind_number or_none or_else in refl
+      go true b v = unfold base_opens meaning_of enc_m enc_x found_or kind_number or_none or_else in refl
+      go false true v = unfold base_opens meaning_of enc_m enc_x found_or kind_number or_none or_else in refl
       go false false (some v) = unfold base_opens meaning_of enc_m enc_x found_or enc_f in refl
       go false false none = unfold base_opens meaning_of found_or enc_f in global_means s t e.section holds (find name (globals e.section)) (found_placed e.section name _ refl)
 
   pub ident_is : words.resolve_ident s t p we name ≡ enc_m (meaning_of e.section (inner_meaning e.section st.scope name) name)
-  unfolding words.resolve_ident param_or found inner_meaning words.inner_meaning
+  unfolding words.resolve_ident param_or found inner_meaning words.inner_meaning words.local_meaning
   ident_is =
       rw scoped.counted
       (param_is st.scope.params p name _ scoped.params ∙ go (find name st.scope.params))

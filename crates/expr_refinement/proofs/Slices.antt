@@ -82,7 +82,7 @@ module _ (s t : List ℕ) (e : Env) (front tail rest : List ℕ) (we : WordEnv) 
       let b : bits % 65536 ≡ bits = omega arith in
       let c : before % 65536 ≡ before = omega arith in
       rw (a, b, c)
-      (bind_unless e.section front tail rest spare e st (λ (x : Expr). seen_expr (resolved x (A st) (M st))) (λ (x : ExprValue). (enc_x x, next)) (SoundX e.section) (ltb whole (from + bits)) slice_past_end (Expr.Value next (WordExpr.BitRange (enc_v v) (record { from = before + from; count = bits })) (W st)) (Expr.No 36) (λ _. λ e2 st2. done (ExprValue.BitRange v (before + from) bits) st2) (unfold seen_expr refusal_number in refl)
+      (bind_unless e.section front tail rest spare e st (λ (x : Expr). seen_expr (resolved x (A st) (M st))) (λ (x : ExprValue). (enc_x x, next)) (SoundX e.section) (ltb whole (from + bits)) slice_past_end (Expr.Value next (WordExpr.BitRange (record { base = enc_v v; bits = record { from = before + from; count = bits } })) (W st)) (Expr.No 36) (λ _. λ e2 st2. done (ExprValue.BitRange v (before + from) bits) st2) (unfold seen_expr refusal_number in refl)
       (λ q. let i = ltb-false whole (from + bits) q in unfold enc_x in means-done st f (ExprValue.BitRange v (before + from) bits) (h, omega arith))
       (leb (from + bits) whole) (not_less whole (from + bits)) (less whole (from + bits)))
 

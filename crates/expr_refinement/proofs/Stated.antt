@@ -20,7 +20,7 @@ use Rattle.list_pushes.specs.declared.push.State.{State as WordState}
 use Rattle.list_values.specs.Base.{Listed, listed}
 use Rattle.list_refinement.specs.Encoding.{SizesHold, enc_v, Sound}
 use Rattle.list_refinement.proofs.Settled.{size_is, known_small}
-use Rattle.expr_reading.specs.declared.read.Stated.{Stated}
+use Rattle.expr_reading.specs.Outcomes.{Stated}
 use Rattle.expr_reading.specs.Reading.{stated, set_size, set_stated, take_stated}
 use Rattle.expr_refinement.proofs.Encodings.{stood_more}
 use Rattle.expr_refinement.proofs.Answers.{acts, temps, word, Refines, refines_done}

@@ -29,7 +29,7 @@ enc_x (ExprValue.Apply op n vs) = WordExpr.Apply (record { code = operation_numb
 enc_x (ExprValue.RamRef v size) = WordExpr.RamRef (record { pointer = enc_v v; size = size })
 enc_x (ExprValue.RegisterRef v size) = WordExpr.RegisterRef (record { pointer = enc_v v; size = size })
 enc_x (ExprValue.AddressOf v size) = WordExpr.AddressOf (enc_v v) (or_none size)
-enc_x (ExprValue.BitRange v from bits) = WordExpr.BitRange (enc_v v) (record { from = from; count = bits })
+enc_x (ExprValue.BitRange v from bits) = WordExpr.BitRange (record { base = enc_v v; bits = record { from = from; count = bits } })
 
 -- an action that an operation makes
 abbrev pub op_action : Operation → ℕ → List Value → Option Value → SemanticAction

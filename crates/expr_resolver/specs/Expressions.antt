@@ -1,7 +1,7 @@
 -- Expressions, resolved by a walk over their prefix code. A step takes the walk over a part, one level deeper, as an
 -- argument. In all of these s is the stream, t the section's table, p the scope's list, a the actions, m the temporaries, e
 -- the environment, st the state.
-use Rattle.std.specs.Prelude.{ℕ, zero, suc, ◌+◌, ◌-◌, ◌*◌, ◌/◌, ◌%◌, List, get_or, replicate, eqb, ltb}
+use Rattle.std.specs.Prelude.{ℕ, zero, suc, ◌+◌, ◌-◌, ◌*◌, ◌/◌, ◌%◌, max, List, get_or, replicate, eqb, ltb}
 use Rattle.access.specs.Le.{le16, le64}
 use Rattle.file_syntax.specs.Cursors.{cursor}
 use Rattle.file_syntax.specs.Expressions as section
@@ -43,7 +43,7 @@ local_address (ExprValue.Apply operation) size next st = Expr.No 30
 local_address (ExprValue.RamRef access) size next st = Expr.No 30
 local_address (ExprValue.RegisterRef access) size next st = Expr.No 30
 local_address (ExprValue.AddressOf v z) size next st = Expr.No 30
-local_address (ExprValue.BitRange v bits) size next st = Expr.No 30
+local_address (ExprValue.BitRange r) size next st = Expr.No 30
 
 unfoldable pub address_meant : Meaning → ℕ → ℕ → State → Expr
 address_meant (Meaning.Means x) size next st = local_address x size next st
@@ -70,9 +70,6 @@ operation_of code =
     else when eqb code 38 then 21
     else code
 
-unfoldable pub later : ℕ → ℕ → ℕ
-later x y = when ltb x y then y else x
-
 -- where the expression at a position ends
 unfoldable pub skip_expr : List ℕ → ℕ → ℕ
 skip_expr s pos = (section.expr 32 s (le16 s 2) (cursor pos 0 0)).at
@@ -95,7 +92,7 @@ apply1 op (Operand.Value v next st) = applied op 0 1 v absent next st
 apply1 op (Operand.No n) = Expr.No n
 
 unfoldable pub apply2 : ℕ → Value → ℕ → Operand → Expr
-apply2 op v end (Operand.Value w next st) = applied op 0 2 v w (later end next) st
+apply2 op v end (Operand.Value w next st) = applied op 0 2 v w (max end next) st
 apply2 op v end (Operand.No n) = Expr.No n
 
 -- where the part of a truncation, a slice or a dereference stands, after its code

@@ -1,13 +1,14 @@
 // Expressions, resolved by a walk over their prefix code: each part one level deeper. Codes stay the bytes that the stream has:
 // the reader has refused those that mean nothing, but no type says so here, and as an enum each would be converted at every
-// step, and have a variant more for such a byte.
+// step, and have a variant more for such a byte. The scope is no part of the context, since statements lend it as `&mut`, and the
+// position is each function's own, so both stand beside it.
 ghost use Rattle.std.specs.Prelude.{◌≡◌, ◌+◌, ℕ, List, Ok, IfSome};
 ghost use Rattle.access.specs.Le.{le16};
 ghost use Rattle.expr_scope.specs.Scopes.{resolve_ident};
 ghost use Rattle.expr_scope.specs.Outcomes.{to_args};
 ghost use Rattle.expr_terms.specs.Outcomes.{to_expr, to_operand};
 ghost use Rattle.expr_terms.specs.Answers.{resolved, operand, passed, after};
-ghost use Rattle.expr_resolver.specs.Expressions.{means_at, local_address, address_of, atom, operation_of, later, skip_expr, operands_of, part_at, with_part, expr_value, part, resolve_op, call_inbuilt, resolve_args, user_op, resolve_call, resolve_expr};
+ghost use Rattle.expr_resolver.specs.Expressions.{means_at, local_address, address_of, atom, operation_of, skip_expr, operands_of, part_at, with_part, expr_value, part, resolve_op, call_inbuilt, resolve_args, user_op, resolve_call, resolve_expr};
 
 use access::u16_in;
 use codes::limit::DEPTH;
@@ -18,7 +19,7 @@ use expr_scope::args::{ARGS_WORDS, put_arg};
 use expr_scope::scope::{Bits, ExprValue, plain_local, resolve_ident};
 use expr_terms::address::resolve_address;
 use expr_terms::answers::{Resolved, after};
-use expr_terms::calls::{Callee, applied, call_user_op, callee_of, subpiece};
+use expr_terms::calls::{Call, Callee, applied, call_user_op, callee_of, subpiece};
 use expr_terms::slices::slice_bits;
 use file_syntax::cursor::{Cursor, place_of};
 use list_pushes::push::{Context, Operation, State};
@@ -53,7 +54,7 @@ fn local_address(
         | ExprValue::RamRef(_)
         | ExprValue::RegisterRef(_)
         | ExprValue::AddressOf { .. }
-        | ExprValue::BitRange { .. } => Err(Refusal::AddressOfNonLocal),
+        | ExprValue::BitRange(_) => Err(Refusal::AddressOfNonLocal),
     }
 }
 
@@ -76,7 +77,7 @@ fn address_of(
 }
 
 // The name at a position.
-#[tactic(auto, using(expr_scope::proofs::ScopeLaws::plain_means), unfolding(crate::specs::Expressions::means_at))]
+#[tactic(auto, using(expr_scope::proofs::ScopeLaws::plain_means, expr_scope::proofs::ScopeLaws::plain_wrong), unfolding(crate::specs::Expressions::means_at))]
 fn name_at(
     context: &Context<'_>,
     scope: &[u64],
@@ -87,7 +88,7 @@ fn name_at(
 {
     let name = u16_in(context.section.stream, pos, 1);
     let next = after(pos, 3);
-    let value = match plain_local(context, scope, name) {
+    let value = match plain_local(context, scope, name)? {
         Some(local) => ExprValue::Local(local),
         None => resolve_ident(context, scope, name)?,
     };
@@ -133,13 +134,6 @@ fn operation_of(code: u64) -> u64
         expression::FLOAT_GREATER_EQUAL => operation::FLOAT_LESS_EQUAL,
         _ => code,
     }
-}
-
-#[tactic(auto, unfolding(crate::specs::Expressions::later))]
-fn later(place: usize, other: usize) -> usize
-    ensures { result ≡ later place other }
-{
-    if place < other { other } else { place }
 }
 
 // Where the expression at a position ends.
@@ -233,34 +227,38 @@ fn with_part(
     }
 }
 
-// What stands at a position, where it is a plain local or an integer: reading it pushes nothing.
-#[tactic(auto, using(crate::proofs::ExprLaws::plain_read, crate::proofs::ExprLaws::integer_read))]
+// What stands at a position, where it is a plain local or an integer, of which reading pushes nothing, or a name that is refused.
+#[tactic(auto, using(crate::proofs::ExprLaws::plain_read, crate::proofs::ExprLaws::plain_refused, crate::proofs::ExprLaws::integer_read))]
 fn plain_operand(
     deep: u64,
     context: &Context<'_>,
     scope: &[u64],
     pos: usize,
     state: State,
-) -> Option<Resolved<Value>>
-    ensures { IfSome result (λ o. (a m : List ℕ) → operand (to_operand (Ok o)) a m ≡ expr_value (resolve_expr deep context.entry.now.section.stream.now context.entry.now.section.table.now scope.now context.entry.now.env) context.entry.now.section.stream.now context.entry.now.section.table.now context.entry.now.env pos a m state) }
+) -> Option<Result<Resolved<Value>, Refusal>>
+    ensures { IfSome result (λ o. (a m : List ℕ) → operand (to_operand o) a m ≡ expr_value (resolve_expr deep context.entry.now.section.stream.now context.entry.now.section.table.now scope.now context.entry.now.env) context.entry.now.section.stream.now context.entry.now.section.table.now context.entry.now.env pos a m state) }
 {
     if deep == 0 {
         return None;
     }
     match access::byte(context.section.stream, pos, 0) {
         expression::IDENT => {
-            let value = plain_local(context, scope, u16_in(context.section.stream, pos, 1))?;
-            Some(Resolved {
-                value,
-                next: after(pos, 3),
-                state,
-            })
+            let name = u16_in(context.section.stream, pos, 1);
+            match plain_local(context, scope, name) {
+                Ok(Some(value)) => Some(Ok(Resolved {
+                    value,
+                    next: after(pos, 3),
+                    state,
+                })),
+                Ok(None) => None,
+                Err(refusal) => Some(Err(refusal)),
+            }
         }
-        expression::INTEGER => Some(Resolved {
+        expression::INTEGER => Some(Ok(Resolved {
             value: constant(access::u64_at(context.section.stream, after(pos, 1))),
             next: after(pos, 9),
             state,
-        }),
+        })),
         _ => None,
     }
 }
@@ -280,7 +278,7 @@ pub fn expr_value(
     ensures { operand (to_operand result) actions.new temporaries.new ≡ expr_value (resolve_expr deep context.entry.now.section.stream.now context.entry.now.section.table.now scope.now context.entry.now.env) context.entry.now.section.stream.now context.entry.now.section.table.now context.entry.now.env pos actions.old temporaries.old state }
 {
     if let Some(operand) = plain_operand(deep, context, scope, pos, state) {
-        return Ok(operand);
+        return operand;
     }
     let expr = resolve_expr(deep, context, scope, pos, actions, temporaries, state)?;
     let (value, state) = read_operand(context, actions, temporaries, expr.value, expr.state)?;
@@ -344,7 +342,7 @@ fn resolve_op(
         first.state,
     )?;
     let operation = Operation::binary(order.op, first.value, second.value);
-    Ok(applied(operation, later(first.next, second.next), second.state))
+    Ok(applied(operation, first.next.max(second.next), second.state))
 }
 
 // A built-in function: each argument is read before the next is resolved.
@@ -379,10 +377,11 @@ fn call_inbuilt(
         first.state,
     )?;
     let operation = Operation::binary(op, first.value, second.value);
-    Ok(applied(operation, later(0, second.next), second.state))
+    Ok(applied(operation, second.next, second.state))
 }
 
-// n arguments, resolved only, into the slots of `args`, which are a macro's scope in one call and an array in another.
+// So many arguments, resolved only, into the slots of `args`, which are a macro's scope in one call and an array in another. Their
+// number comes from the file and the slots go round after eight, so the loop counts the arguments.
 #[cycle(call_inbuilt_expr_value_part_resolve_args_resolve_call_resolve_expr_resolve_op_user_op)]
 #[tactic(auto, using(crate::proofs::ExprLaws::args_laws))]
 pub fn resolve_args(
@@ -416,13 +415,12 @@ fn user_op(
     context: &Context<'_>,
     scope: &[u64],
     pos: usize,
-    id: u64,
-    count: u64,
+    call: Call,
     actions: &mut [u64],
     temporaries: &mut [u64],
     state: State,
 ) -> Result<Resolved<ExprValue>, Refusal>
-    ensures { resolved (to_expr result) actions.new temporaries.new ≡ user_op (resolve_expr deep context.entry.now.section.stream.now context.entry.now.section.table.now scope.now context.entry.now.env) context.entry.now.section.stream.now context.entry.now.section.table.now context.entry.now.env pos id count actions.old temporaries.old state }
+    ensures { resolved (to_expr result) actions.new temporaries.new ≡ user_op (resolve_expr deep context.entry.now.section.stream.now context.entry.now.section.table.now scope.now context.entry.now.env) context.entry.now.section.stream.now context.entry.now.section.table.now context.entry.now.env pos call.id call.arguments actions.old temporaries.old state }
 {
     let mut args = [0u64; ARGS_WORDS];
     let (next, state) = resolve_args(
@@ -430,13 +428,13 @@ fn user_op(
         context,
         scope,
         after(pos, 4),
-        count,
+        call.arguments,
         actions,
         temporaries,
         &mut args,
         state,
     )?;
-    call_user_op(context, actions, temporaries, &args, count, id, next, state)
+    call_user_op(context, actions, temporaries, &args, call, next, state)
 }
 
 #[cycle(call_inbuilt_expr_value_part_resolve_args_resolve_call_resolve_expr_resolve_op_user_op)]
@@ -453,8 +451,8 @@ fn resolve_call(
     ensures { resolved (to_expr result) actions.new temporaries.new ≡ resolve_call (resolve_expr deep context.entry.now.section.stream.now context.entry.now.section.table.now scope.now context.entry.now.env) context.entry.now.section.stream.now context.entry.now.section.table.now scope.now context.entry.now.env pos actions.old temporaries.old state }
 {
     let name = u16_in(context.section.stream, pos, 1);
-    let n = access::byte(context.section.stream, pos, 3);
-    match callee_of(context.section, name, n)? {
+    let count = access::byte(context.section.stream, pos, 3);
+    match callee_of(context.section, name, count)? {
         Callee::Inbuilt(op) => {
             call_inbuilt(
                 deep,
@@ -462,26 +460,29 @@ fn resolve_call(
                 scope,
                 pos,
                 op,
-                n,
+                count,
                 actions,
                 temporaries,
                 state,
             )
         }
         Callee::UserOp(id) => {
-            user_op(
-                deep,
-                context,
-                scope,
-                pos,
+            let call = Call {
                 id,
-                n,
-                actions,
-                temporaries,
-                state,
-            )
+                arguments: count,
+            };
+            user_op(deep, context, scope, pos, call, actions, temporaries, state)
         }
-        Callee::Local => subpiece(context, scope, actions, temporaries, pos, name, n, state),
+        Callee::Local => subpiece(
+            context,
+            scope,
+            actions,
+            temporaries,
+            pos,
+            name,
+            count,
+            state,
+        ),
     }
 }
 

@@ -1,3 +1,2 @@
 pub mod ScopeLaws
-pub mod SymbolLaws
 pub mod SmallLaws

@@ -54,15 +54,7 @@ module _ (w n : ℕ) (wide : w < 2 ^ 64) where
     unfolding with_small small_of unit
     with_small_law = rw (shifted_old (i % 6) place, shifted_new (i % 6) place)
 
-pub small_law : (p : List ℕ) (i w : ℕ) → w ≡ get_or p (64 + i / 6) 0 → (w / 2 ^ (10 * (i % 6)) % 1024 ≡ small p i) × (w / 2 ^ (10 * (i % 6)) % 1024 < 1024)
-unfolding small small_of unit
-small_law p i w e = (rw e, omega arith)
-
-pub put-small_law : (p q : List ℕ) (i n w x : ℕ) → w ≡ get_or p (64 + i / 6) 0 → x ≡ with_small w (i % 6) n → q ≡ set p (64 + i / 6) x → q ≡ put_small p i n
-unfolding put_small
-put-small_law p q i n w x e f g = rw (← e, ← f) g
-
-pub ruleset small_laws = (small_within, small-fits, with_small_law, small_law, put-small_law)
+pub ruleset small_laws = (small_within, small-fits, with_small_law)
 
 -- ---- what a number is after one is put
 place_same : (w n k : ℕ) → k < 6 → small_of (with_small w k n) k ≡ n % 1024

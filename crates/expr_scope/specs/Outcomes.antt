@@ -32,6 +32,17 @@ abbrev pub to_found : Option Value → Found
 to_found (Some v) = Found.Is v
 to_found None = Found.Nothing
 
+-- what a name is that may mean a plain local: such a local; what only `resolve_ident` tells; or nothing that it may mean
+pub data Plain : Type 0 where
+  Is : Value → Plain
+  Untold : Plain
+  Wrong : ℕ → Plain
+
+abbrev pub to_plain : Result (Option Value) Refusal → Plain
+to_plain (Ok (Some v)) = Plain.Is v
+to_plain (Ok None) = Plain.Untold
+to_plain (Err refusal) = Plain.Wrong (number refusal)
+
 -- one more than an index, 0 where there is none
 abbrev pub one_more : Option ℕ → ℕ
 one_more (Some i) = suc i

@@ -11,7 +11,7 @@ use Rattle.list_values.specs.Values.{local}
 use Rattle.list_values.specs.Sizes.{entry}
 use Rattle.list_pushes.specs.Pushes.{ReadOut, read, add_tmp, on_tmp}
 use Rattle.expr_scope.specs.declared.scope.ExprValue.{ExprValue}
-use Rattle.expr_scope.specs.Outcomes.{Meaning, Found}
+use Rattle.expr_scope.specs.Outcomes.{Meaning, Found, Plain}
 use Rattle.expr_scope.specs.declared.symbols.Symbol.{Symbol}
 use Rattle.expr_scope.specs.Slots.{of_slot, slot_at, param_place}
 use Rattle.expr_scope.specs.Smalls.{small, put_small}
@@ -50,7 +50,7 @@ lookup_local t p own name = when own then or_tmp (own_local t name) p name else 
 
 -- what stands at an entry of the list of bit ranges
 unfoldable pub bits_at : List ℕ → ℕ → ExprValue
-bits_at s at = ExprValue.BitRange (local 2 (le16 s (at + 2))) (record { from = le16 s (at + 4); count = le16 s (at + 6) })
+bits_at s at = ExprValue.BitRange (record { base = local 2 (le16 s (at + 2)); bits = record { from = le16 s (at + 4); count = le16 s (at + 6) } })
 
 unfoldable pub bit_range : List ℕ → List ℕ → ℕ → ExprValue
 bit_range s t i = bits_at s (entry t 2 (i % 65536 * 8))
@@ -69,12 +69,16 @@ unfoldable pub found_or : Found → Meaning → Meaning
 found_or (Found.Is v) other = Meaning.Means (ExprValue.Local v)
 found_or Found.Nothing other = other
 
--- inst_next, else inst_start, else a local, else a global
+-- inst_next, else inst_start, else a local
+unfoldable pub local_meaning : List ℕ → List ℕ → List ℕ → Env → ℕ → Found
+local_meaning s t p e name =
+    when eqb name (le16 s 28) then Found.Is (local 1 0)
+    else when eqb name (le16 s 26) then Found.Is (local 0 0)
+    else lookup_local t p e.own name
+
+-- these, else a global
 unfoldable pub inner_meaning : List ℕ → List ℕ → List ℕ → Env → ℕ → Meaning
-inner_meaning s t p e name =
-    when eqb name (le16 s 28) then Meaning.Means (ExprValue.Local (local 1 0))
-    else when eqb name (le16 s 26) then Meaning.Means (ExprValue.Local (local 0 0))
-    else found_or (lookup_local t p e.own name) (global_meaning s t (lookup t name))
+inner_meaning s t p e name = found_or (local_meaning s t p e name) (global_meaning s t (lookup t name))
 
 -- parameter number i - 1, unless i is 0
 unfoldable pub param_or : ℕ → List ℕ → Meaning → Meaning
@@ -83,20 +87,20 @@ param_or i p other = when ltb 0 i then Meaning.Means (of_slot (slot_at p (param_
 unfoldable pub resolve_ident : List ℕ → List ℕ → List ℕ → Env → ℕ → Meaning
 resolve_ident s t p e name = param_or (find_param e.count p name) p (inner_meaning s t p e name)
 
-unfoldable pub local_of : Meaning → Found
-local_of (Meaning.Means (ExprValue.Local v)) = Found.Is v
-local_of (Meaning.Means (ExprValue.Unbound v)) = Found.Nothing
-local_of (Meaning.Means (ExprValue.Const n z)) = Found.Nothing
-local_of (Meaning.Means (ExprValue.Apply operation)) = Found.Nothing
-local_of (Meaning.Means (ExprValue.RamRef access)) = Found.Nothing
-local_of (Meaning.Means (ExprValue.RegisterRef access)) = Found.Nothing
-local_of (Meaning.Means (ExprValue.AddressOf v z)) = Found.Nothing
-local_of (Meaning.Means (ExprValue.BitRange v bits)) = Found.Nothing
-local_of (Meaning.Wrong n) = Found.Nothing
+unfoldable pub plain_of : Meaning → Plain
+plain_of (Meaning.Means (ExprValue.Local v)) = Plain.Is v
+plain_of (Meaning.Means (ExprValue.Unbound v)) = Plain.Untold
+plain_of (Meaning.Means (ExprValue.Const n z)) = Plain.Untold
+plain_of (Meaning.Means (ExprValue.Apply operation)) = Plain.Untold
+plain_of (Meaning.Means (ExprValue.RamRef access)) = Plain.Untold
+plain_of (Meaning.Means (ExprValue.RegisterRef access)) = Plain.Untold
+plain_of (Meaning.Means (ExprValue.AddressOf v z)) = Plain.Untold
+plain_of (Meaning.Means (ExprValue.BitRange r)) = Plain.Untold
+plain_of (Meaning.Wrong n) = Plain.Wrong n
 
--- the local that a name means which is no parameter's
-unfoldable pub plain_local : List ℕ → List ℕ → List ℕ → Env → ℕ → Found
-plain_local s t p e name = when eqb (find_param e.count p name) 0 then local_of (inner_meaning s t p e name) else Found.Nothing
+-- what a name means, where that is a plain local or wrong; a parameter is left to `resolve_ident`
+unfoldable pub plain_local : List ℕ → List ℕ → List ℕ → Env → ℕ → Plain
+plain_local s t p e name = when eqb (find_param e.count p name) 0 then plain_of (inner_meaning s t p e name) else Plain.Untold
 
 -- 21 where there was one of this name, else the scope's words that declare it
 unfoldable pub undeclared : Found → Value → State → List ℕ → List ℕ → List ℕ → ReadOut

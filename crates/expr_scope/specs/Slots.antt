@@ -20,7 +20,7 @@ slot_of (ExprValue.Apply o) = slot 3 (o.code % 256 + o.count % 256 * 256) o.numb
 slot_of (ExprValue.RamRef x) = one_value 4 x.size 0 x.pointer
 slot_of (ExprValue.RegisterRef x) = one_value 5 x.size 0 x.pointer
 slot_of (ExprValue.AddressOf base size) = one_value 6 size 0 base
-slot_of (ExprValue.BitRange v bits) = one_value 7 bits.from bits.count v
+slot_of (ExprValue.BitRange r) = one_value 7 r.bits.from r.bits.count r.base
 
 unfoldable pub of_parts : ℕ → ℕ → ℕ → Value → Value → ExprValue
 of_parts tag x y a b =
@@ -31,7 +31,7 @@ of_parts tag x y a b =
     else when eqb tag 4 then ExprValue.RamRef (record { pointer = a; size = x })
     else when eqb tag 5 then ExprValue.RegisterRef (record { pointer = a; size = x })
     else when eqb tag 6 then ExprValue.AddressOf a x
-    else ExprValue.BitRange a (record { from = x; count = y })
+    else ExprValue.BitRange (record { base = a; bits = record { from = x; count = y } })
 
 unfoldable pub of_slot : Slot → ExprValue
 of_slot k = of_parts k.tag k.x k.y k.a k.b

@@ -3,9 +3,9 @@
 ghost use Rattle.std.specs.Prelude.{◌≡◌};
 ghost use Rattle.list_pushes.specs.Outcomes.{to_read};
 ghost use Rattle.list_pushes.specs.Pushes.{read};
-ghost use Rattle.expr_scope.specs.Outcomes.{to_meaning, to_found, one_more};
+ghost use Rattle.expr_scope.specs.Outcomes.{to_meaning, to_found, to_plain, one_more};
 ghost use Rattle.expr_scope.specs.Slots.{one_value, slot_of, of_slot, put_slot, slot_at, param_place};
-ghost use Rattle.expr_scope.specs.Scopes.{find_param, own_local, tmp_local, lookup_local, bit_range, global_meaning, inner_meaning, resolve_ident, plain_local, named_tmp};
+ghost use Rattle.expr_scope.specs.Scopes.{find_param, own_local, tmp_local, lookup_local, bit_range, global_meaning, local_meaning, inner_meaning, resolve_ident, plain_local, named_tmp};
 
 use crate::smalls::{put_small, small};
 use crate::symbols::{Symbol, lookup};
@@ -56,6 +56,13 @@ pub struct Bits {
     pub count: u64,
 }
 
+// A range of the bits of a value.
+#[derive(Clone, Copy)]
+pub struct BitRange {
+    pub base: Value,
+    pub bits: Bits,
+}
+
 // So many bytes that a pointer refers to; 0 where no size is stated, since the words of slots and actions, which are lent, have it so.
 #[derive(Clone, Copy)]
 pub struct Access {
@@ -63,7 +70,8 @@ pub struct Access {
     pub size: u64,
 }
 
-// What an expression means before it is read.
+// What an expression means before it is read. The sizes of a constant and of an address are 65,535 where none is stated, since they
+// become a value's size as they are, or come from a slot's word.
 #[derive(Clone, Copy)]
 pub enum ExprValue {
     Local(Value),
@@ -73,11 +81,10 @@ pub enum ExprValue {
     RamRef(Access),
     RegisterRef(Access),
     AddressOf { base: Value, size: u64 },
-    BitRange { v: Value, bits: Bits },
+    BitRange(BitRange),
 }
 
-// An expression's value as a parameter's slot of eight words keeps it: its name, which constructor, two numbers, two
-// values.
+// An expression's value as a slot of eight words keeps it behind the name: which constructor, two numbers, two values.
 #[derive(Clone, Copy)]
 pub struct Slot {
     pub tag: u64,
@@ -118,7 +125,9 @@ impl From<ExprValue> for Slot {
             ExprValue::RamRef(to) => one_value(RAM_REF, to.size, 0, to.pointer),
             ExprValue::RegisterRef(to) => one_value(REGISTER_REF, to.size, 0, to.pointer),
             ExprValue::AddressOf { base, size } => one_value(ADDRESS_OF, size, 0, base),
-            ExprValue::BitRange { v, bits } => one_value(BIT_RANGE, bits.from, bits.count, v),
+            ExprValue::BitRange(range) => {
+                one_value(BIT_RANGE, range.bits.from, range.bits.count, range.base)
+            }
         }
     }
 }
@@ -149,10 +158,10 @@ impl From<Slot> for ExprValue {
                 size: x,
             }),
             ADDRESS_OF => ExprValue::AddressOf { base: a, size: x },
-            _ => ExprValue::BitRange {
-                v: a,
+            _ => ExprValue::BitRange(BitRange {
+                base: a,
                 bits: Bits { from: x, count: y },
-            },
+            }),
         }
     }
 }
@@ -181,7 +190,7 @@ pub fn slot_at(params: &[u64], at: usize) -> Slot
     }
 }
 
-// Where the slot of parameter i stands: eight words each.
+// Where the slot of a parameter stands: eight words each.
 #[tactic(auto, unfolding(crate::specs::Slots::param_place))]
 pub fn param_place(index: usize) -> usize
     ensures { result ≡ param_place index }
@@ -241,14 +250,18 @@ fn lookup_local(table: &[u16; table::LENGTH], scope: &[u64], own: bool, name: u6
 fn bit_range(section: Section<'_>, index: u64) -> ExprValue
     ensures { result ≡ bit_range section.entry.stream.now section.entry.table.now index }
 {
-    let at = entry(section.table, usize::from(List::BitRanges), index % 65536 * 8);
-    ExprValue::BitRange {
-        v: local(value_kind::REGISTER, access::u16_in(section.stream, at, 2)),
+    let at = entry(
+        section.table,
+        usize::from(List::BitRanges),
+        index % 65536 * 8,
+    );
+    ExprValue::BitRange(BitRange {
+        base: local(value_kind::REGISTER, access::u16_in(section.stream, at, 2)),
         bits: Bits {
             from: access::u16_in(section.stream, at, 4),
             count: access::u16_in(section.stream, at, 6),
         },
-    }
+    })
 }
 
 #[tactic(auto, unfolding(crate::specs::Scopes::global_meaning))]
@@ -267,18 +280,27 @@ fn global_meaning(section: Section<'_>, symbol: Symbol) -> Result<ExprValue, Ref
     }
 }
 
-// inst_next, else inst_start, else a local, else a global.
+// inst_next, else inst_start, else a local. Compiled into its callers, which ask it for each name.
+#[inline(always)]
+#[tactic(auto, unfolding(crate::specs::Scopes::local_meaning))]
+fn local_meaning(context: &Context<'_>, scope: &[u64], name: u64) -> Option<Value>
+    ensures { to_found result ≡ local_meaning context.entry.now.section.stream.now context.entry.now.section.table.now scope.now context.entry.now.env name }
+{
+    if name == access::u16_at(context.section.stream, header::INST_NEXT) {
+        return Some(local(value_kind::INST_NEXT, 0));
+    }
+    if name == access::u16_at(context.section.stream, header::INST_START) {
+        return Some(local(value_kind::INST_START, 0));
+    }
+    lookup_local(context.section.table, scope, context.env.own, name)
+}
+
+// A local, else a global.
 #[tactic(auto, unfolding(crate::specs::Scopes::inner_meaning, crate::specs::Scopes::found_or))]
 fn inner_meaning(context: &Context<'_>, scope: &[u64], name: u64) -> Result<ExprValue, Refusal>
     ensures { to_meaning result ≡ inner_meaning context.entry.now.section.stream.now context.entry.now.section.table.now scope.now context.entry.now.env name }
 {
-    if name == access::u16_at(context.section.stream, header::INST_NEXT) {
-        return Ok(ExprValue::Local(local(value_kind::INST_NEXT, 0)));
-    }
-    if name == access::u16_at(context.section.stream, header::INST_START) {
-        return Ok(ExprValue::Local(local(value_kind::INST_START, 0)));
-    }
-    match lookup_local(context.section.table, scope, context.env.own, name) {
+    match local_meaning(context, scope, name) {
         Some(value) => Ok(ExprValue::Local(value)),
         None => global_meaning(context.section, lookup(context.section.table, name)),
     }
@@ -294,32 +316,31 @@ pub fn resolve_ident(context: &Context<'_>, scope: &[u64], name: u64) -> Result<
     }
 }
 
-// The local that a name means which is no parameter's: the usual case, in which the larger `ExprValue` need not be made.
-#[tactic(auto, unfolding(crate::specs::Scopes::plain_local, crate::specs::Scopes::local_of, crate::specs::Scopes::inner_meaning, crate::specs::Scopes::found_or, crate::specs::Scopes::global_meaning, crate::specs::Scopes::bit_range, crate::specs::Scopes::bits_at))]
-pub fn plain_local(context: &Context<'_>, scope: &[u64], name: u64) -> Option<Value>
-    ensures { to_found result ≡ plain_local context.entry.now.section.stream.now context.entry.now.section.table.now scope.now context.entry.now.env name }
+// The local that a name means which is no parameter's: the usual case, in which the larger `ExprValue` need not be made. None
+// where only `resolve_ident` tells what the name means: a parameter or a range of bits.
+#[tactic(auto, unfolding(crate::specs::Scopes::plain_local, crate::specs::Scopes::plain_of, crate::specs::Scopes::inner_meaning, crate::specs::Scopes::found_or, crate::specs::Scopes::global_meaning, crate::specs::Scopes::bit_range, crate::specs::Scopes::bits_at))]
+pub fn plain_local(
+    context: &Context<'_>,
+    scope: &[u64],
+    name: u64,
+) -> Result<Option<Value>, Refusal>
+    ensures { to_plain result ≡ plain_local context.entry.now.section.stream.now context.entry.now.section.table.now scope.now context.entry.now.env name }
 {
     if find_param(scope, context.env.count, name).is_some() {
-        return None;
+        return Ok(None);
     }
-    if name == access::u16_at(context.section.stream, header::INST_NEXT) {
-        return Some(local(value_kind::INST_NEXT, 0));
-    }
-    if name == access::u16_at(context.section.stream, header::INST_START) {
-        return Some(local(value_kind::INST_START, 0));
-    }
-    if let Some(value) = lookup_local(context.section.table, scope, context.env.own, name) {
-        return Some(value);
+    if let Some(value) = local_meaning(context, scope, name) {
+        return Ok(Some(value));
     }
     match lookup(context.section.table, name) {
-        Symbol::Register(i) => Some(local(value_kind::REGISTER, i)),
-        Symbol::Undefined
-        | Symbol::BitRange(_)
-        | Symbol::Space(_)
+        Symbol::Undefined => Err(Refusal::Undefined),
+        Symbol::Register(i) => Ok(Some(local(value_kind::REGISTER, i))),
+        Symbol::BitRange(_) => Ok(None),
+        Symbol::Space(_)
         | Symbol::Table(_)
         | Symbol::UserOp(_)
         | Symbol::Macro(_)
-        | Symbol::Other(_) => None,
+        | Symbol::Other(_) => Err(Refusal::WrongKind),
     }
 }
 

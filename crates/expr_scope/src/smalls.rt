@@ -31,7 +31,7 @@ fn with_small(word: u64, index: usize, number: u64) -> u64
     word - (old << place) + (number % 1024 << place)
 }
 
-#[tactic(auto, using(crate::proofs::SmallLaws::small_laws))]
+#[tactic(auto, unfolding(crate::specs::Smalls::put_small))]
 pub fn put_small(scope: &mut [u64], index: usize, number: u64)
     ensures { scope.new ≡ put_small scope.old index number }
 {

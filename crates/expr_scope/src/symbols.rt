@@ -19,8 +19,9 @@ pub enum Symbol {
     Other(u64),
 }
 
-// The table has 0 for a name that is no global's, else 1 + kind + 8 × its place.
-#[tactic(auto, using(crate::proofs::SymbolLaws::symbol_laws))]
+// The table has 0 for a name that is no global's, else 1 + kind + 8 × its place. The kind is a number here alone, as the table's word
+// has it: it becomes a `Symbol` at once.
+#[tactic(auto, unfolding(crate::specs::Symbols::lookup, crate::specs::Symbols::symbol_of, crate::specs::Symbols::of_kind, crate::specs::Symbols::place_of))]
 pub fn lookup(table: &[u16; table::LENGTH], name: u64) -> Symbol
     ensures { (result ≡ lookup table.now name) × (place_of result < 8192) }
 {

@@ -28,7 +28,7 @@ in_const_space (ExprValue.Apply operation) size next st = Expr.No 38
 in_const_space (ExprValue.RamRef access) size next st = Expr.No 38
 in_const_space (ExprValue.RegisterRef access) size next st = Expr.No 38
 in_const_space (ExprValue.AddressOf v z) size next st = Expr.No 38
-in_const_space (ExprValue.BitRange v bits) size next st = Expr.No 38
+in_const_space (ExprValue.BitRange r) size next st = Expr.No 38
 
 -- the kind of entry i of the list of spaces
 unfoldable pub kind_of_space : List ℕ → List ℕ → ℕ → Space

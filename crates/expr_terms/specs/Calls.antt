@@ -1,7 +1,7 @@
 -- Calls in expressions: built-in functions come before any symbol, then user ops; the rest is a subpiece of a local. In all
 -- of these s is the stream, t the section's table, p the scope's list, a the actions, m the temporaries, e the environment,
 -- st the state.
-use Rattle.std.specs.Prelude.{ℕ, zero, suc, ◌+◌, ◌-◌, ◌%◌, List, get_or, eqb, ltb}
+use Rattle.std.specs.Prelude.{ℕ, zero, suc, ◌+◌, ◌-◌, ◌%◌, Bool, false, List, get_or, eqb, ltb}
 use Rattle.access.specs.Le.{le64}
 use Rattle.expr_inbuilts.specs.Outcomes.{Inbuilt}
 use Rattle.expr_inbuilts.specs.Inbuilts.{inbuilt_at}
@@ -85,6 +85,10 @@ call_user_op s t a m args n id next e st =
     on_pushed (pass_args s t a m args n e st)
     (λ st1 b w. when eqb n 0 then resolved (applied 63 id 0 absent absent next st1) b w else user_op_some s t b w args n id next e st1)
     (λ k b w. resolved (Expr.No k) b w)
+
+-- whether a call at a position has one argument, which is an integer
+unfoldable pub one_integer : List ℕ → ℕ → ℕ → Bool
+one_integer s pos n = when eqb n 1 then eqb (get_or s (pos + 4) 0) 1 else false
 
 -- the number that is the one argument of a call at a position, or 2^64 - 1
 unfoldable pub only_integer : List ℕ → ℕ → ℕ → ℕ

@@ -40,12 +40,12 @@ slice_const value size from bits next st =
 unfoldable pub slice_range : Value → ℕ → ℕ → ℕ → ℕ → ℕ → State → Expr
 slice_range v before whole from bits next st =
     when ltb whole (from % 65536 + bits % 65536) then Expr.No 36
-    else Expr.Value next (ExprValue.BitRange v (record { from = before % 65536 + from % 65536; count = bits })) st
+    else Expr.Value next (ExprValue.BitRange (record { base = v; bits = record { from = before % 65536 + from % 65536; count = bits } })) st
 
 unfoldable pub slice_bits : List ℕ → List ℕ → List ℕ → List ℕ → Env → ExprValue → ℕ → ℕ → ℕ → State → ExprOut
-slice_bits s t a m e (ExprValue.Local v) from bits next st = resolved (Expr.Value next (ExprValue.BitRange v (record { from = from; count = bits })) st) a m
+slice_bits s t a m e (ExprValue.Local v) from bits next st = resolved (Expr.Value next (ExprValue.BitRange (record { base = v; bits = record { from = from; count = bits } })) st) a m
 slice_bits s t a m e (ExprValue.Const value size) from bits next st = resolved (slice_const value size from bits next st) a m
-slice_bits s t a m e (ExprValue.BitRange v before) from bits next st = resolved (slice_range v before.from before.count from bits next st) a m
+slice_bits s t a m e (ExprValue.BitRange r) from bits next st = resolved (slice_range r.base r.bits.from r.bits.count from bits next st) a m
 slice_bits s t a m e (ExprValue.Unbound v) from bits next st = slice_read s t a m e (ExprValue.Unbound v) from bits next st
 slice_bits s t a m e (ExprValue.Apply operation) from bits next st = slice_read s t a m e (ExprValue.Apply operation) from bits next st
 slice_bits s t a m e (ExprValue.RamRef access) from bits next st = slice_read s t a m e (ExprValue.RamRef access) from bits next st

@@ -5,9 +5,9 @@ ghost use Rattle.expr_terms.specs.Answers.{resolved};
 ghost use Rattle.expr_terms.specs.Addresses.{or_size, in_const_space, kind_of_space, named_space, resolve_space, reference_to, address_in, resolve_address};
 
 use crate::answers::{Resolved, given};
+use codes::header;
 use codes::list::List;
 use codes::refusal::Refusal;
-use codes::header;
 use expr_reading::read::read_operand;
 use expr_scope::scope::{Access, ExprValue};
 use expr_scope::symbols::{Symbol, lookup};
@@ -44,7 +44,7 @@ fn in_const_space(part: Resolved<ExprValue>, size: u64) -> Result<Resolved<ExprV
         | ExprValue::RamRef(_)
         | ExprValue::RegisterRef(_)
         | ExprValue::AddressOf { .. }
-        | ExprValue::BitRange { .. } => return Err(Refusal::ConstSpace),
+        | ExprValue::BitRange(_) => return Err(Refusal::ConstSpace),
     };
     Ok(Resolved { value, ..part })
 }

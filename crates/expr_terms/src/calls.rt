@@ -1,11 +1,11 @@
 // Calls in expressions: built-in functions come before any symbol, then user ops; the rest is a subpiece of a local.
-ghost use Rattle.std.specs.Prelude.{◌≡◌, unwrap_or, Ok};
+ghost use Rattle.std.specs.Prelude.{◌≡◌, is_some, unwrap_or, Ok};
 ghost use Rattle.list_pushes.specs.Outcomes.{to_pushed};
 ghost use Rattle.list_pushes.specs.Pushes.{pushed};
 ghost use Rattle.expr_inbuilts.specs.Outcomes.{to_inbuilt};
 ghost use Rattle.expr_terms.specs.Outcomes.{to_expr, to_callee};
 ghost use Rattle.expr_terms.specs.Answers.{resolved};
-ghost use Rattle.expr_terms.specs.Calls.{symbol_called, inbuilt_or, callee_of, pass_arg, pass_args, applied, call_user_op, only_integer, subpiece};
+ghost use Rattle.expr_terms.specs.Calls.{symbol_called, inbuilt_or, callee_of, pass_arg, pass_args, applied, call_user_op, one_integer, only_integer, subpiece};
 ghost use Rattle.expr_scope.specs.Symbols.{lookup};
 
 use crate::answers::{Resolved, after};
@@ -31,6 +31,13 @@ pub enum Callee {
     Inbuilt(u64),
     UserOp(u64),
     Local,
+}
+
+// A call of a user op or of a macro: its number, and how many arguments it is given.
+#[derive(Clone, Copy)]
+pub struct Call {
+    pub id: u64,
+    pub arguments: u64,
 }
 
 // A global called: a user op, a macro, which no expression calls, or none of these.
@@ -130,52 +137,53 @@ pub fn applied(operation: Operation, next: usize, state: State) -> Resolved<Expr
     }
 }
 
-// A user op of n arguments that are resolved: it has the first two as its inputs.
+// A user op with arguments that are resolved: it has the first two as its inputs.
 #[tactic(auto, unfolding(crate::specs::Calls::call_user_op, crate::specs::Calls::user_op_some, crate::specs::Calls::user_op_two, list_pushes::specs::Pushes::on_pushed, list_pushes::specs::Pushes::on_read))]
 pub fn call_user_op(
     context: &Context<'_>,
     actions: &mut [u64],
     temporaries: &mut [u64],
     args: &[u64],
-    count: u64,
-    id: u64,
+    call: Call,
     next: usize,
     state: State,
 ) -> Result<Resolved<ExprValue>, Refusal>
-    ensures { resolved (to_expr result) actions.new temporaries.new ≡ call_user_op context.entry.now.section.stream.now context.entry.now.section.table.now actions.old temporaries.old args.now count id next context.entry.now.env state }
+    ensures { resolved (to_expr result) actions.new temporaries.new ≡ call_user_op context.entry.now.section.stream.now context.entry.now.section.table.now actions.old temporaries.old args.now call.arguments call.id next context.entry.now.env state }
 {
+    let count = call.arguments;
     let state = pass_args(context, actions, temporaries, args, count, state)?;
-    let call = Operation {
-        number: id,
+    let operation = Operation {
+        number: call.id,
         ..Operation::nullary(operation::PCODE_OP)
     };
     if count == 0 {
-        return Ok(applied(call, next, state));
+        return Ok(applied(operation, next, state));
     }
     let argument = arg_at(args, 0);
     let (first, state) = read_operand(context, actions, temporaries, argument, state)?;
-    let call = Operation {
+    let operation = Operation {
         count: 1,
         first,
-        ..call
+        ..operation
     };
     if count == 1 {
-        return Ok(applied(call, next, state));
+        return Ok(applied(operation, next, state));
     }
     let argument = arg_at(args, 1);
     let (second, state) = read_operand(context, actions, temporaries, argument, state)?;
-    let call = Operation {
+    let operation = Operation {
         count: 2,
         second,
-        ..call
+        ..operation
     };
-    Ok(applied(call, next, state))
+    Ok(applied(operation, next, state))
 }
 
 // The one argument, where it is an integer.
-#[tactic(auto, unfolding(crate::specs::Calls::only_integer))]
+#[tactic(auto, unfolding(crate::specs::Calls::one_integer, crate::specs::Calls::only_integer))]
 pub fn only_integer(stream: &[u8], pos: usize, count: u64) -> Option<u64>
-    ensures { unwrap_or result 18446744073709551615 ≡ only_integer stream.now pos count }
+    ensures given { is_some result ≡ one_integer stream.now pos count }
+    ensures number { unwrap_or result 18446744073709551615 ≡ only_integer stream.now pos count }
 {
     if count != 1 || access::byte(stream, pos, 4) != expression::INTEGER {
         return None;

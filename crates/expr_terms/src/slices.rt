@@ -7,9 +7,8 @@ ghost use Rattle.expr_terms.specs.Slices.{low_bits, slice_read, const_bytes, sli
 use crate::answers::{Resolved, given};
 use codes::refusal::Refusal;
 use expr_reading::read::{needed_bytes, read_operand, read_slice};
-use expr_scope::scope::{Bits, ExprValue};
+use expr_scope::scope::{BitRange, Bits, ExprValue};
 use list_pushes::push::Context;
-use list_values::value::Value;
 
 // So many bits of a number, from a bit on.
 #[tactic(auto, using(crate::proofs::SliceLaws::low_bits_law))]
@@ -31,7 +30,8 @@ fn slice_read(
     ensures { resolved (to_expr result) actions.new temporaries.new ≡ slice_read context.entry.now.section.stream.now context.entry.now.section.table.now actions.old temporaries.old context.entry.now.env part.value bits.from bits.count part.next part.state }
 {
     let (whole, state) = read_operand(context, actions, temporaries, part.value, part.state)?;
-    let (slice, state) = read_slice(context, actions, temporaries, whole, bits, None, state)?;
+    let range = BitRange { base: whole, bits };
+    let (slice, state) = read_slice(context, actions, temporaries, range, None, state)?;
     Ok(Resolved {
         value: ExprValue::Unbound(slice),
         state,
@@ -72,22 +72,21 @@ fn slice_const(
 
 #[tactic(auto, unfolding(crate::specs::Slices::slice_range))]
 fn slice_range(
-    value: Value,
-    whole: Bits,
+    whole: BitRange,
     bits: Bits,
     part: Resolved<ExprValue>,
 ) -> Result<Resolved<ExprValue>, Refusal>
-    ensures { to_expr result ≡ slice_range value whole.from whole.count bits.from bits.count part.next part.state }
+    ensures { to_expr result ≡ slice_range whole.base whole.bits.from whole.bits.count bits.from bits.count part.next part.state }
 {
-    if whole.count < bits.from % 65536 + bits.count % 65536 {
+    if whole.bits.count < bits.from % 65536 + bits.count % 65536 {
         return Err(Refusal::SlicePastEnd);
     }
-    let from = whole.from % 65536 + bits.from % 65536;
+    let from = whole.bits.from % 65536 + bits.from % 65536;
     Ok(Resolved {
-        value: ExprValue::BitRange {
-            v: value,
+        value: ExprValue::BitRange(BitRange {
             bits: Bits { from, ..bits },
-        },
+            ..whole
+        }),
         ..part
     })
 }
@@ -104,12 +103,12 @@ pub fn slice_bits(
     ensures { resolved (to_expr result) actions.new temporaries.new ≡ slice_bits context.entry.now.section.stream.now context.entry.now.section.table.now actions.old temporaries.old context.entry.now.env part.value bits.from bits.count part.next part.state }
 {
     match part.value {
-        ExprValue::Local(v) => Ok(Resolved {
-            value: ExprValue::BitRange { v, bits },
+        ExprValue::Local(base) => Ok(Resolved {
+            value: ExprValue::BitRange(BitRange { base, bits }),
             ..part
         }),
         ExprValue::Const { value, size } => slice_const(value, size, bits, part),
-        ExprValue::BitRange { v, bits: whole } => slice_range(v, whole, bits, part),
+        ExprValue::BitRange(whole) => slice_range(whole, bits, part),
         ExprValue::Unbound(_)
         | ExprValue::Apply(_)
         | ExprValue::RamRef(_)

@@ -119,8 +119,8 @@ fn export_words(export: Option<Export>) -> Answer
     };
     let (kind, value, size) = match export {
         Export::Value(value) => (export_kind::VALUE, value, 0),
-        Export::RamRef { pointer, size } => (export_kind::RAM_REF, pointer, size),
-        Export::RegisterRef { pointer, size } => (export_kind::REGISTER_REF, pointer, size),
+        Export::RamRef(to) => (export_kind::RAM_REF, to.pointer, to.size),
+        Export::RegisterRef(to) => (export_kind::REGISTER_REF, to.pointer, to.size),
     };
     Answer {
         kind,

@@ -9,6 +9,7 @@ ghost use Rattle.resolve_answer.specs.Ends.{judged, export_with, finish_export, 
 use crate::answer::{Answer, Rejected, accepted, refused};
 use codes::refusal::Refusal;
 use codes::{action, header};
+use expr_scope::scope::Access;
 use list_end::end::{finish_actions, fix_size};
 use list_end::passes::size_pass;
 use list_values::section::Section;
@@ -56,9 +57,8 @@ fn exported(export: Export) -> Value
     ensures { result ≡ (to_export (Some export)).v }
 {
     match export {
-        Export::Value(pointer)
-        | Export::RamRef { pointer, .. }
-        | Export::RegisterRef { pointer, .. } => pointer,
+        Export::Value(value) => value,
+        Export::RamRef(to) | Export::RegisterRef(to) => to.pointer,
     }
 }
 
@@ -68,8 +68,8 @@ fn with_value(export: Export, pointer: Value) -> Export
 {
     match export {
         Export::Value(_) => Export::Value(pointer),
-        Export::RamRef { size, .. } => Export::RamRef { pointer, size },
-        Export::RegisterRef { size, .. } => Export::RegisterRef { pointer, size },
+        Export::RamRef(to) => Export::RamRef(Access { pointer, ..to }),
+        Export::RegisterRef(to) => Export::RegisterRef(Access { pointer, ..to }),
     }
 }
 

@@ -1,7 +1,8 @@
 -- Copies: the target is a local, a place in RAM or a range of bits, which keeps the bits around it. In all of these s is the
 -- stream, t the section's table, p the scope's list, a the actions, m the temporaries, e the environment, st the state, w
 -- the walk.
-use Rattle.std.specs.Prelude.{ℕ, ◌+◌, ◌-◌, ◌*◌, ◌/◌, ◌%◌, ◌^◌, Bool, true, false, List, get_or, eqb, leb}
+use Rattle.std.specs.Prelude.{ℕ, ◌+◌, ◌-◌, ◌*◌, ◌/◌, ◌%◌, ◌^◌, Bool, true, false, List, get_or, eqb, leb, Option, Some, None}
+use Rattle.std.specs.Option.{option_map}
 use Rattle.access.specs.Le.{le16}
 use Rattle.access.specs.Mask.{mask_of}
 use Rattle.list_values.specs.declared.value.Value.{Value}
@@ -17,11 +18,12 @@ use Rattle.expr_scope.specs.Outcomes.{Meaning}
 use Rattle.expr_terms.specs.Outcomes.{Expr}
 use Rattle.expr_scope.specs.Scopes.{resolve_ident, named_tmp}
 use Rattle.expr_reading.specs.Reading.{constant, byte_aligned, sliced, read_value, read_operand}
-use Rattle.expr_terms.specs.Answers.{ExprOut, resolved, on_expr, after}
+use Rattle.expr_terms.specs.Answers.{ExprOut, resolved, on_expr, given, after}
 use Rattle.expr_resolver.specs.Expressions.{resolve_expr}
 use Rattle.stmt_walk.specs.Outcomes.{Walk}
 use Rattle.stmt_walk.specs.Walks.{Stepped, stepped, Walked, walked, step_read, beside_p, stop, read_then}
 use Rattle.stmt_assignments.specs.Stores.{store}
+use Rattle.stmt_assignments.specs.declared.copies.Target.{Target}
 
 -- all 64 bits but those of a bit write
 abbrev pub mask_but : ℕ → ℕ → ℕ
@@ -94,7 +96,7 @@ copy_ram s t a m e x pointer size next st w =
 unfoldable pub copy_into : List ℕ → List ℕ → List ℕ → List ℕ → Env → ExprValue → ExprValue → ℕ → State → Walk → Stepped
 copy_into s t a m e x (ExprValue.Local v) next st w = step_read (read_value s t a m e x true v st) (read_then next w)
 copy_into s t a m e x (ExprValue.RamRef y) next st w = copy_ram s t a m e x y.pointer y.size next st w
-copy_into s t a m e x (ExprValue.BitRange v bits) next st w = step_read (copy_range s t a m e x v bits.from bits.count st) (read_then next w)
+copy_into s t a m e x (ExprValue.BitRange r) next st w = step_read (copy_range s t a m e x r.base r.bits.from r.bits.count st) (read_then next w)
 copy_into s t a m e x (ExprValue.Unbound v) next st w = stepped (stop 37 w) a m
 copy_into s t a m e x (ExprValue.Const n z) next st w = stepped (stop 37 w) a m
 copy_into s t a m e x (ExprValue.Apply operation) next st w = stepped (stop 37 w) a m
@@ -113,6 +115,21 @@ target_size s pos = when eqb (get_or s (pos + 0) 0) 0 then 65535 else le16 s (po
 
 unfoldable pub after_target : List ℕ → ℕ → ℕ
 after_target s pos = when eqb (get_or s (pos + 0) 0) 0 then after pos 3 else after pos 6
+
+-- the size that a target is truncated to, unless it is bare
+unfoldable pub truncated : List ℕ → ℕ → Option ℕ
+truncated s pos = when eqb (get_or s (pos + 0) 0) 0 then None else Some (le16 s (pos + 4))
+
+-- a target that is a name
+unfoldable pub target_at : List ℕ → ℕ → Option Target
+target_at s pos = option_map (λ name. record { name = name; size = truncated s pos; next = after_target s pos }) (given (target_name s pos))
+
+-- a temporary of a target's name
+unfoldable pub declared : List ℕ → List ℕ → List ℕ → Env → ℕ → ℕ → ℕ → State → ExprOut
+declared t p m e name size next st =
+    on_read (named_tmp t p m e name size st)
+    (λ v st1 q u. resolved (Expr.Value next (ExprValue.Local v) st1) q u)
+    (λ n q u. resolved (Expr.No n) q u)
 
 -- the scope and the temporaries
 unfoldable pub new_target : List ℕ → List ℕ → List ℕ → List ℕ → Env → ℕ → ℕ → State → ExprOut

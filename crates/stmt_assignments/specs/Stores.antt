@@ -9,7 +9,7 @@ use Rattle.list_values.specs.Base.{Listed, listed, then_l}
 use Rattle.list_values.specs.Values.{absent, no_output}
 use Rattle.list_pushes.specs.Pushes.{push, push_op}
 use Rattle.expr_scope.specs.declared.scope.ExprValue.{ExprValue}
-use Rattle.expr_reading.specs.declared.read.Stated.{Stated}
+use Rattle.expr_reading.specs.Outcomes.{Stated}
 use Rattle.expr_reading.specs.Reading.{set_stated, take_stated}
 use Rattle.expr_terms.specs.Answers.{on_expr, on_operand, after}
 use Rattle.expr_terms.specs.Addresses.{resolve_address}
@@ -39,7 +39,7 @@ store_at s t a m e (ExprValue.Unbound x) v next st w = stepped (stop 28 w) a m
 store_at s t a m e (ExprValue.Const n z) v next st w = stepped (stop 28 w) a m
 store_at s t a m e (ExprValue.Apply operation) v next st w = stepped (stop 28 w) a m
 store_at s t a m e (ExprValue.AddressOf x z) v next st w = stepped (stop 28 w) a m
-store_at s t a m e (ExprValue.BitRange x bits) v next st w = stepped (stop 28 w) a m
+store_at s t a m e (ExprValue.BitRange r) v next st w = stepped (stop 28 w) a m
 
 -- in the space and of the size that stand at a position
 unfoldable pub store_in : List ℕ → List ℕ → List ℕ → List ℕ → Env → ℕ → ExprValue → Value → ℕ → State → Walk → Stepped

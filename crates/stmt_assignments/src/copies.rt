@@ -1,12 +1,13 @@
-// Copies: the target is a local, a place in RAM or a range of bits, which keeps the bits around it.
-ghost use Rattle.std.specs.Prelude.{◌≡◌, ◌<◌, ℕ, List, Ok, IfSome};
+// Copies: the target is a local, a place in RAM or a range of bits, which keeps the bits around it. The scope is no part of the
+// context, since statements lend it as `&mut`, and the position is each function's own.
+ghost use Rattle.std.specs.Prelude.{◌≡◌, ◌<◌, unwrap_or};
 ghost use Rattle.list_pushes.specs.Outcomes.{to_read};
 ghost use Rattle.list_pushes.specs.Pushes.{read};
 ghost use Rattle.expr_terms.specs.Outcomes.{to_expr};
-ghost use Rattle.expr_terms.specs.Answers.{resolved, given};
+ghost use Rattle.expr_terms.specs.Answers.{resolved};
 ghost use Rattle.stmt_walk.specs.Outcomes.{to_walk, to_step};
 ghost use Rattle.stmt_walk.specs.Walks.{stepped, walked};
-ghost use Rattle.stmt_assignments.specs.Copies.{targeted, mask_but, merge_bits, insert_in, insert_bits, keep_bits, write_bits, copy_bits, copy_bytes, copy_range, copy_into, target_name, target_size, after_target, new_target, resolve_dst, copy_target, copy_statement};
+ghost use Rattle.stmt_assignments.specs.Copies.{targeted, mask_but, merge_bits, insert_in, insert_bits, keep_bits, write_bits, copy_bits, copy_bytes, copy_range, copy_into, target_at, declared, resolve_dst, copy_target, copy_statement};
 
 use crate::stores::store;
 use access::u16_in;
@@ -15,7 +16,7 @@ use codes::refusal::Refusal;
 use codes::{NONE, expression, operation};
 use expr_reading::read::{byte_aligned, constant, masked, read_operand, read_value, sliced};
 use expr_resolver::expr::resolve_expr;
-use expr_scope::scope::{Bits, ExprValue, named_tmp, plain_local, resolve_ident};
+use expr_scope::scope::{BitRange, Bits, ExprValue, named_tmp, plain_local};
 use expr_terms::answers::{Resolved, after, given};
 use list_pushes::push::{Context, Operation, State, add_tmp, op_to};
 use list_values::sizes::size_of;
@@ -31,24 +32,31 @@ fn mask_but(bits: Bits) -> u64
     u64::MAX - (access::mask(bits.count) << bits.from)
 }
 
+// A write of a value to a range of bits, and the temporary that keeps the bits around it.
+#[derive(Clone, Copy)]
+pub struct BitWrite {
+    pub value: Value,
+    pub to: BitRange,
+    pub prev: Value,
+}
+
 // The bits of the value shifted to their place, and merged with the rest.
 #[tactic(auto, unfolding(crate::specs::Copies::merge_bits, list_pushes::specs::Pushes::on_read))]
 fn merge_bits(
     context: &Context<'_>,
     actions: &mut [u64],
     temporaries: &mut [u64],
-    to: Value,
-    prev: Value,
+    write: BitWrite,
     tmp: Value,
-    from: u64,
     state: State,
 ) -> Result<(Value, State), Refusal>
-    ensures { read (to_read result) actions.new temporaries.new ≡ merge_bits context.entry.now.section.stream.now context.entry.now.section.table.now actions.old temporaries.old context.entry.now.env to prev tmp from state }
+    ensures { read (to_read result) actions.new temporaries.new ≡ merge_bits context.entry.now.section.stream.now context.entry.now.section.table.now actions.old temporaries.old context.entry.now.env write.to.base write.prev tmp write.to.bits.from state }
 {
-    let shift = Operation::binary(operation::INT_LEFT, tmp, constant(from));
+    let to = write.to;
+    let shift = Operation::binary(operation::INT_LEFT, tmp, constant(to.bits.from));
     let (_, state) = op_to(context, actions, temporaries, shift, tmp, state)?;
-    let merge = Operation::binary(operation::INT_OR, prev, tmp);
-    op_to(context, actions, temporaries, merge, to, state)
+    let merge = Operation::binary(operation::INT_OR, write.prev, tmp);
+    op_to(context, actions, temporaries, merge, to.base, state)
 }
 
 // The value's bits in a temporary, and from there in their place.
@@ -57,35 +65,16 @@ fn insert_in(
     context: &Context<'_>,
     actions: &mut [u64],
     temporaries: &mut [u64],
-    value: Value,
-    to: Value,
-    prev: Value,
+    write: BitWrite,
     tmp: Value,
-    bits: Bits,
     state: State,
 ) -> Result<(Value, State), Refusal>
-    ensures { read (to_read result) actions.new temporaries.new ≡ insert_in context.entry.now.section.stream.now context.entry.now.section.table.now actions.old temporaries.old context.entry.now.env value to prev tmp bits.from bits.count state }
+    ensures { read (to_read result) actions.new temporaries.new ≡ insert_in context.entry.now.section.stream.now context.entry.now.section.table.now actions.old temporaries.old context.entry.now.env write.value write.to.base write.prev tmp write.to.bits.from write.to.bits.count state }
 {
-    let extend = Operation::unary(operation::ZERO_EXTEND, value);
-    let (_, state) = masked(
-        context,
-        actions,
-        temporaries,
-        extend,
-        tmp,
-        bits.count,
-        state,
-    )?;
-    merge_bits(
-        context,
-        actions,
-        temporaries,
-        to,
-        prev,
-        tmp,
-        bits.from,
-        state,
-    )
+    let extend = Operation::unary(operation::ZERO_EXTEND, write.value);
+    let bits = write.to.bits.count;
+    let (_, state) = masked(context, actions, temporaries, extend, tmp, bits, state)?;
+    merge_bits(context, actions, temporaries, write, tmp, state)
 }
 
 #[tactic(auto, unfolding(crate::specs::Copies::insert_bits, list_pushes::specs::Pushes::on_tmp))]
@@ -93,27 +82,14 @@ fn insert_bits(
     context: &Context<'_>,
     actions: &mut [u64],
     temporaries: &mut [u64],
-    value: Value,
-    to: Value,
-    prev: Value,
-    bits: Bits,
+    write: BitWrite,
     state: State,
 ) -> Result<(Value, State), Refusal>
-    ensures { read (to_read result) actions.new temporaries.new ≡ insert_bits context.entry.now.section.stream.now context.entry.now.section.table.now actions.old temporaries.old context.entry.now.env value to prev bits.from bits.count state }
+    ensures { read (to_read result) actions.new temporaries.new ≡ insert_bits context.entry.now.section.stream.now context.entry.now.section.table.now actions.old temporaries.old context.entry.now.env write.value write.to.base write.prev write.to.bits.from write.to.bits.count state }
 {
-    let size = size_of(context.section, temporaries, to);
+    let size = size_of(context.section, temporaries, write.to.base);
     let (tmp, state) = add_tmp(temporaries, NONE, size, state)?;
-    insert_in(
-        context,
-        actions,
-        temporaries,
-        value,
-        to,
-        prev,
-        tmp,
-        bits,
-        state,
-    )
+    insert_in(context, actions, temporaries, write, tmp, state)
 }
 
 // The bits of the target that stay, in a temporary; then those of the value.
@@ -122,18 +98,16 @@ fn keep_bits(
     context: &Context<'_>,
     actions: &mut [u64],
     temporaries: &mut [u64],
-    value: Value,
-    to: Value,
-    prev: Value,
-    bits: Bits,
+    write: BitWrite,
     state: State,
 ) -> Result<(Value, State), Refusal>
-    requires { bits.from < 64 }
-    ensures { read (to_read result) actions.new temporaries.new ≡ keep_bits context.entry.now.section.stream.now context.entry.now.section.table.now actions.old temporaries.old context.entry.now.env value to prev bits.from bits.count state }
+    requires { write.to.bits.from < 64 }
+    ensures { read (to_read result) actions.new temporaries.new ≡ keep_bits context.entry.now.section.stream.now context.entry.now.section.table.now actions.old temporaries.old context.entry.now.env write.value write.to.base write.prev write.to.bits.from write.to.bits.count state }
 {
-    let kept = Operation::binary(operation::INT_AND, to, constant(mask_but(bits)));
-    let (_, state) = op_to(context, actions, temporaries, kept, prev, state)?;
-    insert_bits(context, actions, temporaries, value, to, prev, bits, state)
+    let to = write.to;
+    let kept = Operation::binary(operation::INT_AND, to.base, constant(mask_but(to.bits)));
+    let (_, state) = op_to(context, actions, temporaries, kept, write.prev, state)?;
+    insert_bits(context, actions, temporaries, write, state)
 }
 
 #[tactic(auto, unfolding(crate::specs::Copies::write_bits, list_pushes::specs::Pushes::on_tmp))]
@@ -142,18 +116,18 @@ fn write_bits(
     actions: &mut [u64],
     temporaries: &mut [u64],
     value: Value,
-    to: Value,
-    bits: Bits,
+    to: BitRange,
     state: State,
 ) -> Result<(Value, State), Refusal>
-    ensures { read (to_read result) actions.new temporaries.new ≡ write_bits context.entry.now.section.stream.now context.entry.now.section.table.now actions.old temporaries.old context.entry.now.env value to bits.from bits.count state }
+    ensures { read (to_read result) actions.new temporaries.new ≡ write_bits context.entry.now.section.stream.now context.entry.now.section.table.now actions.old temporaries.old context.entry.now.env value to.base to.bits.from to.bits.count state }
 {
-    if 64 <= bits.from {
+    if 64 <= to.bits.from {
         return Err(Refusal::ShiftTooFar);
     }
-    let size = size_of(context.section, temporaries, to);
+    let size = size_of(context.section, temporaries, to.base);
     let (prev, state) = add_tmp(temporaries, NONE, size, state)?;
-    keep_bits(context, actions, temporaries, value, to, prev, bits, state)
+    let write = BitWrite { value, to, prev };
+    keep_bits(context, actions, temporaries, write, state)
 }
 
 #[tactic(auto, unfolding(crate::specs::Copies::copy_bits, list_pushes::specs::Pushes::on_read))]
@@ -162,14 +136,13 @@ fn copy_bits(
     actions: &mut [u64],
     temporaries: &mut [u64],
     expr: ExprValue,
-    to: Value,
-    bits: Bits,
+    to: BitRange,
     state: State,
 ) -> Result<(Value, State), Refusal>
-    ensures { read (to_read result) actions.new temporaries.new ≡ copy_bits context.entry.now.section.stream.now context.entry.now.section.table.now actions.old temporaries.old context.entry.now.env expr to bits.from bits.count state }
+    ensures { read (to_read result) actions.new temporaries.new ≡ copy_bits context.entry.now.section.stream.now context.entry.now.section.table.now actions.old temporaries.old context.entry.now.env expr to.base to.bits.from to.bits.count state }
 {
     let (value, state) = read_operand(context, actions, temporaries, expr, state)?;
-    write_bits(context, actions, temporaries, value, to, bits, state)
+    write_bits(context, actions, temporaries, value, to, state)
 }
 
 // A range of whole bytes is a slice of the target.
@@ -179,13 +152,12 @@ fn copy_bytes(
     actions: &mut [u64],
     temporaries: &mut [u64],
     expr: ExprValue,
-    to: Value,
-    bits: Bits,
+    to: BitRange,
     state: State,
 ) -> Result<(Value, State), Refusal>
-    ensures { read (to_read result) actions.new temporaries.new ≡ copy_bytes context.entry.now.section.stream.now context.entry.now.section.table.now actions.old temporaries.old context.entry.now.env expr to bits.from bits.count state }
+    ensures { read (to_read result) actions.new temporaries.new ≡ copy_bytes context.entry.now.section.stream.now context.entry.now.section.table.now actions.old temporaries.old context.entry.now.env expr to.base to.bits.from to.bits.count state }
 {
-    let (slice, state) = sliced(to, bits.from / 8, bits.count / 8, state)?;
+    let (slice, state) = sliced(to.base, to.bits.from / 8, to.bits.count / 8, state)?;
     read_value(context, actions, temporaries, expr, Some(slice), state)
 }
 
@@ -195,16 +167,15 @@ fn copy_range(
     actions: &mut [u64],
     temporaries: &mut [u64],
     expr: ExprValue,
-    to: Value,
-    bits: Bits,
+    to: BitRange,
     state: State,
 ) -> Result<(Value, State), Refusal>
-    ensures { read (to_read result) actions.new temporaries.new ≡ copy_range context.entry.now.section.stream.now context.entry.now.section.table.now actions.old temporaries.old context.entry.now.env expr to bits.from bits.count state }
+    ensures { read (to_read result) actions.new temporaries.new ≡ copy_range context.entry.now.section.stream.now context.entry.now.section.table.now actions.old temporaries.old context.entry.now.env expr to.base to.bits.from to.bits.count state }
 {
-    if byte_aligned(bits) {
-        return copy_bytes(context, actions, temporaries, expr, to, bits, state);
+    if byte_aligned(to.bits) {
+        return copy_bytes(context, actions, temporaries, expr, to, state);
     }
-    copy_bits(context, actions, temporaries, expr, to, bits, state)
+    copy_bits(context, actions, temporaries, expr, to, state)
 }
 
 // The source is read into a local, or into a place in RAM or a range of bits of one.
@@ -225,9 +196,7 @@ fn copy_into(
         ExprValue::Local(v) => {
             read_value(context, actions, temporaries, source, Some(v), state)?
         }
-        ExprValue::BitRange { v, bits } => {
-            copy_range(context, actions, temporaries, source, v, bits, state)?
-        }
+        ExprValue::BitRange(to) => copy_range(context, actions, temporaries, source, to, state)?,
         ExprValue::RamRef(to) => {
             let (value, state) = read_operand(context, actions, temporaries, source, state)?;
             let stored = Resolved { value, next, state };
@@ -242,86 +211,58 @@ fn copy_into(
     Ok((next, Walk { st, ..walk }))
 }
 
-// The name of a target, bare or truncated.
-#[tactic(auto, unfolding(crate::specs::Copies::target_name, expr_terms::specs::Answers::given))]
-fn target_name(stream: &[u8], pos: usize) -> Option<u64>
-    ensures { result ≡ given (target_name stream.now pos) }
+// A target that is a name: the size that it is truncated to, unless it is bare, and where it ends.
+#[derive(Clone, Copy)]
+pub struct Target {
+    pub name: u64,
+    pub size: Option<u64>,
+    pub next: usize,
+}
+
+#[tactic(auto, unfolding(crate::specs::Copies::target_at, crate::specs::Copies::target_name, crate::specs::Copies::truncated, crate::specs::Copies::after_target, expr_terms::specs::Answers::given))]
+fn target_at(stream: &[u8], pos: usize) -> Option<Target>
+    ensures { result ≡ target_at stream.now pos }
 {
     let code = access::byte(stream, pos, 0);
     if code == expression::IDENT {
-        return given(u16_in(stream, pos, 1));
+        return Some(Target {
+            name: given(u16_in(stream, pos, 1))?,
+            size: None,
+            next: after(pos, 3),
+        });
     }
     if code == expression::TRUNCATE && access::byte(stream, pos, 1) == expression::IDENT {
-        return given(u16_in(stream, pos, 2));
+        return Some(Target {
+            name: given(u16_in(stream, pos, 2))?,
+            size: Some(u16_in(stream, pos, 4)),
+            next: after(pos, 6),
+        });
     }
     None
 }
 
-#[tactic(auto, unfolding(crate::specs::Copies::target_size))]
-fn target_size(stream: &[u8], pos: usize) -> u64
-    ensures { result ≡ target_size stream.now pos }
-{
-    if access::byte(stream, pos, 0) == expression::IDENT {
-        return NONE;
-    }
-    u16_in(stream, pos, 4)
-}
-
-#[tactic(auto, unfolding(crate::specs::Copies::after_target))]
-fn after_target(stream: &[u8], pos: usize) -> usize
-    ensures { result ≡ after_target stream.now pos }
-{
-    if access::byte(stream, pos, 0) == expression::IDENT {
-        return after(pos, 3);
-    }
-    after(pos, 6)
-}
-
-#[tactic(auto, unfolding(crate::specs::Copies::new_target, list_pushes::specs::Pushes::on_read))]
+// A temporary of the target's name.
+#[tactic(auto, unfolding(crate::specs::Copies::declared, list_pushes::specs::Pushes::on_read))]
 fn new_target(
     context: &Context<'_>,
     scope: &mut [u64],
     temporaries: &mut [u64],
-    pos: usize,
-    name: u64,
+    target: Target,
     state: State,
 ) -> Result<Resolved<ExprValue>, Refusal>
-    ensures { resolved (to_expr result) scope.new temporaries.new ≡ new_target context.entry.now.section.stream.now context.entry.now.section.table.now scope.old temporaries.old context.entry.now.env pos name state }
+    ensures { resolved (to_expr result) scope.new temporaries.new ≡ declared context.entry.now.section.table.now scope.old temporaries.old context.entry.now.env target.name (unwrap_or target.size 65535) target.next state }
 {
-    let size = target_size(context.section.stream, pos);
-    let next = after_target(context.section.stream, pos);
-    let (tmp, state) = named_tmp(context, scope, temporaries, name, size, state)?;
+    let size = target.size.unwrap_or(NONE);
+    let (tmp, state) = named_tmp(context, scope, temporaries, target.name, size, state)?;
     Ok(Resolved {
-        next,
+        next: target.next,
         value: ExprValue::Local(tmp),
         state,
     })
 }
 
-// A bare name that is a plain local's, the usual target.
-#[tactic(auto, using(crate::proofs::CopyLaws::plain_given))]
-fn plain_target(
-    context: &Context<'_>,
-    scope: &[u64],
-    pos: usize,
-    state: State,
-) -> Option<Resolved<ExprValue>>
-    ensures { IfSome result (λ r. (a m : List ℕ) → targeted (to_expr (Ok r)) scope.now a m ≡ resolve_dst context.entry.now.section.stream.now context.entry.now.section.table.now scope.now a m context.entry.now.env pos state) }
-{
-    if access::byte(context.section.stream, pos, 0) != expression::IDENT {
-        return None;
-    }
-    let name = given(u16_in(context.section.stream, pos, 1))?;
-    let local = plain_local(context, scope, name)?;
-    Some(Resolved {
-        next: after(pos, 3),
-        value: ExprValue::Local(local),
-        state,
-    })
-}
-
-// An unknown or disallowed name as target becomes a temporary.
-#[tactic(auto, unfolding(crate::specs::Copies::resolve_dst, crate::specs::Copies::beside_a, crate::specs::Copies::in_scope, crate::specs::Copies::is_new, crate::specs::Copies::is_wrong, expr_terms::specs::Answers::given))]
+// An unknown or disallowed name as target becomes a temporary. A bare one that is a plain local's, the usual target, is that local.
+#[tactic(auto, using(crate::proofs::CopyLaws::target_laws))]
 fn resolve_dst(
     context: &Context<'_>,
     scope: &mut [u64],
@@ -332,15 +273,20 @@ fn resolve_dst(
 ) -> Result<Resolved<ExprValue>, Refusal>
     ensures { targeted (to_expr result) scope.new actions.new temporaries.new ≡ resolve_dst context.entry.now.section.stream.now context.entry.now.section.table.now scope.old actions.old temporaries.old context.entry.now.env pos state }
 {
-    if let Some(target) = plain_target(context, scope, pos, state) {
-        return Ok(target);
-    }
-    match target_name(context.section.stream, pos) {
-        Some(name) if resolve_ident(context, scope, name).is_err() => {
-            new_target(context, scope, temporaries, pos, name, state)
+    if let Some(target) = target_at(context.section.stream, pos) {
+        match plain_local(context, scope, target.name) {
+            Err(_) => return new_target(context, scope, temporaries, target, state),
+            Ok(Some(local)) if target.size.is_none() => {
+                return Ok(Resolved {
+                    next: target.next,
+                    value: ExprValue::Local(local),
+                    state,
+                });
+            }
+            Ok(Some(_)) | Ok(None) => {}
         }
-        _ => resolve_expr(DEPTH, context, scope, pos, actions, temporaries, state),
     }
+    resolve_expr(DEPTH, context, scope, pos, actions, temporaries, state)
 }
 
 #[tactic(auto, unfolding(crate::specs::Copies::copy_target, crate::specs::Copies::on_target, stmt_walk::specs::Walks::beside_p))]

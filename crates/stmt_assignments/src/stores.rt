@@ -1,4 +1,5 @@
-// Stores: the value is read before the pointer.
+// Stores: the value is read before the pointer. The scope is no part of the context, since statements lend it as `&mut`, and the
+// position is each function's own.
 ghost use Rattle.std.specs.Prelude.{◌≡◌};
 ghost use Rattle.stmt_walk.specs.Outcomes.{to_walk, to_step};
 ghost use Rattle.stmt_walk.specs.Walks.{stepped};
@@ -29,15 +30,15 @@ pub fn store(
 ) -> Result<(usize, Walk), Refusal>
     ensures { stepped (to_step walk result) actions.new temporaries.new ≡ store context.entry.now.section.stream.now context.entry.now.section.table.now actions.old temporaries.old context.entry.now.env to.pointer to.size stored.value stored.next stored.state (to_walk walk) }
 {
-    let stated = take_stated(
+    let (value, state) = take_stated(
         context.section,
         temporaries,
         stored.value,
         to.size,
         stored.state,
     );
-    let store = Operation::binary(operation::STORE, to.pointer, stated.v);
-    let st = push_op(context, actions, temporaries, store, no_output(), stated.st)?;
+    let store = Operation::binary(operation::STORE, to.pointer, value);
+    let st = push_op(context, actions, temporaries, store, no_output(), state)?;
     Ok((stored.next, Walk { st, ..walk }))
 }
 
@@ -53,18 +54,12 @@ fn store_register(
 ) -> Result<(usize, Walk), Refusal>
     ensures { stepped (to_step walk result) actions.new temporaries.new ≡ store_register section.entry.stream.now section.entry.table.now actions.old temporaries.old to.pointer to.size stored.value stored.next stored.state (to_walk walk) }
 {
-    let stated = set_stated(section, temporaries, stored.value, to.size, stored.state);
+    let (value, state) = set_stated(section, temporaries, stored.value, to.size, stored.state);
     let store = Operation {
         number: to.size,
-        ..Operation::binary(0, to.pointer, stated.v)
+        ..Operation::binary(0, to.pointer, value)
     };
-    let st = push(
-        actions,
-        action_kind::STORE_REGISTER,
-        store,
-        absent(),
-        stated.st,
-    )?;
+    let st = push(actions, action_kind::STORE_REGISTER, store, absent(), state)?;
     Ok((stored.next, Walk { st, ..walk }))
 }
 
@@ -94,7 +89,7 @@ fn store_at(
         | ExprValue::Const { .. }
         | ExprValue::Apply(_)
         | ExprValue::AddressOf { .. }
-        | ExprValue::BitRange { .. } => Err(Refusal::StoreToNoAddress),
+        | ExprValue::BitRange(_) => Err(Refusal::StoreToNoAddress),
     }
 }
 

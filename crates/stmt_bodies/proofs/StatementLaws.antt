@@ -1,5 +1,6 @@
 -- One law for each way out of the statements and macro bodies.
-use Rattle.std.proofs.Common.{◌≡◌, ℕ, suc, ◌+◌, ◌-◌, ◌%◌, ◌^◌, ◌<◌, ◌≤◌, Bool, true, false, ◌&&◌, T, ltb, leb, List, length, sym, refl, ap, ◌∙◌, subst, arith, ltb-true, leb-true}
+use Rattle.std.proofs.Common.{◌≡◌, ℕ, suc, ◌+◌, ◌-◌, ◌%◌, ◌^◌, ◌<◌, ◌≤◌, Bool, true, false, ltb, leb, List, length, sym, refl, ap, ◌∙◌, arith, ltb-true, leb-true}
+use Rattle.std.specs.Cmp.{first_so, second_so}
 use Rattle.access.specs.Le.{le16}
 use Rattle.list_pushes.specs.declared.push.State.{State}
 use Rattle.list_pushes.specs.declared.push.Env.{Env}
@@ -40,15 +41,10 @@ module _ (deep : ℕ) (s t p a m : List ℕ) (e : Env) (id n next : ℕ) (st : S
     enter_next end u f = went (Step.Next end u) f
 
 -- ---- bodies; what is left to resolve gives the whole, B
-both_true : (x y : Bool) → x && y ≡ true → (x ≡ true) × (y ≡ true)
-both_true true true h = (refl, refl)
-both_true true false h = (refl, h)
-both_true false y h = (h, absurd (subst T (sym h) tt))
-
 -- the bytes left fall
 pub bytes_fall : (pos next len : ℕ) (x : Bool) → x ≡ forward pos next len → x ≡ true → len - next < len - pos
 unfolding forward
-bytes_fall pos next len x e h = let k = both_true (ltb pos next) (leb next len) (sym e ∙ h) in omega (arith, ltb-true pos next k.0, leb-true next len k.1)
+bytes_fall pos next len x e h = let k = sym e ∙ h in omega (arith, ltb-true pos next (first_so _ (leb next len) k), leb-true next len (second_so (ltb pos next) _ k))
 
 pub body_start : (deep : ℕ) (s t p a m : List ℕ) (e : Env) (pos n ordinal : ℕ) (w : Walk) → resolve_all (resolve_statement (enter_macro deep s t) s t e) (length s) (n - 0) 0 ordinal pos p a m w ≡ resolve_body deep s t p a m e pos n ordinal w
 unfolding resolve_body

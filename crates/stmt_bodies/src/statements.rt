@@ -1,5 +1,5 @@
 // Statements and macro bodies, which resolve each other: a macro call one level deeper. Codes stay the bytes of the stream, as
-// in expressions.
+// in expressions; the scope is no part of the context, since statements lend it as `&mut`, and the position is each function's own.
 ghost use Rattle.std.specs.Prelude.{◌≡◌};
 ghost use Rattle.stmt_walk.specs.Outcomes.{to_walk, to_step, to_steps};
 ghost use Rattle.stmt_walk.specs.Walks.{stepped, walked};
@@ -12,14 +12,13 @@ use codes::refusal::Refusal;
 use codes::{statement, table};
 use expr_scope::smalls::SCOPE_WORDS;
 use expr_terms::answers::after;
+use expr_terms::calls::Call;
 use list_pushes::push::{Context, Env, State};
 use list_values::sizes::Sizing;
 use stmt_assignments::copies::copy_statement;
 use stmt_assignments::stores::store_statement;
 use stmt_branches::branches::{branch, cond_branch, label_statement};
-use stmt_simple::calls::{
-    Called, called_of, delay_slot, macro_args, macro_at, user_op_statement,
-};
+use stmt_simple::calls::{Called, called_of, delay_slot, macro_args, macro_at, user_op_statement};
 use stmt_simple::simple::{
     build, export_statement, local_assignment, local_statement, unimplemented,
 };
@@ -130,7 +129,7 @@ fn macro_env(env: Env, count: u64) -> Env
     }
 }
 
-// Where the body of a macro with n parameters begins, behind their names.
+// Where the body of a macro with so many parameters begins, behind their names.
 #[tactic(auto, unfolding(crate::specs::Statements::body_at))]
 fn body_at(at: usize, parameters: u64) -> usize
     ensures { result ≡ body_at at parameters }
@@ -138,7 +137,7 @@ fn body_at(at: usize, parameters: u64) -> usize
     after(at, 1 + 2 * (parameters % 16) as usize)
 }
 
-// The ordinal of the first statement of macro number `id`.
+// The ordinal of the first statement of the macro of a number.
 #[tactic(auto, unfolding(crate::specs::Statements::first_ordinal))]
 fn first_ordinal(table: &[u16; table::LENGTH], id: u64) -> u64
     ensures { result ≡ first_ordinal table.now id }
@@ -155,24 +154,23 @@ fn enter(
     scope: &mut [u64],
     actions: &mut [u64],
     temporaries: &mut [u64],
-    id: u64,
-    arguments: u64,
+    call: Call,
     next: usize,
     state: State,
     walk: Walk,
 ) -> Result<(usize, Walk), Stopped>
-    ensures { walked (to_steps result) scope.new actions.new temporaries.new ≡ enter_macro deep context.entry.now.section.stream.now context.entry.now.section.table.now scope.old actions.old temporaries.old context.entry.now.env id arguments next state (to_walk walk) }
+    ensures { walked (to_steps result) scope.new actions.new temporaries.new ≡ enter_macro deep context.entry.now.section.stream.now context.entry.now.section.table.now scope.old actions.old temporaries.old context.entry.now.env call.id call.arguments next state (to_walk walk) }
 {
     if deep == 0 {
         return Err(stop(walk, Refusal::MacroTooDeep));
     }
-    let start = body_at(macro_at(context.section.table, id), arguments);
+    let start = body_at(macro_at(context.section.table, call.id), call.arguments);
     let count = u16_in(context.section.stream, start, 0);
     let inner = Context {
-        env: macro_env(context.env, arguments),
+        env: macro_env(context.env, call.arguments),
         ..*context
     };
-    let first = first_ordinal(context.section.table, id);
+    let first = first_ordinal(context.section.table, call.id);
     let from = after(start, 2);
     let walk = Walk { st: state, ..walk };
     let (_, walk) = body(
@@ -198,11 +196,10 @@ fn macro_statement(
     actions: &mut [u64],
     temporaries: &mut [u64],
     pos: usize,
-    id: u64,
-    arguments: u64,
+    call: Call,
     walk: Walk,
 ) -> Result<(usize, Walk), Stopped>
-    ensures { stepped (to_steps result) actions.new temporaries.new ≡ macro_statement (enter_macro deep context.entry.now.section.stream.now context.entry.now.section.table.now) context.entry.now.section.stream.now context.entry.now.section.table.now scope.now actions.old temporaries.old context.entry.now.env pos id arguments (to_walk walk) }
+    ensures { stepped (to_steps result) actions.new temporaries.new ≡ macro_statement (enter_macro deep context.entry.now.section.stream.now context.entry.now.section.table.now) context.entry.now.section.stream.now context.entry.now.section.table.now scope.now actions.old temporaries.old context.entry.now.env pos call.id call.arguments (to_walk walk) }
 {
     let mut inner = [0u64; SCOPE_WORDS];
     let (next, state) = macro_args(
@@ -212,8 +209,7 @@ fn macro_statement(
         temporaries,
         &mut inner,
         pos,
-        id,
-        arguments,
+        call,
         walk.st,
     )
     .map_err(|refusal| stop(walk, refusal))?;
@@ -223,8 +219,7 @@ fn macro_statement(
         &mut inner,
         actions,
         temporaries,
-        id,
-        arguments,
+        call,
         next,
         state,
         walk,
@@ -244,19 +239,25 @@ fn call_statement(
 ) -> Result<(usize, Walk), Stopped>
     ensures { stepped (to_steps result) actions.new temporaries.new ≡ call_statement (enter_macro deep context.entry.now.section.stream.now context.entry.now.section.table.now) context.entry.now.section.stream.now context.entry.now.section.table.now scope.now actions.old temporaries.old context.entry.now.env pos (to_walk walk) }
 {
-    let n = access::byte(context.section.stream, pos, 3);
+    let arguments = access::byte(context.section.stream, pos, 3);
     let name = u16_in(context.section.stream, pos, 1);
     match called_of(context.section, name).map_err(|refusal| stop(walk, refusal))? {
-        Called::DelaySlot => delay_slot(context.section.stream, actions, pos, n, walk).map_err(
-            |refusal| stop(walk, refusal),
-        ),
+        Called::DelaySlot => delay_slot(
+            context.section.stream,
+            actions,
+            pos,
+            arguments,
+            walk,
+        ).map_err(|refusal| stop(walk, refusal)),
         Called::UserOp(id) => {
-            user_op_statement(context, scope, actions, temporaries, pos, id, n, walk).map_err(
+            let call = Call { id, arguments };
+            user_op_statement(context, scope, actions, temporaries, pos, call, walk).map_err(
                 |refusal| stop(walk, refusal),
             )
         }
         Called::Macro(id) => {
-            macro_statement(deep, context, scope, actions, temporaries, pos, id, n, walk)
+            let call = Call { id, arguments };
+            macro_statement(deep, context, scope, actions, temporaries, pos, call, walk)
         }
     }
 }
@@ -291,7 +292,7 @@ fn forward(pos: usize, next: usize, len: usize) -> bool
     pos < next && next <= len
 }
 
-// n statements from a position on, the first with that ordinal; macro calls so deep at most. From one statement to the next
+// So many statements from a position on, the first with that ordinal; macro calls so deep at most. From one statement to the next
 // the bytes left of the stream fall, as the rules of the project want it, so the turns are no `for`; a statement that took
 // none would be refused as cut.
 #[cycle(body_call_statement_enter_macro_statement_statement)]
@@ -313,7 +314,7 @@ pub fn body(
     let mut walk = walk;
     let mut i = 0;
     while i < count {
-        let own = std::num::wrapping_add_u64(ordinal, i);
+        let own = ordinal.wrapping_add(i);
         let (next, walked) = statement(deep, context, scope, actions, temporaries, at, own, walk)?;
         if !forward(at, next, context.section.stream.len()) {
             return Err(stop(walked, Refusal::Malformed));

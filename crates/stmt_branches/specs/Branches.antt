@@ -66,7 +66,7 @@ direct s t a m e (ExprValue.Apply operation) cond hint st w = stepped (stop 29 w
 direct s t a m e (ExprValue.RamRef access) cond hint st w = stepped (stop 29 w) a m
 direct s t a m e (ExprValue.RegisterRef access) cond hint st w = stepped (stop 29 w) a m
 direct s t a m e (ExprValue.AddressOf v z) cond hint st w = stepped (stop 29 w) a m
-direct s t a m e (ExprValue.BitRange v bits) cond hint st w = stepped (stop 29 w) a m
+direct s t a m e (ExprValue.BitRange r) cond hint st w = stepped (stop 29 w) a m
 
 unfoldable pub indirect : List ℕ → List ℕ → List ℕ → List ℕ → Env → ExprValue → Value → ℕ → State → Walk → Stepped
 indirect s t a m e x cond hint st w =

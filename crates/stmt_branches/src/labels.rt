@@ -70,7 +70,7 @@ fn labels_after(id: u64, labels: u64) -> u64
     if id < labels {
         return labels;
     }
-    std::num::wrapping_add_u64(id, 1)
+    id.wrapping_add(1)
 }
 
 // The walk with a label, and so many more placed.
@@ -80,7 +80,7 @@ pub fn labelled(walk: Walk, state: State, id: u64, more: u64) -> Walk
     Walk {
         st: state,
         labels: labels_after(id, walk.labels),
-        placed: std::num::wrapping_add_u64(walk.placed, more),
+        placed: walk.placed.wrapping_add(more),
         ..walk
     }
 }

@@ -7,7 +7,6 @@ use native.Mathlib.Omega.{arith}
 use lib.ListN.{length, get_or, drop}
 use borrow.Author.Tests.{le-leb, lt-ltb}
 use Rattle.access.specs.Le.{le16}
-use Rattle.prelude.specs.Base.{when◌then◌else◌}
 use Rattle.definition.specs.Ast.{PcodeExpr, JumpLabel, BranchDst, Statement}
 use Rattle.definition.specs.SectionFile.{parsed, refused, Read, expr_within}
 use Rattle.definition.specs.SectionFile as d

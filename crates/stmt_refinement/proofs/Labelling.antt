@@ -8,7 +8,7 @@ use native.Mathlib.Omega.{arith}
 use lib.ListN.{length}
 use lib.Dec.{leb}
 use borrow.Author.Tests.{eq-eqb, lt-ltb, le-ltb, leb-true, leb-false}
-use Rattle.prelude.specs.Base.{first, when◌then◌else◌}
+use Rattle.prelude.specs.Base.{first}
 use Rattle.definition.specs.Refusals.{Refusal, refusal_number, too_many_labels, label_twice}
 use Rattle.definition.specs.Walk.{Label, State, Env, Outcome, done, stopped, on, require, with_scope, with_label}
 use Rattle.definition.specs.Scope as scope

@@ -10,7 +10,7 @@ use native.Mathlib.Omega.{arith}
 use lib.ListN.{length, get_or, get_elem?, replicate, length-set, length-replicate}
 use lib.Seq.{get_or-set_same, get_or-set_other}
 use Rattle.access.specs.Le.{le16}
-use Rattle.prelude.specs.Base.{first, when◌then◌else◌}
+use Rattle.prelude.specs.Base.{first}
 use Rattle.definition.specs.Walk.{ExprValue, Scope, State, Env, with_scope}
 use Rattle.definition.specs.Scope as scope
 use Rattle.definition.specs.Scope.{find}

@@ -19,7 +19,6 @@ use Rattle.list_values.specs.declared.value.Value.{Value as WordValue}
 use Rattle.list_pushes.specs.declared.push.State.{State as WordState}
 use Rattle.list_pushes.specs.declared.push.Env.{Env as WordEnv}
 use Rattle.list_pushes.specs.Outcomes.{Read}
-use Rattle.prelude.specs.Base.{when◌then◌else◌}
 use Rattle.list_pushes.specs.Pushes.{ReadOut, read}
 use Rattle.file_refinement.proofs.Inversion.{ExportAt}
 use Rattle.list_refinement.specs.Encoding.{enc_v, Sound, first_of, second_of}

@@ -19,7 +19,6 @@ use Rattle.definition_guarantee.proofs.Outcomes.{positive}
 use Rattle.list_pushes.specs.declared.push.State.{State as WordState}
 use Rattle.list_pushes.specs.declared.push.Env.{Env as WordEnv}
 use Rattle.list_values.specs.Base.{Listed, listed, then_l}
-use Rattle.prelude.specs.Base.{when◌then◌else◌}
 use Rattle.file_refinement.specs.Holds.{absent_at}
 use Rattle.file_refinement.proofs.Inversion.{unimplemented_at, export_at, local_at, local_assignment_at, build_at, copy_at, store_at_lem}
 use Rattle.list_refinement.proofs.Seen.{outcome}

@@ -29,7 +29,7 @@ use Rattle.file_refinement.specs.Holds.{absent_at}
 use Rattle.file_refinement.proofs.Inversion.{StoreAt}
 use Rattle.list_refinement.specs.Encoding.{enc_v, Sound, first_of, second_of, output_of}
 use Rattle.list_refinement.proofs.Seen.{no, yes}
-use Rattle.expr_reading.specs.declared.read.Stated.{Stated}
+use Rattle.expr_reading.specs.Outcomes.{Stated}
 use Rattle.expr_reading.specs.Reading.{set_stated, take_stated}
 use Rattle.expr_terms.specs.Addresses.{resolve_address}
 use Rattle.expr_resolver.specs.Expressions.{skip_expr}

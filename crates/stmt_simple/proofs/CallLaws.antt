@@ -1,25 +1,22 @@
--- One law for each way out of the functions over calls.
+-- The turns of the loop that reads a user op's arguments.
 use mathlib.Core.Path.{◌≡◌}
 use mathlib.Core.List.{List}
-use Prim.Native.Nat.{ℕ, suc, ◌+◌, ◌-◌, ◌*◌, ◌%◌, ◌≤◌, ◌<◌}
+use Prim.Native.Nat.{ℕ, suc, ◌+◌, ◌-◌, ◌≤◌, ◌<◌}
 use native.Mathlib.Omega.{arith}
-use lib.ListN.{get_or, set}
-use Rattle.access.specs.Le.{le16}
 use Rattle.list_values.specs.declared.value.Value.{Value}
 use Rattle.list_pushes.specs.declared.push.State.{State}
 use Rattle.list_pushes.specs.declared.push.Env.{Env}
 use Rattle.list_pushes.specs.Outcomes.{Read}
 use Rattle.list_pushes.specs.Outcomes.{Pushed}
-use Rattle.access.specs.Loops.{run}
-use Rattle.list_values.specs.Values.{value_at, put_value}
+use Rattle.list_values.specs.Values.{put_value}
 use Rattle.list_pushes.specs.Pushes.{read, on_read}
 use Rattle.expr_scope.specs.declared.scope.ExprValue.{ExprValue}
 use Rattle.expr_scope.specs.Slots.{param_place, arg_at}
 use Rattle.expr_reading.specs.Reading.{read_operand}
-use Rattle.access.proofs.LoopLaws.{run_start, run_again, run_end, one_less}
-use Rattle.stmt_simple.specs.Calls.{ArgsRead, args_read, read_args, write_input, write_inputs, macro_at, bind_name, bind_names}
+use Rattle.access.proofs.LoopLaws.{one_less}
+use Rattle.stmt_simple.specs.Calls.{ArgsRead, args_read, read_args}
 
--- ---- user ops; what is left to read gives the whole, B
+-- what is left to read gives the whole, B
 pub args_start : (n : ℕ) (s t a m args : List ℕ) (e : Env) (st : State) → read_args (n - 0) 0 s t a m args e st ≡ read_args n 0 s t a m args e st
 args_start n s t a m args e st = let z : n - 0 ≡ n = omega arith in rw z
 
@@ -42,25 +39,4 @@ module _ (n i : ℕ) (s t a m args : List ℕ) (e : Env) (st : State) (B : ArgsR
       let o : i + 1 ≡ suc i = omega arith in
       rw (eb, ea, o) (rw o at one (Read.Value v st1) f)
 
-pub input_law : (at : ℕ) (args : List ℕ) (i : ℕ) (a a1 : List ℕ) (k : ℕ) (v : Value) → k ≡ param_place i → v ≡ value_at args k 4 → a1 ≡ put_value a at (6 + 2 * (i % 8)) v → a1 ≡ write_input at args i a
-unfolding write_input
-input_law at args i a a1 k v ek ev h = rw (← ek, ← ev) h
-
-pub inputs_law : (n i : ℕ) (a b : List ℕ) (at : ℕ) (args : List ℕ) → n ≤ i → run (n - i) i (write_input at args) b ≡ run n 0 (write_input at args) a → b ≡ write_inputs n a at args
-unfolding write_inputs
-inputs_law n i a b at args h e = run_end n i (write_input at args) b _ h e
-
--- ---- what a macro is given
-pub bind_name_law : (s : List ℕ) (names i : ℕ) (args args1 : List ℕ) (name at : ℕ) → name ≡ le16 s (names + i % 8 * 2) → at ≡ param_place i → args1 ≡ set args (at + 0) name → args1 ≡ bind_name s names i args
-unfolding bind_name
-bind_name_law s names i args args1 name at en ea h = rw (← en, ← ea) h
-
-pub bind_names_law : (n i : ℕ) (s : List ℕ) (names : ℕ) (args q : List ℕ) → n ≤ i → run (n - i) i (bind_name s names) q ≡ run n 0 (bind_name s names) args → q ≡ bind_names n s names args
-unfolding bind_names
-bind_names_law n i s names args q h e = run_end n i (bind_name s names) q _ h e
-
 pub ruleset args_laws = (args_start, args_end, args_stop, args_next)
-
-pub ruleset inputs_laws = (input_law, inputs_law, run_start, run_again)
-
-pub ruleset names_laws = (bind_name_law, bind_names_law, run_start, run_again)

@@ -51,7 +51,7 @@ export_of s t a m e (ExprValue.Unbound v) next st w = export_read s t a m e (Exp
 export_of s t a m e (ExprValue.Const n z) next st w = export_read s t a m e (ExprValue.Const n z) next st w
 export_of s t a m e (ExprValue.Apply operation) next st w = export_read s t a m e (ExprValue.Apply operation) next st w
 export_of s t a m e (ExprValue.AddressOf v z) next st w = export_read s t a m e (ExprValue.AddressOf v z) next st w
-export_of s t a m e (ExprValue.BitRange v bits) next st w = export_read s t a m e (ExprValue.BitRange v bits) next st w
+export_of s t a m e (ExprValue.BitRange r) next st w = export_read s t a m e (ExprValue.BitRange r) next st w
 
 unfoldable pub export_statement : List ℕ → List ℕ → List ℕ → List ℕ → List ℕ → Env → ℕ → Walk → Stepped
 export_statement s t p a m e pos w =

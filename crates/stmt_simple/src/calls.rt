@@ -1,4 +1,5 @@
-// Calls that enter no macro: the delay slot and user ops; and what a macro call is given.
+// Calls that enter no macro: the delay slot and user ops; and what a macro call is given. The scope is no part of the context, since
+// statements lend it as `&mut`, and the position is each function's own.
 ghost use Rattle.std.specs.Prelude.{◌≡◌};
 ghost use Rattle.list_values.specs.Base.{listed};
 ghost use Rattle.list_pushes.specs.Outcomes.{to_pushed};
@@ -19,7 +20,7 @@ use expr_scope::args::{ARGS_WORDS, arg_at};
 use expr_scope::scope::{SLOT_A, SLOT_NAME, param_place};
 use expr_scope::symbols::{Symbol, lookup};
 use expr_terms::answers::after;
-use expr_terms::calls::only_integer;
+use expr_terms::calls::{Call, only_integer};
 use list_pushes::push::{Context, Operation, State, push};
 use list_values::section::Section;
 use list_values::value::{INPUT_0, absent, no_output, put, put_value, value_at};
@@ -80,7 +81,7 @@ pub fn delay_slot(
     }
 }
 
-// Reads n arguments in place: each slot's value becomes an operand. The slots go round after eight, as those of a scope's
+// Reads so many arguments in place: each slot's value becomes an operand. The slots go round after eight, as those of a scope's
 // parameters do, so these loops count arguments, and their number stands beside the words.
 #[tactic(auto, using(crate::proofs::CallLaws::args_laws))]
 fn read_args(
@@ -103,14 +104,16 @@ fn read_args(
     Ok(state)
 }
 
-// The operands that n arguments became, as the inputs of the action at a position.
-#[tactic(auto, using(crate::proofs::CallLaws::inputs_laws))]
+// The operands that so many arguments became, as the inputs of the action at a position.
+#[tactic(auto, using(access::proofs::LoopLaws::run_again, access::proofs::LoopLaws::run_end), unfolding(crate::specs::Calls::write_inputs, crate::specs::Calls::write_input))]
 fn write_inputs(actions: &mut [u64], at: usize, args: &[u64], count: u64)
     ensures { actions.new ≡ write_inputs count actions.old at args.now }
 {
     for i in 0..count {
         let v = value_at(args, param_place(i as usize), SLOT_A);
-        put_value(actions, at, INPUT_0 + 2 * (i % 8) as u8, v);
+        // Below 8, so the cast loses nothing.
+        let input = (i % 8) as u8;
+        put_value(actions, at, INPUT_0 + 2 * input, v);
     }
 }
 
@@ -118,19 +121,18 @@ fn write_inputs(actions: &mut [u64], at: usize, args: &[u64], count: u64)
 fn push_user_op(
     actions: &mut [u64],
     args: &[u64],
-    id: u64,
-    count: u64,
+    call: Call,
     state: State,
 ) -> Result<State, Refusal>
-    ensures { listed (to_pushed result) actions.new ≡ push_user_op actions.old args.now id count state }
+    ensures { listed (to_pushed result) actions.new ≡ push_user_op actions.old args.now call.id call.arguments state }
 {
     let operation = Operation {
-        number: id,
-        count,
+        number: call.id,
+        count: call.arguments,
         ..Operation::nullary(operation::PCODE_OP)
     };
     let next = push(actions, action_kind::OP, operation, no_output(), state)?;
-    write_inputs(actions, state.end, args, count);
+    write_inputs(actions, state.end, args, call.arguments);
     Ok(next)
 }
 
@@ -140,14 +142,13 @@ fn user_op_args(
     actions: &mut [u64],
     temporaries: &mut [u64],
     args: &mut [u64],
-    id: u64,
-    count: u64,
+    call: Call,
     state: State,
 ) -> Result<State, Refusal>
-    ensures { args_read (to_pushed result) actions.new temporaries.new args.new ≡ user_op_args context.entry.now.section.stream.now context.entry.now.section.table.now actions.old temporaries.old args.old id count context.entry.now.env state }
+    ensures { args_read (to_pushed result) actions.new temporaries.new args.new ≡ user_op_args context.entry.now.section.stream.now context.entry.now.section.table.now actions.old temporaries.old args.old call.id call.arguments context.entry.now.env state }
 {
-    let next = read_args(context, actions, temporaries, args, count, state)?;
-    push_user_op(actions, args, id, count, next)
+    let next = read_args(context, actions, temporaries, args, call.arguments, state)?;
+    push_user_op(actions, args, call, next)
 }
 
 #[tactic(auto, unfolding(crate::specs::Calls::user_op_statement, crate::specs::Calls::step_args, expr_terms::specs::Answers::on_args, stmt_walk::specs::Walks::pushed_then))]
@@ -157,11 +158,10 @@ pub fn user_op_statement(
     actions: &mut [u64],
     temporaries: &mut [u64],
     pos: usize,
-    id: u64,
-    count: u64,
+    call: Call,
     walk: Walk,
 ) -> Result<(usize, Walk), Refusal>
-    ensures { stepped (to_step walk result) actions.new temporaries.new ≡ user_op_statement context.entry.now.section.stream.now context.entry.now.section.table.now scope.now actions.old temporaries.old context.entry.now.env pos id count (to_walk walk) }
+    ensures { stepped (to_step walk result) actions.new temporaries.new ≡ user_op_statement context.entry.now.section.stream.now context.entry.now.section.table.now scope.now actions.old temporaries.old context.entry.now.env pos call.id call.arguments (to_walk walk) }
 {
     let mut args = [0u64; ARGS_WORDS];
     let (next, state) = resolve_args(
@@ -169,17 +169,17 @@ pub fn user_op_statement(
         context,
         scope,
         after(pos, 4),
-        count,
+        call.arguments,
         actions,
         temporaries,
         &mut args,
         walk.st,
     )?;
-    let st = user_op_args(context, actions, temporaries, &mut args, id, count, state)?;
+    let st = user_op_args(context, actions, temporaries, &mut args, call, state)?;
     Ok((next, Walk { st, ..walk }))
 }
 
-// Where macro number `id` stands.
+// Where the macro of a number stands.
 #[tactic(auto, unfolding(crate::specs::Calls::macro_at))]
 pub fn macro_at(table: &[u16; table::LENGTH], id: u64) -> usize
     ensures { result ≡ macro_at table.now id }
@@ -187,8 +187,8 @@ pub fn macro_at(table: &[u16; table::LENGTH], id: u64) -> usize
     usize::from(access::get(table, table::MACROS + (id % MACROS) as usize))
 }
 
-// Gives n arguments the names of the macro's parameters, which stand from a position on: each slot's first word.
-#[tactic(auto, using(crate::proofs::CallLaws::names_laws))]
+// Gives so many arguments the names of the macro's parameters, which stand from a position on: each slot's first word.
+#[tactic(auto, using(access::proofs::LoopLaws::run_again, access::proofs::LoopLaws::run_end), unfolding(crate::specs::Calls::bind_names, crate::specs::Calls::bind_name))]
 fn bind_names(stream: &[u8], args: &mut [u64], names: usize, count: usize)
     ensures { args.new ≡ bind_names count stream.now names args.old }
 {
@@ -202,14 +202,13 @@ fn bind_names(stream: &[u8], args: &mut [u64], names: usize, count: usize)
 #[tactic(auto, unfolding(crate::specs::Calls::counted))]
 fn counted(
     section: Section<'_>,
-    id: u64,
-    count: u64,
+    call: Call,
     next: usize,
     state: State,
 ) -> Result<(usize, State), Refusal>
-    ensures { to_args result ≡ counted section.entry.stream.now section.entry.table.now id count next state }
+    ensures { to_args result ≡ counted section.entry.stream.now section.entry.table.now call.id call.arguments next state }
 {
-    if access::byte(section.stream, macro_at(section.table, id), 0) == count {
+    if access::byte(section.stream, macro_at(section.table, call.id), 0) == call.arguments {
         return Ok((next, state));
     }
     Err(Refusal::MacroArguments)
@@ -224,24 +223,23 @@ pub fn macro_args(
     temporaries: &mut [u64],
     args: &mut [u64],
     pos: usize,
-    id: u64,
-    count: u64,
+    call: Call,
     state: State,
 ) -> Result<(usize, State), Refusal>
-    ensures { passed (to_args result) actions.new temporaries.new args.new ≡ macro_args context.entry.now.section.stream.now context.entry.now.section.table.now scope.now actions.old temporaries.old args.old context.entry.now.env pos id count state }
+    ensures { passed (to_args result) actions.new temporaries.new args.new ≡ macro_args context.entry.now.section.stream.now context.entry.now.section.table.now scope.now actions.old temporaries.old args.old context.entry.now.env pos call.id call.arguments state }
 {
     let (next, state) = resolve_args(
         DEPTH,
         context,
         scope,
         after(pos, 4),
-        count,
+        call.arguments,
         actions,
         temporaries,
         args,
         state,
     )?;
-    let names = after(macro_at(context.section.table, id), 1);
-    bind_names(context.section.stream, args, names, count as usize);
-    counted(context.section, id, count, next, state)
+    let names = after(macro_at(context.section.table, call.id), 1);
+    bind_names(context.section.stream, args, names, call.arguments as usize);
+    counted(context.section, call, next, state)
 }

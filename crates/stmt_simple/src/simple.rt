@@ -1,4 +1,5 @@
-// Statements of one step: unimplemented, the export, locals, and builds.
+// Statements of one step: unimplemented, the export, locals, and builds. The scope is no part of the context, since statements lend
+// it as `&mut`, and the position is each function's own.
 ghost use Rattle.std.specs.Prelude.{◌≡◌, ◌<◌, unwrap_or, IfSome};
 ghost use Rattle.list_values.specs.Base.{listed};
 ghost use Rattle.stmt_walk.specs.Outcomes.{to_walk, to_step};
@@ -12,7 +13,7 @@ use codes::refusal::Refusal;
 use codes::{action_kind, header, operation, table};
 use expr_reading::read::{read_operand, read_value};
 use expr_resolver::expr::resolve_expr;
-use expr_scope::scope::{Access, ExprValue, named_tmp};
+use expr_scope::scope::{ExprValue, named_tmp};
 use expr_scope::symbols::{Symbol, lookup};
 use expr_terms::answers::{Resolved, after};
 use list_pushes::push::{Context, Operation, State, push, push_op};
@@ -49,17 +50,14 @@ fn export_of(
 {
     let Resolved { next, value, state } = expr;
     let (export, st) = match value {
-        ExprValue::RamRef(Access { pointer, size }) => (Export::RamRef { pointer, size }, state),
-        ExprValue::RegisterRef(Access { pointer, size }) => (
-            Export::RegisterRef { pointer, size },
-            state,
-        ),
+        ExprValue::RamRef(to) => (Export::RamRef(to), state),
+        ExprValue::RegisterRef(to) => (Export::RegisterRef(to), state),
         ExprValue::Local(_)
         | ExprValue::Unbound(_)
         | ExprValue::Const { .. }
         | ExprValue::Apply(_)
         | ExprValue::AddressOf { .. }
-        | ExprValue::BitRange { .. } => {
+        | ExprValue::BitRange(_) => {
             let (read, st) = read_operand(context, actions, temporaries, value, state)?;
             (Export::Value(read), st)
         }
@@ -144,7 +142,7 @@ pub fn local_assignment(
     assign(context, scope, actions, temporaries, at, to, state, walk)
 }
 
-// The first of n subtables that has this table.
+// The first of so many subtables that has this table.
 fn find_subtable(section: Section<'_>, count: u64, wanted: u64) -> Option<u64>
     ensures within { IfSome result (λ i. i < count) }
     ensures found { unwrap_or result count ≡ find_subtable count 0 section.entry.stream.now section.entry.table.now wanted }

@@ -29,8 +29,8 @@ pub data Step : Type 0 where
 abbrev pub to_export : Option exports.Export → Export
 to_export None = record { kind = 0; v = absent; size = 0 }
 to_export (Some (exports.Export.Value v)) = record { kind = 1; v = v; size = 0 }
-to_export (Some (exports.Export.RamRef pointer size)) = record { kind = 2; v = pointer; size = size }
-to_export (Some (exports.Export.RegisterRef pointer size)) = record { kind = 3; v = pointer; size = size }
+to_export (Some (exports.Export.RamRef x)) = record { kind = 2; v = x.pointer; size = x.size }
+to_export (Some (exports.Export.RegisterRef x)) = record { kind = 3; v = x.pointer; size = x.size }
 
 abbrev pub to_walk : walks.Walk → Walk
 to_walk w = record { st = w.st; labels = w.labels; placed = w.placed; statements = w.statements; export = to_export w.export }

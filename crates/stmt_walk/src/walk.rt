@@ -5,6 +5,7 @@ ghost use Rattle.stmt_walk.specs.Outcomes.{to_walk, to_steps};
 ghost use Rattle.stmt_walk.specs.Walks.{stop};
 
 use codes::refusal::Refusal;
+use expr_scope::scope::Access;
 use list_pushes::push::State;
 use list_values::value::Value;
 
@@ -12,8 +13,8 @@ use list_values::value::Value;
 #[derive(Clone, Copy)]
 pub enum Export {
     Value(Value),
-    RamRef { pointer: Value, size: u64 },
-    RegisterRef { pointer: Value, size: u64 },
+    RamRef(Access),
+    RegisterRef(Access),
 }
 
 // The walk's state above that of expressions: labels given, labels placed, statements begun, the export. A step is given the
