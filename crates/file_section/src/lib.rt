@@ -21,7 +21,7 @@ ghost use Rattle.file_syntax.specs.Reads.{to_cursor};
 
 use codes::refusal::Refusal;
 use codes::table;
-use file_syntax::cursor::{Cursor, Refused, place_of};
+use file_syntax::cursor::{Cursor, Refused, Source, place_of};
 use file_syntax::statements::body;
 use header::header;
 use lists::lists;
@@ -46,7 +46,7 @@ fn own_statements(
     access::put(table, table::STATEMENTS, low(place_of(so_far)));
     let names = access::u16_at(stream, codes::header::NAMES);
     let count = access::u16_at(stream, codes::header::STATEMENTS);
-    let end = body(stream, names, count, so_far?)?;
+    let end = body(&Source { stream, names }, count, so_far?)?;
     tail(stream, end)
 }
 

@@ -1,5 +1,5 @@
 // The list of names. The table keeps where the length byte of each stands; a spelling that stands there already is found on
-// the chain of its hash.
+// the chain of its hash. The stream, the reading so far, the table and the chains are four parameters, for the reason of lists.rt.
 ghost use Rattle.std.specs.Prelude.{◌≡◌, ◌+◌, ◌%◌, ◌≤◌, ◌<◌};
 ghost use Rattle.file_section.specs.Names.{reading, rest_alike, alike, known, spelling, name_at, names};
 ghost use Rattle.file_section.specs.Chains.{Hashed, Linked};
