@@ -12,18 +12,13 @@ use file_syntax::cursor::{Cursor, Refused, below, place_of, refuse, skip};
 // A name has fewer letters than this.
 const LETTERS: u64 = 25;
 
-// Bytes 2 up to n of two places. By their numbers and not as slices, since a place may lie past the stream's end.
-#[tactic(auto, using(crate::proofs::NameLaws::agree_laws))]
+// The bytes from the second up to a count, of two places. By their numbers and not as slices, since a place may lie past the stream's end.
 fn rest_alike(stream: &[u8], place: usize, other: usize, count: u64) -> bool
     requires { count < 256 }
     ensures { result ≡ rest_alike stream.now place other count }
 {
-    for i in 2..count as usize + 1 {
-        if access::byte(stream, place, i) != access::byte(stream, other, i) {
-            return false;
-        }
-    }
-    true
+    (2..count as usize + 1).all(|index| access::byte(stream, place, index)
+        == access::byte(stream, other, index))
 }
 
 // Whether the names at two places, each a length byte and its bytes, are spelled alike.
