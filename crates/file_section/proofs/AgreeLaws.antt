@@ -42,6 +42,7 @@ agree_is s a b n r f =
       where
         h : f.0 < n - 1
         h = rw (length-range_with_len 2 (n - 1)) at f.1
+
         differ : (t : Bool) → agree (n - 1) 2 s a b ≡ t → false ≡ t
         differ true e = absurd ((rw (at_place f.0 h) at (f.2 0)) (agree_at (n - 1) 2 f.0 s a b e h))
         differ false e = refl

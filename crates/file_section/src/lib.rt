@@ -55,10 +55,6 @@ fn own_statements(
 pub fn read_stream(stream: &[u8], table: &mut [u16; table::LENGTH]) -> Result<(), Refusal>
     ensures { answer (number_or_zero result) table.new ≡ read_stream stream.now table.old }
 {
-    // Called from two places, the header is not compiled into what follows, which is faster without it.
-    if stream.len() < codes::header::LENGTH {
-        header(stream)?;
-    }
     let head = header(stream)?;
     let count = access::u16_at(stream, codes::header::NAMES) as usize;
     let named = names(stream, count, Ok(head), table);
