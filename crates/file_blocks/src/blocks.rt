@@ -16,7 +16,7 @@ pub const PAYLOAD: usize = 510;
 pub const LONGEST_FILE: usize = 65536;
 
 // So many bytes of a file are enough to refuse it as too long.
-pub const TOO_LONG: usize = LONGEST_FILE + 1;
+pub const TOO_LONG_FILE: usize = LONGEST_FILE + 1;
 
 pub const LONGEST_STREAM: usize = 65280;
 
