@@ -3,7 +3,7 @@
 use mathlib.Core.Path.{◌≡◌, refl, sym, ◌∙◌, ap}
 use mathlib.Core.Bool.{Bool, true, false}
 use mathlib.Core.List.{List, [], ◌∷◌, map}
-use mathlib.Core.Option.{Option, none, some}
+use mathlib.Core.Option.{Option, some}
 use Prim.Native.Nat.{ℕ, zero, suc, ◌+◌, ◌*◌, ◌≤◌, ◌<◌}
 use native.Mathlib.Omega.{arith}
 use lib.ListN.{length, get_or, drop, get_elem?}
@@ -17,7 +17,7 @@ use Rattle.access.specs.Le.{le16, le32, le64}
 use Rattle.file_syntax.specs.Cursors.{Cursor}
 use Rattle.file_refinement.specs.Holds.{absent_at}
 use Rattle.file_refinement.proofs.Agree.{Agrees, went, stopped, Any, Number, NumberOr, Tests, le, le_16, u8_at, u8_cut, up_to_lem, naming-below, u16_agrees, u8_agrees, u16or_agrees, skip_agrees}
-use Rattle.file_refinement.proofs.AgreeCode.{OneOf, one_of_agrees, args_agrees, list_agrees, expr_agrees, jump_agrees, target_agrees, statement_agrees}
+use Rattle.file_refinement.proofs.AgreeCode.{past, OneOf, one_of_agrees, args_agrees, list_agrees, expr_agrees, jump_agrees, target_agrees, statement_agrees}
 
 never : {A : Type 0} {r : Refusal} {a : A} {t : List ℕ} → refused r ≡ parsed a t → ⊥
 never {A} {r} {a} {t} h = let z : ◌≡◌ {A = ℕ} 0 1 = cc in omega (arith, z)
@@ -634,11 +634,6 @@ statement_at s m n p x t i h =
 pub record Begun (s : List ℕ) (p n : ℕ) : Type 0 where
   pub known : get_or s p 0 < n
   pub inside : p < length s
-
-past : {A : Type 0} (l : List A) (b : ℕ) → length l ≤ b → get_elem? l b ≡ none
-past [] b h = refl
-past (x ∷ l) zero h = absurd (omega arith)
-past (x ∷ l) (suc b) h = past l b (omega arith)
 
 begun : {A : Type 0} (s : List ℕ) (p n : ℕ) (alternatives : List (Read A)) (x : A) (t : List ℕ) → length alternatives ≡ n → d.code alternatives (drop p s) ≡ parsed x t → Begun s p n
 unfolding choose

@@ -4,6 +4,7 @@ use mathlib.Core.Path.{◌≡◌, refl, sym, ◌∙◌, subst}
 use mathlib.Core.List.{List, [], ◌∷◌}
 use native.Mathlib.Omega.{arith}
 use lib.ListN.{length, get_or, drop, take}
+use lib.Seq.{take-length}
 use Rattle.access.specs.Le.{le16}
 use Rattle.prelude.specs.Base.{sum}
 use Rattle.definition.specs.Ast.{Macro, Section}
@@ -26,10 +27,6 @@ use Rattle.resolve_refinement.proofs.Sections.{Walks}
 use Rattle.expr_refinement.specs.Encoding.{BitRangesFit}
 use Rattle.stmt_refinement.specs.Standing.{walk_of}
 
-all_taken : {A : Type 0} (xs : List A) → take (length xs) xs ≡ xs
-all_taken [] = refl
-all_taken (x ∷ xs) = rw (all_taken xs)
-
 module _ (s t : List ℕ) (sec : Section) (holds : Holds s t sec) (within : WithinLimits sec) (tables : TablesNamed sec) (ranges : BitRangesFit sec) (short : length s ≤ 65280) (a m : List ℕ) (room : length sec.subtables ≤ length a / 24) where
   start_between : Between s t (room_of sec a m) (front_of sec a) (tail_of sec a) m 0 (start_env (w.pointer_size s t)) start_scope (start_beside sec) (at_start sec)
   unfolding at_start labels_placed sum
@@ -44,7 +41,7 @@ module _ (s t : List ℕ) (sec : Section) (holds : Holds s t sec) (within : With
   ordinals = ordinal_is sec.macros ∙ sym holds.own_ordinal
 
   few_ordinals : d.ordinal_after sec.macros ≤ 131072
-  few_ordinals = subst (λ (xs : List Macro). d.ordinal_after xs ≤ 131072) (all_taken sec.macros) (ordinal-small s t sec holds (length sec.macros))
+  few_ordinals = subst (λ (xs : List Macro). d.ordinal_after xs ≤ 131072) (take-length sec.macros) (ordinal-small s t sec holds (length sec.macros))
 
   pub section_walks : ((deep : ℕ) → EnterFollows s t (room_of sec a m) (front_of sec a) (tail_of sec a) m 0 deep → StatementFollows s t (room_of sec a m) (front_of sec a) (tail_of sec a) m 0 deep) → Walks s t sec a m
   section_walks statements =
