@@ -63,7 +63,7 @@ pub fn put<T: Number>(list: &mut [T], index: usize, value: T)
     }
 }
 
-// The element i after a position, whose sum need not be a number that the machine has.
+// The element of an index after a position, where the sum of both need not be a number that the machine has.
 #[tactic(auto, using(crate::proofs::Laws::past_end))]
 pub fn get_in<T: Number>(list: &[T], at: usize, index: usize) -> T
     ensures { result ≡ get_or list.now (at + index) T.zero }
@@ -89,7 +89,7 @@ pub fn byte(bytes: &[u8], at: usize, index: usize) -> u64
     u64::from(get_in(bytes, at, index))
 }
 
-// The number of two bytes, i after a position. Where the second is past the end, it is the first alone.
+// The number of two bytes at an index after a position. Where the second is past the end, it is the first alone.
 #[tactic(auto, using(crate::proofs::Laws::last_law))]
 pub fn u16_in(bytes: &[u8], at: usize, index: usize) -> u64
     requires { index < 16 }
@@ -101,7 +101,7 @@ pub fn u16_in(bytes: &[u8], at: usize, index: usize) -> u64
     byte(bytes, at, index)
 }
 
-// The number of four bytes, i after a position.
+// The number of four bytes at an index after a position.
 #[tactic(auto, using(crate::proofs::Laws::quad_law))]
 fn quad(bytes: &[u8], at: usize, index: usize) -> u64
     requires { index < 8 }
@@ -143,7 +143,7 @@ pub fn zero_from(list: &mut [u64], from: usize)
     }
 }
 
-// The low n bits set, all 64 from n = 64.
+// So many low bits set, all 64 from 64 on.
 #[tactic(auto, using(crate::proofs::Laws::mask_laws))]
 pub fn mask(bits: u64) -> u64
     ensures { result ≡ mask_of bits }

@@ -21,7 +21,7 @@ use expr_terms::address::resolve_address;
 use expr_terms::answers::{Resolved, after};
 use expr_terms::calls::{Call, Callee, applied, call_user_op, callee_of, subpiece};
 use expr_terms::slices::slice_bits;
-use file_syntax::cursor::{Cursor, place_of};
+use file_syntax::cursor::{Cursor, Source, place_of};
 use list_pushes::push::{Context, Operation, State};
 use list_values::value::Value;
 
@@ -143,7 +143,8 @@ pub fn skip_expr(stream: &[u8], pos: usize) -> usize
 {
     let start = Cursor { at: pos, val: 0 };
     let names = access::u16_at(stream, header::NAMES);
-    place_of(file_syntax::expressions::expr(DEPTH, stream, names, start))
+    let source = Source { stream, names };
+    place_of(file_syntax::expressions::expr(DEPTH, &source, start))
 }
 
 // The six greater operators swap their operands before either is resolved.

@@ -15,6 +15,9 @@ pub const PAYLOAD: usize = 510;
 // The bytes of the longest file, and of the longest stream.
 pub const LONGEST_FILE: usize = 65536;
 
+// So many bytes of a file are enough to refuse it as too long.
+pub const TOO_LONG_FILE: usize = LONGEST_FILE + 1;
+
 pub const LONGEST_STREAM: usize = 65280;
 
 // The sum of a payload is taken in two parts of which the first has so many bytes.
@@ -56,8 +59,8 @@ pub fn check_blocks(file: &[u8]) -> Result<(), Refusal>
     Ok(())
 }
 
-// The payloads of the whole blocks of a file, joined. One number places a payload on both sides, and it says what stands behind
-// the last; pairs of chunks would leave that to be shown.
+// The payloads of the whole blocks of a file, joined. Tried by pairs of chunks (`chunks_exact_mut` with `zip`), and the proof did
+// not close: what stands behind the last payload goes through each chunk's loan. One number places a payload on both sides.
 pub fn join(file: &[u8], stream: &mut [u8])
     requires { length file.now / 512 * 510 ≤ length stream.old }
     ensures { stream.new ≡ joined (length file.now / 512) file.now ++ drop (length file.now / 512 * 510) stream.old }

@@ -5,7 +5,7 @@ use mathlib.Core.List.{List, [], ◌∷◌, map}
 use mathlib.Core.Option.{none, some}
 use Prim.Native.Nat.{ℕ, zero, suc, ◌+◌, ◌≤◌, ◌<◌}
 use native.Mathlib.Omega.{arith}
-use lib.ListN.{length, get_or, drop, get_elem?}
+use lib.ListN.{length, get_or, drop, get_elem?, length-map}
 use lib.Dec.{leb, ltb}
 use borrow.Author.Tests.{ltb-true, ltb-false, leb-true, leb-false}
 use Rattle.prelude.specs.Base.{when◌then◌else◌}
@@ -45,15 +45,11 @@ code_agrees s {A} P alternatives f n p v b st past k = go (leb (p + 1) (length s
         let o : p + 1 ≡ suc p = omega arith in
         rw (u8_at s p (omega arith), h, g, o) (k (get_or s p 0) (ltb-true _ _ g) refl (omega arith))
 
+-- past the end of a list there is none
 pub past : {A : Type 0} (l : List A) (b : ℕ) → length l ≤ b → get_elem? l b ≡ none
 past [] b h = refl
 past (x ∷ l) zero h = absurd (omega arith)
 past (x ∷ l) (suc b) h = past l b (omega arith)
-
-past_map : {A B : Type 0} (f : A → B) (l : List A) (b : ℕ) → length l ≤ b → get_elem? (map f l) b ≡ none
-past_map f [] b h = refl
-past_map f (x ∷ l) zero h = absurd (omega arith)
-past_map f (x ∷ l) (suc b) h = past_map f l b (omega arith)
 
 pick : {A : Type 0} (things : List A) (b : ℕ) → b < length things → (a : A) × (get_elem? things b ≡ some a) × ((u : List ℕ) → choose (get_elem? (map (λ (x : A). pure x) things) b) u ≡ parsed a u)
 unfolding choose
@@ -73,7 +69,7 @@ pub one_of_agrees : (s : List ℕ) {A : Type 0} (things : List A) (p v : ℕ) �
 unfolding d.one_of
 one_of_agrees s {A} things p v b =
     code_agrees s (OneOf s things p) (map (λ (x : A). pure x) things) (λ c. c) (length things) p v b stuck_same
-    (λ n h. past_map (λ (x : A). pure x) things n h)
+    (λ n h. past (map (λ (x : A). pure x) things) n (rw (length-map things (λ (x : A). pure x)) h))
     (λ n h e i. let k = pick things n h in went k.0 (suc p) n i (record { is = rw (← e) k.1; next = refl }) (k.2 _) refl)
 
 -- The fields.
@@ -216,7 +212,7 @@ expr_agrees s m zero = record {
   stuck = stuck_expr zero s m;
   agrees = λ q v b.
       code_agrees s Any (map (λ (_ : Read PcodeExpr). refuse outside_limit) (d.exprs m (refuse outside_limit))) (w.refuse 4) 9 q v b (stuck_refuse 4)
-      (λ n h. past_map (λ (_ : Read PcodeExpr). refuse outside_limit) (d.exprs m (refuse outside_limit)) n h)
+      (λ n h. past (map (λ (_ : Read PcodeExpr). refuse {A = PcodeExpr} outside_limit) (d.exprs m (refuse outside_limit))) n h)
       (λ n h z i. stopped outside_limit (suc q) (deepest s (d.exprs m (refuse outside_limit)) n q h _) (refuse-four (suc q) n));
 }
 expr_agrees s m (suc depth) = record {

@@ -24,7 +24,7 @@ pub both : (b x : Bool) → (when b then x else false) ≡ true → (b ≡ true)
 both true x e = (refl, e)
 both false x e = let z : ◌≡◌ {A = ℕ} 0 1 = cc in absurd (omega arith)
 
-agree_at : (n i k : ℕ) (s : List ℕ) (a b : ℕ) → agree n i s a b ≡ true → k < n → get_or s (a + (i + k)) 0 ≡ get_or s (b + (i + k)) 0
+pub agree_at : (n i k : ℕ) (s : List ℕ) (a b : ℕ) → agree n i s a b ≡ true → k < n → get_or s (a + (i + k)) 0 ≡ get_or s (b + (i + k)) 0
 unfolding agree
 agree_at zero i k s a b e l = absurd (omega arith)
 agree_at (suc n) i zero s a b e l = let p = both _ _ e in rw add-zero (eqb-true _ _ p.0)

@@ -5,3 +5,4 @@ mod ChainLaws
 mod ListLaws
 mod RefusedLaws
 mod ZeroLaws
+mod AgreeLaws

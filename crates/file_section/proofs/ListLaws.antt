@@ -2,6 +2,7 @@
 use mathlib.Core.Path.{◌≡◌, refl}
 use mathlib.Core.List.{List}
 use Prim.Native.Nat.{ℕ, ◌+◌, ◌-◌, ◌*◌, ◌%◌, ◌≤◌, ◌<◌}
+use native.Mathlib.Omega.{arith}
 use lib.ListN.{set}
 use Rattle.access.specs.Le.{le16}
 use Rattle.file_syntax.specs.Cursors.{Cursor}
@@ -15,8 +16,10 @@ pub macro_opened : (s : List ℕ) (m i : ℕ) (c : Cursor) (t : List ℕ) → ma
 unfolding macro
 macro_opened s m i c t = refl
 
-pub list_law : (s : List ℕ) (k n i l : ℕ) (c₀ c : Cursor) (t₀ t1 t : List ℕ) → l ≡ c₀.at % 65536 → t1 ≡ set t₀ (3328 + k) l → (n ≡ le16 s (4 + 2 * k)) × (n < 65536) → n ≤ i → run (n - i) i (entry k s) (reading c t) ≡ run n 0 (entry k s) (reading c₀ t1) → reading c t ≡ list s k (reading c₀ t₀)
+pub list_law : (s : List ℕ) (k n m i l : ℕ) (c₀ c : Cursor) (t₀ t1 t : List ℕ) → l ≡ c₀.at % 65536 → t1 ≡ set t₀ (3328 + k) l → (m ≡ le16 s (4 + 2 * k)) × (m < 65536) → n ≡ m % 65536 → n ≤ i → run (n - i) i (entry k s) (reading c t) ≡ run n 0 (entry k s) (reading c₀ t1) → reading c t ≡ list s k (reading c₀ t₀)
 unfolding list
-list_law s k n i l c₀ c t₀ t1 t p q hn h e = rw (← p, ← q, ← hn.0) (run_end n i (entry k s) _ _ h e)
+list_law s k n m i l c₀ c t₀ t1 t p q hm z h e =
+    let z' : n ≡ m = omega arith in
+    rw (← p, ← q, ← hm.0, ← z') (run_end n i (entry k s) _ _ h e)
 
 pub ruleset list_laws = (list_law, run_start, run_again)

@@ -1,14 +1,16 @@
 -- Bytes that are all zero, by eight at a time.
-use mathlib.Core.Path.{◌≡◌, refl, sym, ◌∙◌}
+use mathlib.Core.Path.{◌≡◌, refl, sym, ◌∙◌, ap}
 use mathlib.Core.Bool.{Bool, true, false}
 use mathlib.Core.List.{List, [], ◌∷◌, ◌++◌}
-use Prim.Native.Nat.{ℕ, zero, suc, ◌+◌, ◌-◌, ◌%◌, ◌<◌}
+use Prim.Native.Nat.{ℕ, zero, suc, ◌+◌, ◌-◌, ◌*◌, ◌/◌, ◌≤◌, ◌<◌}
 use native.Mathlib.Omega.{arith}
-use lib.ListN.{length, get_or, take, drop, length-drop, length-append, drop_of_length-le}
-use lib.Seq.{take_all, drop-cons, drop-drop, drop_at}
+use lib.ListN.{length, get_or, take, drop, length-drop, take-append-drop, drop_of_length-le}
+use lib.Seq.{take_all, drop-cons, drop-drop, length-take-le}
 use lib.Dec.{eqb}
 use borrow.Author.Tests.{eq-eqb, eqb-true}
 use Rattle.std.specs.Bool.{MatchBool}
+use Rattle.std.specs.Int.{w64, from_le_bytes}
+use Rattle.std.specs.Simd.{first_chunks}
 use Rattle.std.specs.List.{AllWithin, HoldsAt}
 use Rattle.prelude.specs.Base.{when◌then◌else◌}
 use Rattle.access.specs.Le.{le16, le32, le64}
@@ -66,30 +68,38 @@ eight_clear b l e =
     let n = no_byte b e in
     sym (clear_drop 8 0 b (omega arith)) ∙ rw (n.0, n.1, n.2, n.3, n.4, n.5, n.6, n.7)
 
--- eight bytes more
-pub word_clear : (left word rest : List ℕ) (v : ℕ) (w : Bool) → left ≡ word ++ rest → length word ≡ 8 → v ≡ le64 word 0 → v ≡ 0 → clear left ≡ w → clear rest ≡ w
-word_clear left word rest v w e l p z g = rw (e, clear_append word rest, eight_clear word l (sym p ∙ z)) at g
+le_eight : (b : List ℕ) → from_le_bytes w64 b ≡ le64 b 0
+unfolding le64 le32 le16
+le_eight b = omega arith
 
-pub word_not_clear : (left word rest : List ℕ) (v : ℕ) (w : Bool) → left ≡ word ++ rest → v ≡ le64 word 0 → (v ≡ 0 → ⊥) → clear left ≡ w → false ≡ w
-word_not_clear left word rest v w e p z g = go (clear word) refl
+-- words of eight bytes that are all zero, and one that is not
+words_clear : (k : ℕ) (s : List ℕ) → 8 * k ≤ length s → ((j : ℕ) → j < k → from_le_bytes w64 (get_or (first_chunks 8 k s) j []) ≡ 0) → clear s ≡ clear (drop (k * 8) s)
+words_clear zero s h f = refl
+words_clear (suc k) s h f =
+    let l : length (take 8 s) ≡ 8 = length-take-le 8 s (omega arith) in
+    let w : clear (take 8 s) ≡ true = eight_clear (take 8 s) l (sym (le_eight (take 8 s)) ∙ f 0 (omega arith)) in
+    let r : clear (drop 8 s) ≡ clear (drop (k * 8) (drop 8 s)) = words_clear k (drop 8 s) (omega (arith, h, length-drop 8 s)) (λ j g. f (suc j) (omega arith)) in
+    let n : 8 + k * 8 ≡ suc k * 8 = omega arith in
+    ap clear (sym (take-append-drop 8 s)) ∙ clear_append (take 8 s) (drop 8 s) ∙ rw w (r ∙ rw (drop-drop, n))
+
+clear_parts : (s : List ℕ) → clear s ≡ true → (clear (take 8 s) ≡ true) × (clear (drop 8 s) ≡ true)
+clear_parts s e = both _ _ (sym (clear_append (take 8 s) (drop 8 s)) ∙ ap clear (take-append-drop 8 s) ∙ e)
+
+word_not_clear : (k : ℕ) (s : List ℕ) (j : ℕ) → j < k → (from_le_bytes w64 (get_or (first_chunks 8 k s) j []) ≡ 0 → ⊥) → clear s ≡ true → ⊥
+word_not_clear zero s j h f e = absurd (omega (arith, h))
+word_not_clear (suc k) s zero h f e = f (le_eight (take 8 s) ∙ clear_eight (take 8 s) (clear_parts s e).0)
+word_not_clear (suc k) s (suc j) h f e = word_not_clear k (drop 8 s) j (omega arith) f (clear_parts s e).1
+
+-- what `all` says of the words
+pub words_are : (s : List ℕ) (ws : List (List ℕ)) (r : Bool) → ws ≡ first_chunks 8 (length s / 8) s → length ws ≡ length s / 8 →
+    MatchBool r (AllWithin (λ w. from_le_bytes w64 w ≡ 0) ws 0 (length ws)) ((k : ℕ) × (k < length ws) × HoldsAt (λ w. from_le_bytes w64 w ≡ 0 → ⊥) ws k) →
+    MatchBool r (clear s ≡ clear (drop (length s / 8 * 8) s)) (false ≡ clear s)
+words_are s ws true e l f = words_clear (length s / 8) s (omega arith) (λ j h. rw e at (f j [] (omega arith) (omega (arith, l))))
+words_are s ws false e l f = go (clear s) refl
   where
-    go : (b : Bool) → clear word ≡ b → false ≡ w
-    go true f = absurd (z (p ∙ clear_eight word f))
-    go false f = rw (e, clear_append word rest, f) at g
-
--- what is behind the last eight
-pub last_more : (left word rest last : List ℕ) → left ≡ word ++ rest → length word ≡ 8 → drop (length left - length left % 8) left ≡ last → drop (length rest - length rest % 8) rest ≡ last
-last_more left word rest last e l g =
-    let n : length left ≡ 8 + length rest = rw (e, length-append, l) in
-    let m : length left - length left % 8 ≡ 8 + (length rest - length rest % 8) = omega arith in
-    let d : drop 8 left ≡ rest = rw e (drop_at word rest 8 l) in
-    let t : drop (length rest - length rest % 8) (drop 8 left) ≡ last = rw drop-drop (rw m at g) in
-    rw d at t
-
-pub last_left : (left last : List ℕ) (w : Bool) → length left < 8 → drop (length left - length left % 8) left ≡ last → clear left ≡ w → clear last ≡ w
-last_left left last w h g e =
-    let z : length left - length left % 8 ≡ 0 = omega arith in
-    rw (← (rw z at g)) e
+    go : (b : Bool) → clear s ≡ b → false ≡ b
+    go true z = absurd (word_not_clear (length s / 8) s f.0 (omega (arith, l, f.1)) (rw e at (f.2 [])) z)
+    go false z = refl
 
 clear_each : (s : List ℕ) → ((k : ℕ) → k < length s → get_or s k 0 ≡ 0) → clear s ≡ true
 unfolding clear

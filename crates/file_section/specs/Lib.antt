@@ -2,6 +2,5 @@
 pub mod Names
 pub mod Chains
 pub mod Headers
-pub mod Kinds
 pub mod Lists
 pub mod Stream

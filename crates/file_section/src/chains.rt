@@ -1,5 +1,5 @@
-// Chains of the names whose spellings have the same hash: of 1,280 numbers the one at j is 1 + the name before name j on its
-// chain, and the one at 1,024 + h is 1 + the last name whose hash is h; 0 for none. Indices in fixed memory, since the library
+// Chains of the names whose spellings have the same hash: of 1,280 numbers the one at a name's index is 1 + the name before it on
+// its chain, and the one at 1,024 + a hash is 1 + the last name that has it; 0 for none. Indices in fixed memory, since the library
 // lends no heap. `Linked` and `Hashed` are asked of functions and are no invariants of a type: they speak of the stream and of
 // the table too, which others hold.
 ghost use Rattle.std.specs.Prelude.{◌≡◌, ◌+◌, ◌<◌, get_or};
@@ -13,7 +13,7 @@ pub const LAST: usize = 1024;
 
 pub const CHAINS: usize = 1280;
 
-// What the hash of the name at p is made of: the four bytes up to its last letter (of three letters, with the length byte),
+// What the hash of the name at a place is made of: the four bytes up to its last letter (of three letters, with the length byte),
 // or of a name of fewer letters its length, first letter and last letter. A name whose last letter is 0, as that of one is
 // which the stream's end cuts, is taken like a short one, so that the four bytes always lie inside the stream.
 #[tactic(auto, using(crate::proofs::ChainLaws::key_laws))]
@@ -43,7 +43,7 @@ pub fn hash(stream: &[u8], at: usize) -> usize
     spread(key(stream, at))
 }
 
-// Name i put on the chain of the hash h.
+// A name put on the chain of its hash.
 #[tactic(auto, using(crate::proofs::ChainLaws::link_law))]
 pub fn link(chain: usize, index: usize, chains: &mut [u16])
     requires { (chain < 256) × (index < 1024) }

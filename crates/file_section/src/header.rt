@@ -4,20 +4,20 @@ ghost use Rattle.file_section.specs.Headers.{global_counts, counts, roles, heade
 ghost use Rattle.file_syntax.specs.Cursors.{u16};
 ghost use Rattle.file_syntax.specs.Reads.{good, to_cursor};
 
-use codes::limit::STATEMENTS;
+use codes::limit::{MACROS, NAMES, STATEMENTS};
 use codes::refusal::Refusal;
-use file_syntax::cursor::{Cursor, Refused, below, name, u16_or};
+use file_syntax::cursor::{Cursor, Refused, Source, below, name, u16_or};
 
 // The counts are below these: of names, as of registers, bit ranges and other symbols; of tables, as of user ops.
 const RULE_SETS: u64 = 1;
 
-const NAMES: u64 = 1025;
+const NAME_COUNTS: u64 = NAMES + 1;
 
 const SPACES: u64 = 9;
 
 const TABLES: u64 = 257;
 
-const MACROS: u64 = 129;
+const MACRO_COUNTS: u64 = MACROS + 1;
 
 const FIELDS: u64 = 65;
 
@@ -37,14 +37,14 @@ fn global_counts(stream: &[u8], cursor: Cursor) -> Result<Cursor, Refused>
     ensures { to_cursor result ≡ global_counts stream.now (good cursor) }
 {
     let rule_set = count(stream, RULE_SETS, cursor)?;
-    let names = count(stream, NAMES, rule_set)?;
+    let names = count(stream, NAME_COUNTS, rule_set)?;
     let spaces = count(stream, SPACES, names)?;
-    let registers = count(stream, NAMES, spaces)?;
-    let bit_ranges = count(stream, NAMES, registers)?;
+    let registers = count(stream, NAME_COUNTS, spaces)?;
+    let bit_ranges = count(stream, NAME_COUNTS, registers)?;
     let tables = count(stream, TABLES, bit_ranges)?;
     let user_ops = count(stream, TABLES, tables)?;
-    let macros = count(stream, MACROS, user_ops)?;
-    count(stream, NAMES, macros)
+    let macros = count(stream, MACRO_COUNTS, user_ops)?;
+    count(stream, NAME_COUNTS, macros)
 }
 
 // The counts of fields, subtables and statements.
@@ -63,12 +63,13 @@ fn roles(stream: &[u8], cursor: Cursor) -> Result<Cursor, Refused>
     ensures { to_cursor result ≡ roles stream.now (good cursor) }
 {
     let names = access::u16_at(stream, codes::header::NAMES);
+    let source = Source { stream, names };
     let spaces = access::u16_at(stream, codes::header::SPACES);
     let default_space = u16_or(stream, spaces, Refusal::NamesNothing, cursor)?;
-    let inst_start = name(stream, names, default_space)?;
-    let inst_next = name(stream, names, inst_start)?;
-    let constant = name(stream, names, inst_next)?;
-    name(stream, names, constant)
+    let inst_start = name(&source, default_space)?;
+    let inst_next = name(&source, inst_start)?;
+    let constant = name(&source, inst_next)?;
+    name(&source, constant)
 }
 
 #[tactic(auto, using(crate::proofs::RefusedLaws::passing), unfolding(crate::specs::Headers::header))]

@@ -21,7 +21,7 @@ ghost use Rattle.file_syntax.specs.Reads.{to_cursor};
 
 use codes::refusal::Refusal;
 use codes::table;
-use file_syntax::cursor::{Cursor, Refused, place_of};
+use file_syntax::cursor::{Cursor, Refused, Source, place_of};
 use file_syntax::statements::body;
 use header::header;
 use lists::lists;
@@ -46,7 +46,7 @@ fn own_statements(
     access::put(table, table::STATEMENTS, low(place_of(so_far)));
     let names = access::u16_at(stream, codes::header::NAMES);
     let count = access::u16_at(stream, codes::header::STATEMENTS);
-    let end = body(stream, names, count, so_far?)?;
+    let end = body(&Source { stream, names }, count, so_far?)?;
     tail(stream, end)
 }
 
@@ -55,10 +55,6 @@ fn own_statements(
 pub fn read_stream(stream: &[u8], table: &mut [u16; table::LENGTH]) -> Result<(), Refusal>
     ensures { answer (number_or_zero result) table.new ≡ read_stream stream.now table.old }
 {
-    // Called from two places, the header is not compiled into what follows, which is faster without it.
-    if stream.len() < codes::header::LENGTH {
-        header(stream)?;
-    }
     let head = header(stream)?;
     let count = access::u16_at(stream, codes::header::NAMES) as usize;
     let named = names(stream, count, Ok(head), table);

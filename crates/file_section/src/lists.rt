@@ -1,77 +1,58 @@
 // The lists of entries. Each entry begins with its name, which the table marks, so that a second one is found there:
-// globals from 1,024 on, fields and subtables from 2,048 on.
+// globals from 1,024 on, fields and subtables from 2,048 on. The stream, the reading so far and the table are three parameters:
+// a struct that held the table as `&mut` would need a clause more in each contract, that it still holds the same one.
 ghost use Rattle.std.specs.Prelude.{◌≡◌, ◌<◌};
+ghost use Rattle.codes.specs.Lists.{list_number};
 ghost use Rattle.file_section.specs.Names.{reading};
-ghost use Rattle.file_section.specs.Kinds.{number};
 ghost use Rattle.file_section.specs.Lists.{slot, stamp, mark, named, after, params, macro_head, noted, macro, entry, list, lists};
 ghost use Rattle.file_syntax.specs.Reads.{good, to_cursor};
 
 use crate::names::low;
 use codes::limit::STATEMENTS;
+use codes::list::List;
 use codes::refusal::Refusal;
 use codes::{header, table};
 use file_syntax::cursor::{
-    Cursor, Refused, below, bits, code, last_number, name, place_of, refuse, size, size_or,
+    Cursor, Refused, Source, below, bits, code, last_number, name, place_of, refuse, size, size_or,
     small_count,
 };
 use file_syntax::statements::body;
 
-// The lists, in the header's order.
-#[derive(Clone, Copy, Debug, PartialEq, Eq)]
-pub enum Kind {
-    Spaces = 0,
-    Registers = 1,
-    BitRanges = 2,
-    Tables = 3,
-    UserOps = 4,
-    Macros = 5,
-    Others = 6,
-    Fields = 7,
-    Subtables = 8,
-}
-
-const KINDS: [Kind; 9] = [
-    Kind::Spaces,
-    Kind::Registers,
-    Kind::BitRanges,
-    Kind::Tables,
-    Kind::UserOps,
-    Kind::Macros,
-    Kind::Others,
-    Kind::Fields,
-    Kind::Subtables,
+// In the header's order.
+const LISTS: [List; 9] = [
+    List::Spaces,
+    List::Registers,
+    List::BitRanges,
+    List::Tables,
+    List::UserOps,
+    List::Macros,
+    List::Others,
+    List::Fields,
+    List::Subtables,
 ];
-
-impl From<Kind> for usize {
-    ghost from_gives = { λ kind place. place ≡ number kind };
-
-    fn from(kind: Kind) -> usize {
-        kind as usize
-    }
-}
 
 // Where a list marks a name.
 #[tactic(auto, unfolding(crate::specs::Lists::slot))]
-fn slot(kind: Kind, name: u64) -> usize
-    ensures { result ≡ slot (number kind) name }
+fn slot(which: List, name: u64) -> usize
+    ensures { result ≡ slot (list_number which) name }
 {
     let name = (name % 65536) as usize;
-    match kind {
-        Kind::Fields | Kind::Subtables => table::LOCALS + name,
+    match which {
+        List::Fields | List::Subtables => table::LOCALS + name,
         _ => table::GLOBALS + name,
     }
 }
 
-// What a list marks the name of its entry i with.
+// What a list marks the name of an entry with.
 #[tactic(auto, unfolding(crate::specs::Lists::stamp))]
-fn stamp(kind: Kind, index: usize) -> u16
-    requires { index < 65536 }
-    ensures { result ≡ stamp (number kind) index }
+fn stamp(which: List, index: u16) -> u16
+    ensures { result ≡ stamp (list_number which) index }
 {
-    let word = match kind {
-        Kind::Fields => 1 + 2 * index,
-        Kind::Subtables => 2 + 2 * index,
-        _ => 1 + usize::from(kind) + 8 * index,
+    let index = usize::from(index);
+    let word = match which {
+        List::Fields => 1 + 2 * index,
+        List::Subtables => 2 + 2 * index,
+        _ => 1 + usize::from(which) + 8 * index,
     };
     low(word)
 }
@@ -87,77 +68,77 @@ fn mark(at: usize, value: u16, cursor: Cursor, table: &mut [u16]) -> Result<Curs
     Ok(cursor)
 }
 
-// The name of entry i of a list.
+// The name of an entry of a list.
 #[tactic(auto, using(crate::proofs::RefusedLaws::passing), unfolding(crate::specs::Lists::named))]
 fn named(
-    kind: Kind,
+    which: List,
     stream: &[u8],
-    index: usize,
+    index: u16,
     so_far: Result<Cursor, Refused>,
     table: &mut [u16],
 ) -> Result<Cursor, Refused>
-    requires { index < 65536 }
-    ensures { reading (to_cursor result) table.new ≡ named (number kind) stream.now index (reading (to_cursor so_far) table.old) }
+    ensures { reading (to_cursor result) table.new ≡ named (list_number which) stream.now index (reading (to_cursor so_far) table.old) }
 {
     let names = access::u16_at(stream, header::NAMES);
-    let found = name(stream, names, so_far?)?;
-    let place = slot(kind, found.val);
-    mark(place, stamp(kind, index), found, table)
+    let source = Source { stream, names };
+    let found = name(&source, so_far?)?;
+    let place = slot(which, found.val);
+    mark(place, stamp(which, index), found, table)
 }
 
 // What follows the name in an entry of a list that is no macro.
 #[tactic(auto, using(crate::proofs::RefusedLaws::passing), unfolding(crate::specs::Lists::after, crate::specs::Lists::after_name, crate::specs::Lists::which_of))]
-fn after(kind: Kind, stream: &[u8], cursor: Cursor) -> Result<Cursor, Refused>
-    ensures { to_cursor result ≡ after (number kind) stream.now (good cursor) }
+fn after(which: List, stream: &[u8], cursor: Cursor) -> Result<Cursor, Refused>
+    ensures { to_cursor result ≡ after (list_number which) stream.now (good cursor) }
 {
-    match kind {
-        Kind::Spaces => size(stream, code(stream, 3, cursor)?),
-        Kind::Registers => size(stream, cursor),
-        Kind::BitRanges => {
+    match which {
+        List::Spaces => size(stream, code(stream, 3, cursor)?),
+        List::Registers => size(stream, cursor),
+        List::BitRanges => {
             let registers = access::u16_at(stream, header::REGISTERS);
             bits(
                 stream,
                 below::<u16>(stream, registers, Refusal::NamesNothing, cursor)?,
             )
         }
-        Kind::Tables | Kind::Fields => size_or(stream, cursor),
-        Kind::UserOps | Kind::Macros | Kind::Others => Ok(cursor),
-        Kind::Subtables => {
+        List::Tables | List::Fields => size_or(stream, cursor),
+        List::UserOps | List::Macros | List::Others => Ok(cursor),
+        List::Subtables => {
             let tables = access::u16_at(stream, header::TABLES);
             below::<u16>(stream, tables, Refusal::NamesNothing, cursor)
         }
     }
 }
 
-// As many names as the cursor's number says; nothing is indexed by it.
+// As many names as the cursor's number says; no slice is gone through, and nothing is indexed by it.
 #[tactic(auto, using(crate::proofs::ChainLaws::run_laws), unfolding(crate::specs::Lists::params, file_syntax::specs::Expressions::counted))]
-fn params(stream: &[u8], names: u64, cursor: Cursor) -> Result<Cursor, Refused>
-    ensures { to_cursor result ≡ params stream.now names (good cursor) }
+fn params(source: &Source<'_>, cursor: Cursor) -> Result<Cursor, Refused>
+    ensures { to_cursor result ≡ params source.entry.now.stream.now source.entry.now.names (good cursor) }
 {
-    let n = cursor.val;
+    let count = cursor.val;
     let mut cursor = cursor;
-    for i in 0..n {
-        cursor = name(stream, names, cursor)?;
+    for index in 0..count {
+        cursor = name(source, cursor)?;
     }
     Ok(cursor)
 }
 
 // A macro's parameters and its count of statements.
 #[tactic(auto, using(crate::proofs::RefusedLaws::passing), unfolding(crate::specs::Lists::macro_head))]
-fn macro_head(stream: &[u8], names: u64, so_far: Result<Cursor, Refused>) -> Result<Cursor, Refused>
-    ensures { to_cursor result ≡ macro_head stream.now names (to_cursor so_far) }
+fn macro_head(source: &Source<'_>, so_far: Result<Cursor, Refused>) -> Result<Cursor, Refused>
+    ensures { to_cursor result ≡ macro_head source.entry.now.stream.now source.entry.now.names (to_cursor so_far) }
 {
-    let counted = small_count(stream, so_far?)?;
-    let named = params(stream, names, counted)?;
-    below::<u16>(stream, STATEMENTS, Refusal::OutsideLimit, named)
+    let counted = small_count(source.stream, so_far?)?;
+    let named = params(source, counted)?;
+    below::<u16>(source.stream, STATEMENTS, Refusal::OutsideLimit, named)
 }
 
-// Where macro i stands, its first ordinal, and the next free ordinal after its n statements.
+// Where a macro stands, its first ordinal, and the next free ordinal after its statements.
 #[tactic(auto, unfolding(crate::specs::Lists::noted))]
-fn note_macro(index: usize, at: usize, count: u64, table: &mut [u16])
-    requires { index < 65536 }
+fn note_macro(index: u16, at: usize, count: u64, table: &mut [u16])
     ensures { table.new ≡ noted index at count table.old }
 {
+    let index = usize::from(index);
     let first = access::get(table, table::FIRST_ORDINAL);
     access::put(table, table::MACROS + index, low(at));
     access::put(table, table::MACRO_ORDINALS + index, first);
@@ -170,58 +151,56 @@ fn note_macro(index: usize, at: usize, count: u64, table: &mut [u16])
 
 #[tactic(auto, using(crate::proofs::RefusedLaws::passing, crate::proofs::ListLaws::macro_opened))]
 fn macro_entry(
-    stream: &[u8],
-    names: u64,
-    index: usize,
+    source: &Source<'_>,
+    index: u16,
     so_far: Result<Cursor, Refused>,
     table: &mut [u16],
 ) -> Result<Cursor, Refused>
-    requires { index < 65536 }
-    ensures { reading (to_cursor result) table.new ≡ macro stream.now names index (reading (to_cursor so_far) table.old) }
+    ensures { reading (to_cursor result) table.new ≡ macro source.entry.now.stream.now source.entry.now.names index (reading (to_cursor so_far) table.old) }
 {
-    let head = macro_head(stream, names, so_far);
+    let head = macro_head(source, so_far);
     note_macro(index, place_of(so_far), last_number(head), table);
     let begun = head?;
-    body(stream, names, begun.val, begun)
+    body(source, begun.val, begun)
 }
 
-// Entry i of a list.
+// An entry of a list, by its number there.
 #[tactic(auto, using(crate::proofs::RefusedLaws::passing), unfolding(crate::specs::Lists::entry, crate::specs::Lists::rest_of))]
 fn entry(
-    kind: Kind,
+    which: List,
     stream: &[u8],
-    index: usize,
+    index: u16,
     so_far: Result<Cursor, Refused>,
     table: &mut [u16],
 ) -> Result<Cursor, Refused>
-    requires { index < 65536 }
-    ensures { reading (to_cursor result) table.new ≡ entry (number kind) stream.now index (reading (to_cursor so_far) table.old) }
+    ensures { reading (to_cursor result) table.new ≡ entry (list_number which) stream.now index (reading (to_cursor so_far) table.old) }
 {
-    let marked = named(kind, stream, index, so_far, table);
-    if let Kind::Macros = kind {
+    let marked = named(which, stream, index, so_far, table);
+    if let List::Macros = which {
         let names = access::u16_at(stream, header::NAMES);
-        return macro_entry(stream, names, index, marked, table);
+        return macro_entry(&Source { stream, names }, index, marked, table);
     }
-    after(kind, stream, marked?)
+    after(which, stream, marked?)
 }
 
 // A list, whose count stands in the header.
 #[tactic(auto, using(crate::proofs::ListLaws::list_laws))]
 fn list(
-    kind: Kind,
+    which: List,
     stream: &[u8],
     so_far: Result<Cursor, Refused>,
     table: &mut [u16],
 ) -> Result<Cursor, Refused>
-    ensures { reading (to_cursor result) table.new ≡ list stream.now (number kind) (reading (to_cursor so_far) table.old) }
+    ensures { reading (to_cursor result) table.new ≡ list stream.now (list_number which) (reading (to_cursor so_far) table.old) }
 {
-    let place = usize::from(kind);
+    let place = usize::from(which);
     access::put(table, table::LISTS + place, low(place_of(so_far)));
-    let n = access::u16_at(stream, header::SPACES + 2 * place) as usize;
+    let count = low(access::u16_at(stream, header::SPACES + 2 * place) as usize);
     let mut so_far = so_far;
-    // A refused entry goes on, since the table's promise says what the later ones leave in it too.
-    for i in 0..n {
-        so_far = entry(kind, stream, i, so_far, table);
+    // A refused entry goes on, since the table's promise says what the later ones leave in it too. The count is the file's, and
+    // no slice is gone through.
+    for index in 0..count {
+        so_far = entry(which, stream, index, so_far, table);
     }
     so_far
 }
@@ -236,8 +215,8 @@ pub fn lists(
     ensures { reading (to_cursor result) table.new ≡ lists stream.now (reading (to_cursor so_far) table.old) }
 {
     let mut so_far = so_far;
-    for &kind in &KINDS {
-        so_far = list(kind, stream, so_far, table);
+    for &which in &LISTS {
+        so_far = list(which, stream, so_far, table);
     }
     so_far
 }

@@ -1,5 +1,5 @@
 // The list of names. The table keeps where the length byte of each stands; a spelling that stands there already is found on
-// the chain of its hash.
+// the chain of its hash. The stream, the reading so far, the table and the chains stay parameters, for the reason in lists.rt.
 ghost use Rattle.std.specs.Prelude.{◌≡◌, ◌+◌, ◌%◌, ◌≤◌, ◌<◌};
 ghost use Rattle.file_section.specs.Names.{reading, rest_alike, alike, known, spelling, name_at, names};
 ghost use Rattle.file_section.specs.Chains.{Hashed, Linked};
@@ -12,18 +12,13 @@ use file_syntax::cursor::{Cursor, Refused, below, place_of, refuse, skip};
 // A name has fewer letters than this.
 const LETTERS: u64 = 25;
 
-// Bytes 2 up to n of two places. By their numbers and not as slices, since a place may lie past the stream's end.
-#[tactic(auto, using(crate::proofs::NameLaws::agree_laws))]
+// The bytes from the second up to a count, of two places: by their numbers and not as slices, since a place may lie past the end.
 fn rest_alike(stream: &[u8], place: usize, other: usize, count: u64) -> bool
     requires { count < 256 }
     ensures { result ≡ rest_alike stream.now place other count }
 {
-    for i in 2..count as usize + 1 {
-        if access::byte(stream, place, i) != access::byte(stream, other, i) {
-            return false;
-        }
-    }
-    true
+    (2..count as usize + 1).all(|index| access::byte(stream, place, index)
+        == access::byte(stream, other, index))
 }
 
 // Whether the names at two places, each a length byte and its bytes, are spelled alike.
@@ -44,7 +39,7 @@ pub fn low(place: usize) -> u16
     (place % 65536) as u16
 }
 
-// Whether one of the first n names is spelled as the one at p, whose hash is h.
+// Whether one of so many names is spelled as the one at a place, which belongs on that chain.
 #[tactic(auto, using(crate::proofs::ChainLaws::known_laws))]
 fn known(
     stream: &[u8],
@@ -69,7 +64,7 @@ fn known(
     false
 }
 
-// Name i: its length, 1 to 24, and its bytes.
+// A name by its index: its length, 1 to 24, and its bytes.
 #[tactic(auto, using(crate::proofs::RefusedLaws::passing), unfolding(crate::specs::Names::spelling, crate::specs::Names::letters))]
 fn spelling(
     stream: &[u8],
@@ -94,7 +89,7 @@ fn spelling(
     Ok(end)
 }
 
-// The hash of the name at q, given that of the name at p: the same place in a stream of fewer than 65,536 bytes.
+// The hash of the name at another place, given that at the first: the same one in a stream of fewer than 65,536 bytes.
 #[tactic(auto, using(crate::proofs::ChainLaws::hashed_same))]
 fn hash_at(stream: &[u8], at: usize, chain: usize, other: usize) -> usize
     requires { Hashed stream.now at chain }
@@ -107,7 +102,7 @@ fn hash_at(stream: &[u8], at: usize, chain: usize, other: usize) -> usize
     }
 }
 
-// Name i, and where it begins. Its chain goes by what the table then has there, so that nothing is asked of a table's length.
+// A name by its index, and where it begins. Its chain goes by what the table then has there, so that nothing is asked of a table's length.
 #[tactic(auto, using(crate::proofs::ChainLaws::name_laws))]
 fn name_at(
     stream: &[u8],
@@ -141,6 +136,7 @@ fn chained(
     ensures { reading (to_cursor result) table.new ≡ names stream.now count (reading (to_cursor so_far) table.old) }
 {
     let mut so_far = so_far;
+    // The count is the file's, and no slice is gone through.
     for i in 0..count {
         so_far = name_at(stream, i, so_far, table, chains);
     }

@@ -3,7 +3,6 @@ ghost use Rattle.std.specs.Prelude.{◌≡◌, ◌-◌, length};
 ghost use Rattle.file_section.specs.Stream.{zeros, tail};
 ghost use Rattle.file_syntax.specs.Reads.{good, to_cursor};
 
-use access::inside::eight;
 use codes::refusal::Refusal;
 use file_syntax::cursor::{Cursor, Refused, refuse};
 
@@ -11,14 +10,8 @@ use file_syntax::cursor::{Cursor, Refused, refuse};
 fn all_zeros(bytes: &[u8]) -> bool
     ensures { result ≡ zeros (length bytes.now) 0 bytes.now }
 {
-    let words = bytes.chunks_exact(8);
-    let last = words.remainder();
-    for word in words {
-        if eight(word, 0) != 0 {
-            return false;
-        }
-    }
-    last.iter().all(|&byte| byte == 0)
+    let (words, last) = bytes.as_chunks::<8>();
+    words.iter().all(|&word| u64::from_le_bytes(word) == 0) && last.iter().all(|&byte| byte == 0)
 }
 
 // Whether the stream is zero from a place on.

@@ -32,7 +32,7 @@ u8 s lim k c = number (get_or s c.at 0) 1 (length s) lim k c
 unfoldable pub u16 : List ℕ → ℕ → ℕ → Cursor → Cursor
 u16 s lim k c = number (le16 s c.at) 2 (length s) lim k c
 
--- what both are alike in
+-- what both are alike in; proved here, since the impls of `Field` name these two, and a ghost item names nothing of proofs/
 pub u8_is_number : (s : List ℕ) (lim k : ℕ) (c : Cursor) → u8 s lim k c ≡ number (get_or s c.at 0) 1 (length s) lim k c
 unfolding u8
 u8_is_number s lim k c = refl

@@ -16,6 +16,13 @@ use codes::refusal::Refusal;
 // First bits and bit counts are below this.
 const BITS: u64 = 8193;
 
+// A stream, and how many names it has: an index of a name is below that.
+#[derive(Clone, Copy)]
+pub struct Source<'a> {
+    pub stream: &'a [u8],
+    pub names: u64,
+}
+
 // Where the reading is, and the number read last.
 #[derive(Clone, Copy)]
 pub struct Cursor {
@@ -172,7 +179,7 @@ pub fn skip(stream: &[u8], count: usize, cursor: Cursor) -> Result<Cursor, Refus
     })
 }
 
-// One of n codes.
+// One of so many codes.
 pub fn code(stream: &[u8], count: u64, cursor: Cursor) -> Result<Cursor, Refused>
     ensures { to_cursor result ≡ code stream.now count (good cursor) }
 {
@@ -186,17 +193,17 @@ pub fn small_count(stream: &[u8], cursor: Cursor) -> Result<Cursor, Refused>
     below::<u8>(stream, 9, Refusal::OutsideLimit, cursor)
 }
 
-// One of m names.
-pub fn name(stream: &[u8], names: u64, cursor: Cursor) -> Result<Cursor, Refused>
-    ensures { to_cursor result ≡ name stream.now names (good cursor) }
+// One of the names.
+pub fn name(source: &Source<'_>, cursor: Cursor) -> Result<Cursor, Refused>
+    ensures { to_cursor result ≡ name source.entry.now.stream.now source.entry.now.names (good cursor) }
 {
-    below::<u16>(stream, names, Refusal::NamesNothing, cursor)
+    below::<u16>(source.stream, source.names, Refusal::NamesNothing, cursor)
 }
 
-pub fn name_or(stream: &[u8], names: u64, cursor: Cursor) -> Result<Cursor, Refused>
-    ensures { to_cursor result ≡ name_or stream.now names (good cursor) }
+pub fn name_or(source: &Source<'_>, cursor: Cursor) -> Result<Cursor, Refused>
+    ensures { to_cursor result ≡ name_or source.entry.now.stream.now source.entry.now.names (good cursor) }
 {
-    u16_or(stream, names, Refusal::NamesNothing, cursor)
+    u16_or(source.stream, source.names, Refusal::NamesNothing, cursor)
 }
 
 pub fn size(stream: &[u8], cursor: Cursor) -> Result<Cursor, Refused>

@@ -6,15 +6,12 @@
 
 use codes::refusal::Refusal;
 use codes::table;
-use file_blocks::blocks::{BLOCK, LONGEST_FILE, PAYLOAD, check_blocks, join};
+use file_blocks::blocks::{BLOCK, LONGEST_FILE, PAYLOAD, TOO_LONG_FILE, check_blocks, join};
 use std::alloc::{AllocError, Global};
 use std::io::{self, BufWriter, Read, Write};
 
 // So much of the input is read; zeros stand behind a shorter one.
 const INPUT: usize = 65536;
-
-// No file is longer: a byte more than the longest.
-const FILE: usize = LONGEST_FILE + 1;
 
 // What is left of the input, behind which stand zeros.
 #[derive(Clone, Copy)]
@@ -58,9 +55,9 @@ impl<'a> Input<'a> {
         }
     }
 
-    // The file of a description.
+    // The file of a description, at most a byte longer than the longest.
     fn file(&mut self, alloc: Global) -> Result<Vec<u8>, AllocError> {
-        let length = self.u32() as usize % (FILE + 1);
+        let length = self.u32() as usize % (TOO_LONG_FILE + 1);
         let mut file = vec![in alloc; 0u8; length]?;
         for _ in 0..self.u16() {
             self.run(&mut file);
@@ -88,7 +85,8 @@ fn seal(file: &mut [u8]) {
     }
 }
 
-// Why a file is refused, if it is.
+// Why a file is refused, if it is. `resolve_file::section::with_section` would say it too, but it stands above the whole walk, and
+// this is a program of the reader alone.
 fn refusal_of(alloc: Global, file: &[u8]) -> Result<Option<Refusal>, AllocError> {
     if let Err(refusal) = check_blocks(file) {
         return Ok(Some(refusal));

@@ -33,6 +33,7 @@ enum Hint {
     Return,
 }
 
+// The reader passes no hint above the third, so that each number has an answer.
 impl From<u64> for Hint {
     fn from(number: u64) -> Hint {
         match number {

@@ -4,12 +4,12 @@
 
 use accepted::Accepted;
 use codes::refusal::Refusal;
-use codes::{NONE, table};
-use file_blocks::blocks::{BLOCK, PAYLOAD, check_blocks, join};
+use codes::NONE;
 use list_values::section::Section;
 use mizgalon::Checked;
 use names::Names;
 use refusals::{Reason, Refused};
+use resolve_file::section::with_section;
 use section_argument::{ACTION_WORDS, Problem, Program, TEMPORARIES, arguments, read_section};
 use statements::Statement;
 use std::alloc::{AllocError, Global};
@@ -29,23 +29,6 @@ const LISTING: Program = Program {
     usage: "name one section file: listing FILE",
     list_full: "the section has more than 32,768 actions, for which it has no room",
 };
-
-// The stream of a file, unless the check of a block refuses it. `resolve_file::section::with_section` lends a section to a step
-// alone, and the borrow checker does not cover a step that prints.
-fn stream_of(alloc: Global, file: &[u8]) -> Result<Option<Vec<u8>>, AllocError> {
-    if check_blocks(file).is_err() {
-        return Ok(None);
-    }
-    let mut stream = vec![in alloc; 0u8; file.len() / BLOCK * PAYLOAD]?;
-    join(file, &mut stream);
-    Ok(Some(stream))
-}
-
-// The section of a stream, with the table that is filled for it, unless the stream is refused.
-fn section_of<'a>(stream: &'a [u8], table: &'a mut [u16; table::LENGTH]) -> Option<Section<'a>> {
-    file_section::read_stream(stream, table).ok()?;
-    Some(Section { stream, table })
-}
 
 // What a file is resolved to, and the checker's word on it.
 #[derive(Drop)]
@@ -114,13 +97,14 @@ fn print_file(rt: &(impl Files + Print + AllocGlobal), path: &[u8]) -> Result<()
         return Err(Problem::ListFull);
     }
     let mut out = BufWriter::new(rt.alloc(), io::writer(rt))?;
-    let stream = stream_of(rt.alloc(), &file)?;
-    let mut table = [0u16; table::LENGTH];
-    let section = match &stream {
-        Some(stream) => section_of(stream, &mut table),
-        None => None,
-    };
-    listing.print(&mut out, section)?;
+    let printed = with_section(
+        &file,
+        &mut |section: Section<'_>| listing.print(&mut out, Some(section)),
+    );
+    match printed {
+        Ok(printed) => printed?,
+        Err(_) => listing.print(&mut out, None)?,
+    }
     Ok(out.flush()?)
 }
 

@@ -4,6 +4,7 @@ use crate::statements::Statement;
 use codes::refusal::Refusal;
 use std::fmt;
 
+// A table and no `match`: one from numbers and one to meanings would have an arm for each refusal, more than a function has lines.
 static MEANINGS: [(Refusal, &str); 36] = [
     (
         Refusal::BadLength,

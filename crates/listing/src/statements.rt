@@ -2,7 +2,7 @@
 use crate::names::Name;
 use codes::limit::MACROS;
 use codes::{header, statement, table};
-use file_syntax::cursor::{Cursor, place_of};
+use file_syntax::cursor::{Cursor, Source, place_of};
 use list_values::section::Section;
 use listing_names::names::name_of;
 use std::fmt;
@@ -22,6 +22,7 @@ enum Kind {
     Label,
 }
 
+// The reader passes no code above a label's, so that each number has an answer.
 impl From<u64> for Kind {
     fn from(code: u64) -> Kind {
         match code {
@@ -76,8 +77,9 @@ pub(crate) struct Statement<'a> {
 // Where the statement stands that so many of those from a place on come before.
 fn after(stream: &[u8], at: usize, count: u64) -> usize {
     let names = access::u16_at(stream, header::NAMES);
+    let source = Source { stream, names };
     let cursor = Cursor { at, val: 0 };
-    place_of(file_syntax::statements::body(stream, names, count, cursor))
+    place_of(file_syntax::statements::body(&source, count, cursor))
 }
 
 // The number that stands in the table at a place.

@@ -30,7 +30,7 @@ fn spelled<'a>(stream: &'a [u8], at: usize) -> &'a [u8]
     name.get(..usize::from(*length)).unwrap_or(name)
 }
 
-// Name n.
+// The name of a number.
 pub fn name_of<'a>(section: Section<'a>, number: u64) -> &'a [u8]
     ensures { result.now ≡ name_of section.entry.stream.now section.entry.table.now number }
 {
@@ -38,13 +38,16 @@ pub fn name_of<'a>(section: Section<'a>, number: u64) -> &'a [u8]
     spelled(stream, usize::from(access::get(table, number as usize)))
 }
 
-// The name of the entry that begins so many bytes into list k.
+// The name of the entry that begins so many bytes into a list.
 fn name_in<'a>(section: Section<'a>, list: List, bytes: u64) -> &'a [u8]
     ensures { result.now ≡ name_in section.entry.stream.now section.entry.table.now (list_number list) bytes }
 {
     name_of(
         section,
-        access::u16_at(section.stream, entry(section.table, usize::from(list), bytes)),
+        access::u16_at(
+            section.stream,
+            entry(section.table, usize::from(list), bytes),
+        ),
     )
 }
 

@@ -3,14 +3,14 @@ ghost use Rattle.std.specs.Prelude.{◌≡◌};
 ghost use Rattle.listing_names.specs.Words.{word};
 ghost use Rattle.listing_names.specs.Operations.{operation_text};
 
-// Word n of words with a space between them; empty past the last.
+// The word of a number, of words with a space between them; empty past the last.
 fn word(words: &str, number: u64) -> &str
     ensures { result.now ≡ word number words.now }
 {
     words.split(' ').nth(number as usize).unwrap_or("")
 }
 
-// The name of operation op. A dash stands for a number that no operation has; past the last there is none.
+// The name of an operation. A dash stands for a number that no operation has; past the last there is none.
 pub fn operation(op: u64) -> &'static str
     ensures { result.now ≡ operation_text op }
 {

@@ -38,13 +38,8 @@ fn table_counts(section: Section<'_>) -> Counts
 pub fn section_counts(file: &[u8]) -> Counts
     ensures { result ≡ counts (subtable_count (read file.now)) (pointer_size_in (read file.now)) }
 {
-    let mut counts = NO_COUNTS;
-    let read = with_section(
-        file,
-        &mut |section: Section<'_>| counts = table_counts(section),
-    );
-    match read {
-        Ok(()) => counts,
+    match with_section(file, &mut |section: Section<'_>| table_counts(section)) {
+        Ok(counts) => counts,
         Err(_) => NO_COUNTS,
     }
 }

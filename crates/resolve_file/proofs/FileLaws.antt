@@ -2,27 +2,21 @@
 use mathlib.Core.Path.{◌≡◌, refl, sym, ap}
 use mathlib.Core.Bool.{Bool, true, false}
 use mathlib.Core.List.{List}
-use Prim.Native.Nat.{ℕ, ◌/◌, ◌<◌}
-use lib.ListN.{length, get_or, replicate}
+use Prim.Native.Nat.{ℕ, ◌/◌}
+use lib.ListN.{length, replicate}
 use lib.Dec.{eqb}
 use borrow.Author.Tests.{eqb-false}
 use Rattle.codes.specs.declared.refusal.Refusal.{Refusal}
 use Rattle.codes.specs.Refusals.{number}
 use Rattle.definition.specs.SectionFile.{stream_of}
-use Rattle.access.specs.Le.{le16}
 use Rattle.file_blocks.specs.Blocks.{refusal_of, joined}
 use Rattle.file_section.specs.Stream.{answer, read_stream}
 use Rattle.file_section.specs.Stream as streams
 use Rattle.resolve_file.specs.Sections.{GivenSection, read_table, read_file}
 use Rattle.resolve_file.proofs.SectionLaws.{not_zero}
 use Rattle.prelude.specs.Base.{when◌then◌else◌}
-use Rattle.list_pushes.specs.declared.push.Env.{Env}
-use Rattle.stmt_walk.specs.Outcomes.{Walk}
-use Rattle.stmt_walk.specs.Outcomes.{Step}
-use Rattle.stmt_walk.specs.Walks.{stepped, walked, without_p}
-use Rattle.stmt_bodies.specs.Statements.{resolve_body}
 use Rattle.resolve_answer.specs.Answers.{refused}
-use Rattle.resolve_file.specs.Files.{at_start, start_env, walk_section, resolve_section, resolve_read, resolve_stream, resolve_file}
+use Rattle.resolve_file.specs.Files.{resolve_section, resolve_read, resolve_stream, resolve_file}
 
 -- a file resolved by its section, and one that is refused
 pub by_section : (file stream table a m : List ℕ) → GivenSection file stream table → resolve_file file a m ≡ resolve_section stream table a m

@@ -124,20 +124,23 @@ fn resolve_section(
 }
 
 #[tactic(auto, using(crate::proofs::FileLaws::file_laws))]
+fn resolve_read(
+    file: &[u8],
+    actions: &mut [u64],
+    temporaries: &mut [u64],
+) -> Result<Answer, Rejected>
+    ensures { to_resolved result actions.new temporaries.new ≡ resolve_file file.now actions.old temporaries.old }
+{
+    with_section(
+        file,
+        &mut |section: Section<'_>| resolve_section(section, actions, temporaries),
+    )?
+}
+
 pub fn resolve_words(file: &[u8], actions: &mut [u64], temporaries: &mut [u64]) -> Answer
     ensures { resolved_to result actions.new temporaries.new ≡ resolve_file file.now actions.old temporaries.old }
 {
-    let mut outcome = Err(Rejected::from(Refusal::Malformed));
-    let read = with_section(
-        file,
-        &mut |section: Section<'_>| {
-            outcome = resolve_section(section, actions, temporaries);
-        },
-    );
-    if let Err(refusal) = read {
-        return refused(actions, temporaries, Rejected::from(refusal));
-    }
-    match outcome {
+    match resolve_read(file, actions, temporaries) {
         Ok(answer) => answer,
         Err(why) => refused(actions, temporaries, why),
     }

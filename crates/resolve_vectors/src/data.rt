@@ -1,12 +1,10 @@
 // The cases of the data, one after the other: each has a file, the lengths of the lists to lend, and the right answer.
 use crate::problem::Problem;
+use file_blocks::blocks::TOO_LONG_FILE;
 use std::alloc::{AllocError, Global};
 use std::fmt;
 
-// No case has a longer file than the longest and a byte more, or lends more than room for 5,461 actions and for twice the
-// temporaries that a section can have.
-const FILE: usize = 65537;
-
+// No case lends more than room for 5,461 actions and for twice the temporaries that a section can have.
 const ACTIONS: usize = 131072;
 
 const TEMPORARIES: usize = 1024;
@@ -155,10 +153,10 @@ impl<'a> Cases<'a> {
         Ok(file)
     }
 
-    // The next case.
+    // The next case. No case has a longer file than the longest and a byte more.
     pub(crate) fn case(&mut self, alloc: Global) -> Result<Case, Problem> {
-        let length = self.number(FILE)?;
-        let body = self.number(FILE)?;
+        let length = self.number(TOO_LONG_FILE)?;
+        let body = self.number(TOO_LONG_FILE)?;
         let lent_actions = self.number(ACTIONS)?;
         let lent_temporaries = self.number(TEMPORARIES)?;
         let case = Case {

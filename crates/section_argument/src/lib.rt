@@ -2,10 +2,11 @@
 // standard error where one cannot be had.
 #![tactic(auto)]
 
-ghost use Rattle.std.specs.Prelude.{◌≡◌, ◌≤◌, ◌↔◌, length, IfOk, IsErrOf, IsUtf8};
+ghost use Rattle.std.specs.Prelude.{◌≡◌, ◌≤◌, ◌↔◌, length, All, IfOk, IsErrOf, IsUtf8};
 ghost use Rattle.section_argument.specs.declared.Problem.TheVariants.{Failed, NotUtf8};
 ghost use Rattle.section_argument.specs.Problems.{IsFailed};
 
+use file_blocks::blocks::TOO_LONG_FILE;
 use std::alloc::{AllocError, AllocFailed, Global};
 use std::env::{Env, FillError};
 use std::io::{self, Read};
@@ -14,9 +15,6 @@ use std::{fmt, fs};
 
 // A path that the system takes is no longer.
 const PATH: usize = 4096;
-
-// A file of more than 65,536 bytes is not read to its end: one byte more is enough to refuse it.
-const FILE: u64 = 65537;
 
 // The words of room for 32,768 actions, and for all temporaries.
 pub const ACTION_WORDS: usize = 786432;
@@ -87,7 +85,8 @@ impl fmt::Display for Problem {
 impl Program {
     ghost use Rattle.std.specs.declared.io.Error.{Error};
 
-    // Says on standard error what ended the program early; a failure of memory or of the output is left to `main`.
+    // Says on standard error what ended the program early; a failure of memory or of the output is left to `main`. What is
+    // written on standard error, and whether it can be, the library does not promise.
     pub fn ended(self, rt: &impl Eprint, outcome: Result<(), Problem>) -> io::Result<()>
         ensures good { outcome ≡ Ok tt → result ≡ Ok tt }
         ensures failed { (error : Error) → outcome ≡ Err (Failed error) → result ≡ Err error }
@@ -109,9 +108,11 @@ impl Program {
     }
 }
 
-// The program's arguments, up to three of them, which the system gives by their numbers. One that is longer than a path can be makes the call a wrong one.
+// The program's arguments, up to three of them, which the system gives by their numbers. One that is longer than a path can be
+// makes the call a wrong one. No more can be promised: the library's `Env` says of an argument only that it fits the room for it.
 pub fn arguments(rt: &(impl Env + AllocGlobal)) -> Result<Vec<Vec<u8>>, Problem>
-    ensures { IfOk result (λ words. length words.items ≤ 3) }
+    ensures count { IfOk result (λ words. length words.items ≤ 3) }
+    ensures lengths { IfOk result (λ words. All (λ word. length word.items ≤ 4096) words.items) }
 {
     let mut words = Vec::new(rt.alloc());
     for index in 0..ARGUMENTS {
@@ -140,7 +141,8 @@ fn said_of(alloc: Global, path: &str, error: &io::Error) -> Result<String, Alloc
     format!(in alloc; "{path}: {}", words(said.as_str()))
 }
 
-// The bytes of the section file of that name, or as many as show that it is too long for one.
+// The bytes of the section file of that name, or as many as show that it is too long for one. The library's `Files` says of no
+// file what it holds, so that neither these bytes nor their number can be promised.
 pub fn read_section(rt: &(impl Files + AllocGlobal), path: &[u8]) -> Result<Vec<u8>, Problem>
     ensures { IsErrOf result NotUtf8 ↔ (IsUtf8 path.now → ⊥) }
 {
@@ -152,7 +154,7 @@ pub fn read_section(rt: &(impl Files + AllocGlobal), path: &[u8]) -> Result<Vec<
         Err(error) => return Err(Problem::CannotOpen(said_of(rt.alloc(), path, &error)?)),
     };
     let mut bytes = Vec::new(rt.alloc());
-    if let Err(error) = file.take(FILE).read_to_end(&mut bytes) {
+    if let Err(error) = file.take(TOO_LONG_FILE as u64).read_to_end(&mut bytes) {
         return Err(Problem::CannotRead(said_of(rt.alloc(), path, &error)?));
     }
     Ok(bytes)

@@ -15,7 +15,7 @@ abbrev pub decreases-longer : goal.decreases-longer
 decreases-longer l = l.depth + l.depth + l.depth
 
 abbrev pub invariant-exprs-loop-i : goal.invariant-exprs-loop-i
-invariant-exprs-loop-i l = (l.i ≤ l.n) × (l.n ≡ l.initial.cursor.val) × (run (l.n - l.i) l.i (λ _. e.expr l.depth l.stream l.names) (good l.cursor) ≡ run l.n 0 (λ _. e.expr l.depth l.stream l.names) (good l.initial.cursor))
+invariant-exprs-loop-i l = (l.i ≤ l.n) × (l.n ≡ l.initial.cursor.val) × (run (l.n - l.i) l.i (λ _. e.expr l.depth l.source.stream.now l.source.names) (good l.cursor) ≡ run l.n 0 (λ _. e.expr l.depth l.source.stream.now l.source.names) (good l.initial.cursor))
 
 abbrev pub decreases-exprs-loop-i : goal.decreases-exprs-loop-i
 decreases-exprs-loop-i l = l.n - l.i

@@ -6,7 +6,7 @@ use Rattle.file_syntax.specs.Reads.{good}
 use Rattle.file_syntax.proofs.statements.body.Given as goal
 
 abbrev pub invariant-loop-i : goal.invariant-loop-i
-invariant-loop-i l = (l.i ≤ l.count) × (run (l.count - l.i) l.i (λ _. words.statement l.stream l.names) (good l.cursor) ≡ run l.count 0 (λ _. words.statement l.stream l.names) (good l.initial.cursor))
+invariant-loop-i l = (l.i ≤ l.count) × (run (l.count - l.i) l.i (λ _. words.statement l.source.stream.now l.source.names) (good l.cursor) ≡ run l.count 0 (λ _. words.statement l.source.stream.now l.source.names) (good l.initial.cursor))
 
 abbrev pub decreases-loop-i : goal.decreases-loop-i
 decreases-loop-i l = l.count - l.i
