@@ -452,8 +452,8 @@ fn resolve_call(
     ensures { resolved (to_expr result) actions.new temporaries.new ≡ resolve_call (resolve_expr deep context.entry.now.section.stream.now context.entry.now.section.table.now scope.now context.entry.now.env) context.entry.now.section.stream.now context.entry.now.section.table.now scope.now context.entry.now.env pos actions.old temporaries.old state }
 {
     let name = u16_in(context.section.stream, pos, 1);
-    let count = access::byte(context.section.stream, pos, 3);
-    match callee_of(context.section, name, count)? {
+    let arguments = access::byte(context.section.stream, pos, 3);
+    match callee_of(context.section, name, arguments)? {
         Callee::Inbuilt(op) => {
             call_inbuilt(
                 deep,
@@ -461,17 +461,14 @@ fn resolve_call(
                 scope,
                 pos,
                 op,
-                count,
+                arguments,
                 actions,
                 temporaries,
                 state,
             )
         }
         Callee::UserOp(id) => {
-            let call = Call {
-                id,
-                arguments: count,
-            };
+            let call = Call { id, arguments };
             user_op(deep, context, scope, pos, call, actions, temporaries, state)
         }
         Callee::Local => subpiece(
@@ -481,7 +478,7 @@ fn resolve_call(
             temporaries,
             pos,
             name,
-            count,
+            arguments,
             state,
         ),
     }
