@@ -3,8 +3,8 @@
 #![tactic(auto)]
 
 use accepted::Accepted;
-use codes::refusal::Refusal;
 use codes::NONE;
+use codes::refusal::Refusal;
 use list_values::section::Section;
 use mizgalon::Checked;
 use names::Names;
@@ -87,6 +87,19 @@ impl Listing {
         };
         write!(out, "{accepted}")
     }
+
+    // With the file's section, if it is not refused. The borrow checker does not cover a step that prints to a writer that its own
+    // function has made, so this is a function over any writer.
+    fn print_file<W: Write>(&self, out: &mut W, file: &[u8]) -> io::Result<()> {
+        let printed = with_section(
+            file,
+            &mut |section: Section<'_>| self.print(out, Some(section)),
+        );
+        match printed {
+            Ok(printed) => printed,
+            Err(_) => self.print(out, None),
+        }
+    }
 }
 
 // A section can have more actions than there is room for: docs/DECISIONS.md says how many.
@@ -97,14 +110,7 @@ fn print_file(rt: &(impl Files + Print + AllocGlobal), path: &[u8]) -> Result<()
         return Err(Problem::ListFull);
     }
     let mut out = BufWriter::new(rt.alloc(), io::writer(rt))?;
-    let printed = with_section(
-        &file,
-        &mut |section: Section<'_>| listing.print(&mut out, Some(section)),
-    );
-    match printed {
-        Ok(printed) => printed?,
-        Err(_) => listing.print(&mut out, None)?,
-    }
+    listing.print_file(&mut out, &file)?;
     Ok(out.flush()?)
 }
 

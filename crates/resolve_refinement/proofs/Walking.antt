@@ -1,9 +1,9 @@
 -- The walk over the section's own statements begins as the definition's does, and so follows it if statements do.
 use Prim.Native.Nat.{ℕ, ◌/◌, ◌≤◌}
 use mathlib.Core.Path.{◌≡◌, refl, sym, ◌∙◌, subst}
-use mathlib.Core.List.{List, [], ◌∷◌}
+use mathlib.Core.List.{List}
 use native.Mathlib.Omega.{arith}
-use lib.ListN.{length, get_or, drop, take}
+use lib.ListN.{length, get_or, drop}
 use lib.Seq.{take-length}
 use Rattle.access.specs.Le.{le16}
 use Rattle.prelude.specs.Base.{sum}
