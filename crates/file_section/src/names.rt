@@ -102,7 +102,8 @@ fn hash_at(stream: &[u8], at: usize, chain: usize, other: usize) -> usize
     }
 }
 
-// A name by its index, and where it begins. Its chain goes by what the table then has there, so that nothing is asked of a table's length.
+// A name by its index, and where it begins. Its chain goes by what the table then has there, so that nothing is asked of the
+// table's length.
 #[tactic(auto, using(crate::proofs::ChainLaws::name_laws))]
 fn name_at(
     stream: &[u8],
