@@ -25,8 +25,8 @@ fn with_stream<R, F: FnMut(Section<'_>) -> R>(stream: &[u8], step: &mut F) -> Re
     }))
 }
 
-// A file of several blocks, whose payloads are joined on the stack, since the library lends no heap. The one block of a small file is read where it stands, since to make
-// this room for it would take as long as all the rest.
+// A file of several blocks, whose payloads are joined on the stack, since the library lends no heap. The one block of a small
+// file is read where it stands, since to make this room for it would take as long as all the rest.
 #[tactic(auto, using(crate::proofs::SectionLaws::blocks_laws))]
 fn with_blocks<R, F: FnMut(Section<'_>) -> R>(file: &[u8], step: &mut F) -> Result<R, Refusal>
     requires room { length file.now / 512 * 510 ≤ 65280 }
