@@ -3,6 +3,7 @@ ghost use Rattle.std.specs.Prelude.{◌≡◌, ◌+◌, ◌≤◌, ◌<◌, leng
 ghost use Rattle.access.specs.Le.{le16, le32, le64};
 
 // N bytes from an index on.
+#[inline(always)]
 fn part<const N: usize>(bytes: &[u8], index: usize) -> [u8; N]
     requires { index + N ≤ length bytes.now }
     ensures { result ≡ take N (drop index bytes.now) }

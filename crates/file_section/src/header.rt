@@ -72,7 +72,9 @@ fn roles(stream: &[u8], cursor: Cursor) -> Result<Cursor, Refused>
     name(&source, constant)
 }
 
+// Not compiled into what reads the rest, which is faster without it.
 #[tactic(auto, using(crate::proofs::RefusedLaws::passing), unfolding(crate::specs::Headers::header))]
+#[inline(never)]
 pub fn header(stream: &[u8]) -> Result<Cursor, Refused>
     ensures { to_cursor result ≡ header stream.now }
 {
