@@ -156,6 +156,13 @@ pub fn zero_words(list: &mut [u64], at: usize, from: usize)
     }
 }
 
+// Actions one behind the other: the position of the first, and how many they are.
+#[derive(Clone, Copy)]
+pub struct Span {
+    pub base: usize,
+    pub count: usize,
+}
+
 // Where the action of an index stands in a list whose first is at a position.
 #[tactic(auto, unfolding(crate::specs::Values::place))]
 pub fn place(base: usize, index: usize) -> usize
