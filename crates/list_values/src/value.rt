@@ -1,9 +1,11 @@
 // A value and its two words in a list: its number, and kind + 256 × offset + 2^24 × size. Reads past a list's end are 0, and
 // writes there change nothing.
-ghost use Rattle.std.specs.Prelude.{◌≡◌, ◌+◌, get_or, set};
+ghost use Rattle.std.specs.Prelude.{◌≡◌};
 ghost use Rattle.list_values.specs.Outcomes.{to_slice};
 ghost use Rattle.list_values.specs.Values.{local, with_size, absent, no_output, slice_bytes, word, value_at, put_value, put_size, zero_words, place};
 
+// The element at an index after a position, and one put there.
+pub use access::{get_in as get, put_in as put};
 use codes::action::{NO_OUTPUT, SIZE_PLACE};
 use codes::refusal::Refusal;
 use codes::{NONE, action};
@@ -96,19 +98,6 @@ pub fn word(value: Value) -> u64
     ensures { result ≡ word value }
 {
     value.kind % 256 + value.offset % 65536 * 256 + value.size % 65536 * SIZE_PLACE
-}
-
-// The element at an index after a position, and 0 past the end.
-pub fn get(list: &[u64], at: usize, index: usize) -> u64
-    ensures { result ≡ get_or list.now (at + index) 0 }
-{
-    access::get_in(list, at, index)
-}
-
-pub fn put(list: &mut [u64], at: usize, index: usize, word: u64)
-    ensures { list.new ≡ set list.old (at + index) word }
-{
-    access::put_in(list, at, index, word);
 }
 
 // The value whose first word stands at an index after a position.
