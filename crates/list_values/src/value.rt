@@ -1,5 +1,6 @@
 // A value and its two words in a list: its number, and kind + 256 × offset + 2^24 × size. Reads past a list's end are 0, and
-// writes there change nothing.
+// writes there change nothing. A position and the index of a value after it are two parameters, here and above: the position,
+// an action's or a slot's, stays, while the index is another at each call.
 ghost use Rattle.std.specs.Prelude.{◌≡◌};
 ghost use Rattle.list_values.specs.Outcomes.{to_slice};
 ghost use Rattle.list_values.specs.Values.{local, with_size, absent, no_output, slice_bytes, word, value_at, put_value, put_size, zero_words, place};
