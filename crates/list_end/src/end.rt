@@ -1,6 +1,7 @@
 // The end: sizes fixed, subpieces turned into copies, the implicit Builds in front, unused words zero. All its loops, over actions,
 // over an action's inputs and words, and over subtables, whose Builds are actions, go by an index: an action may reach past the
-// list's end, where words are read as 0 and none are written, which no method of slices does.
+// list's end, where words are read as 0 and none are written, which no method of slices does; and more subtables may be asked for
+// than can be marked as built.
 // Kinds and operations are numbers, since they are words of the list, which may hold any.
 ghost use Rattle.std.specs.Prelude.{◌≡◌};
 ghost use Rattle.codes.specs.Refusals.{number_or_zero};
