@@ -1,6 +1,7 @@
 // The end: sizes fixed, subpieces turned into copies, the implicit Builds in front, unused words zero. All its loops, over actions,
 // over an action's inputs and words, and over subtables, whose Builds are actions, go by an index: an action may reach past the
-// list's end, where words are read as 0 and none are written, which no method of slices does.
+// list's end, where words are read as 0 and none are written, which no method of slices does; and more subtables may be asked for
+// than can be marked as built.
 // Kinds and operations are numbers, since they are words of the list, which may hold any.
 ghost use Rattle.std.specs.Prelude.{◌≡◌};
 ghost use Rattle.codes.specs.Refusals.{number_or_zero};
@@ -13,7 +14,7 @@ use codes::refusal::Refusal;
 use codes::{NONE, action, action_kind, operation};
 use list_values::sizes::{Sizing, Sources, falls_back, record_errors, size_of};
 use list_values::value::{
-    INPUT_0, OUTPUT, Value, get, place, put, put_value, slice_bytes, value_at, with_size,
+    INPUT_0, OUTPUT, Span, Value, get, place, put, put_value, slice_bytes, value_at, with_size,
     zero_words,
 };
 
@@ -175,27 +176,26 @@ pub fn finish_actions(
     sources: &Sources<'_>,
     actions: &mut [u64],
     temporaries: &[u64],
-    base: usize,
-    count: usize,
+    span: Span,
     sizing: Sizing,
 ) -> Result<Sizing, Unfinished>
-    ensures { listed (to_finished result) actions.new ≡ finish_actions sources.entry.now.section.stream.now sources.entry.now.section.table.now actions.old temporaries.now base count sources.entry.now.pointer sizing }
+    ensures { listed (to_finished result) actions.new ≡ finish_actions sources.entry.now.section.stream.now sources.entry.now.section.table.now actions.old temporaries.now span.base span.count sources.entry.now.pointer sizing }
 {
     let mut sizing = sizing;
-    for i in 0..count {
-        let at = place(base, i);
+    for i in 0..span.count {
+        let at = place(span.base, i);
         sizing = finish_op(sources, actions, temporaries, at, sizing)?;
     }
     Ok(sizing)
 }
 
-// Marks the subtables that one of so many actions from a position on builds.
+// Marks the subtables that one of these actions builds.
 #[tactic(auto, using(access::proofs::LoopLaws::run_again, access::proofs::LoopLaws::run_end), unfolding(crate::specs::End::mark_built, crate::specs::End::mark_action))]
-fn mark_built(actions: &[u64], base: usize, count: usize, built: &mut [bool])
-    ensures { built.new ≡ mark_built actions.now base count built.old }
+fn mark_built(actions: &[u64], span: Span, built: &mut [bool])
+    ensures { built.new ≡ mark_built actions.now span.base span.count built.old }
 {
-    for i in 0..count {
-        let at = place(base, i);
+    for i in 0..span.count {
+        let at = place(span.base, i);
         mark_build(
             get(actions, at, action::KIND),
             get(actions, at, action::NUMBER),
@@ -257,16 +257,16 @@ fn move_action(actions: &mut [u64], from: usize, to: usize)
     }
 }
 
-// Moves so many actions down, from a position to behind the Builds.
+// Moves these actions down, to behind so many Builds.
 #[tactic(auto, using(access::proofs::LoopLaws::run_again, access::proofs::LoopLaws::run_end), unfolding(crate::specs::End::move_down, crate::specs::End::move_to))]
-fn move_down(actions: &mut [u64], base: usize, builds: usize, count: usize)
-    ensures { actions.new ≡ move_down actions.old base builds count }
+fn move_down(actions: &mut [u64], span: Span, builds: usize)
+    ensures { actions.new ≡ move_down actions.old span.base builds span.count }
 {
-    if base == place(0, builds) {
+    if span.base == place(0, builds) {
         return;
     }
-    for i in 0..count {
-        move_action(actions, place(base, i), place(place(0, builds), i));
+    for i in 0..span.count {
+        move_action(actions, place(span.base, i), place(place(0, builds), i));
     }
 }
 
@@ -278,10 +278,13 @@ pub fn assemble(actions: &mut [u64], subtables: usize, pushed: usize) -> usize
 {
     // Fixed memory: the library has no heap.
     let mut built = [false; MARKS];
-    let base = place(0, subtables);
-    mark_built(actions, base, pushed, &mut built);
+    let span = Span {
+        base: place(0, subtables),
+        count: pushed,
+    };
+    mark_built(actions, span, &mut built);
     let k = implicit_builds(actions, &built, subtables);
-    move_down(actions, base, k, pushed);
+    move_down(actions, span, k);
     let count = k.wrapping_add(pushed);
     access::zero_from(actions, place(0, count));
     count

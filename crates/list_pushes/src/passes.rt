@@ -7,7 +7,7 @@ ghost use Rattle.list_pushes.specs.Passes.{action_place, turn, pass};
 
 use crate::rules::update_operand_sizes;
 use list_values::sizes::{Direction, Rules, sum_of_errors};
-use list_values::value::place;
+use list_values::value::{Span, place};
 
 // Where the action of an index stands of those from a position on; the first may stand anywhere.
 #[tactic(auto, unfolding(crate::specs::Passes::action_place))]
@@ -17,8 +17,8 @@ fn action_place(base: usize, index: usize) -> usize
     if index == 0 { base } else { place(base, index) }
 }
 
-// Which action is next after so many of them, forward or backward. One loop turns both ways, so that the rules are compiled into
-// one: an iterator and its `rev` are two types.
+// Which action is next after so many of them, forward or backward. So one loop turns both ways: two would have the same body twice,
+// since an iterator and its `rev` are two types.
 #[tactic(auto, unfolding(crate::specs::Passes::turn))]
 fn turn(direction: Direction, count: usize, index: usize) -> usize
     requires { index < count }
@@ -30,20 +30,14 @@ fn turn(direction: Direction, count: usize, index: usize) -> usize
     }
 }
 
-// The actions from a position on, forward with fallback or backward without: how many errors.
+// The rule of each of these actions, forward with fallback or backward without: how many errors.
 #[tactic(auto, using(crate::proofs::PassLaws::pass_laws))]
-pub fn pass(
-    rules: &Rules<'_>,
-    actions: &mut [u64],
-    temporaries: &mut [u64],
-    base: usize,
-    count: usize,
-) -> u64
-    ensures { Counted result actions.new temporaries.new (pass rules.entry.now.sources.section.stream.now rules.entry.now.sources.section.table.now (forwards rules.entry.now.direction) actions.old temporaries.old base count rules.entry.now.sources.pointer) }
+pub fn pass(rules: &Rules<'_>, actions: &mut [u64], temporaries: &mut [u64], span: Span) -> u64
+    ensures { Counted result actions.new temporaries.new (pass rules.entry.now.sources.section.stream.now rules.entry.now.sources.section.table.now (forwards rules.entry.now.direction) actions.old temporaries.old span.base span.count rules.entry.now.sources.pointer) }
 {
     let mut k = 0;
-    for i in 0..count {
-        let at = action_place(base, turn(rules.direction, count, i));
+    for i in 0..span.count {
+        let at = action_place(span.base, turn(rules.direction, span.count, i));
         k = sum_of_errors(k, update_operand_sizes(rules, actions, temporaries, at));
     }
     k

@@ -12,7 +12,7 @@ use codes::{NONE, action, action_kind, value_kind};
 use list_values::section::Section;
 use list_values::sizes::{Direction, Rules, Sizing, Sources, record_errors};
 use list_values::value::{
-    INPUT_0, INPUT_1, OUTPUT, Value, absent, local, put, put_value, value_at, zero_words,
+    INPUT_0, INPUT_1, OUTPUT, Span, Value, absent, local, put, put_value, value_at, zero_words,
 };
 
 const MOST_TEMPORARIES: usize = 512;
@@ -207,7 +207,8 @@ fn update_last(
         },
         direction: Direction::Backward,
     };
-    let k = pass(&rules, actions, temporaries, at, 1);
+    let pushed = Span { base: at, count: 1 };
+    let k = pass(&rules, actions, temporaries, pushed);
     State {
         sizing: record_errors(before.sizing, k),
         ..before

@@ -1,9 +1,12 @@
 // A value and its two words in a list: its number, and kind + 256 × offset + 2^24 × size. Reads past a list's end are 0, and
-// writes there change nothing.
-ghost use Rattle.std.specs.Prelude.{◌≡◌, ◌+◌, get_or, set};
+// writes there change nothing. A position and the index of a value after it are two parameters, here and above: the position,
+// an action's or a slot's, stays, while the index is another at each call.
+ghost use Rattle.std.specs.Prelude.{◌≡◌};
 ghost use Rattle.list_values.specs.Outcomes.{to_slice};
 ghost use Rattle.list_values.specs.Values.{local, with_size, absent, no_output, slice_bytes, word, value_at, put_value, put_size, zero_words, place};
 
+// The element at an index after a position, and one put there.
+pub use access::{get_in as get, put_in as put};
 use codes::action::{NO_OUTPUT, SIZE_PLACE};
 use codes::refusal::Refusal;
 use codes::{NONE, action};
@@ -98,19 +101,6 @@ pub fn word(value: Value) -> u64
     value.kind % 256 + value.offset % 65536 * 256 + value.size % 65536 * SIZE_PLACE
 }
 
-// The element at an index after a position, and 0 past the end.
-pub fn get(list: &[u64], at: usize, index: usize) -> u64
-    ensures { result ≡ get_or list.now (at + index) 0 }
-{
-    access::get_in(list, at, index)
-}
-
-pub fn put(list: &mut [u64], at: usize, index: usize, word: u64)
-    ensures { list.new ≡ set list.old (at + index) word }
-{
-    access::put_in(list, at, index, word);
-}
-
 // The value whose first word stands at an index after a position.
 #[tactic(auto, unfolding(crate::specs::Values::value_at, crate::specs::Values::value_of))]
 pub fn value_at(list: &[u64], at: usize, index: u8) -> Value
@@ -154,6 +144,13 @@ pub fn zero_words(list: &mut [u64], at: usize, from: usize)
     for i in from..action::WORDS {
         put(list, at, i, 0);
     }
+}
+
+// Actions one behind the other: the position of the first, and how many they are.
+#[derive(Clone, Copy)]
+pub struct Span {
+    pub base: usize,
+    pub count: usize,
 }
 
 // Where the action of an index stands in a list whose first is at a position.

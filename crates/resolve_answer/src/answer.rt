@@ -98,7 +98,7 @@ pub fn refused(actions: &mut [u64], temporaries: &mut [u64], why: Rejected) -> A
     }
 }
 
-// Two for an action and one for a temporary, in tens, rounded up. No list has as many words as the bound.
+// Two for an action and one for a temporary, in tens, to the nearest, a half up. No list has as many words as the bound.
 #[tactic(auto, unfolding(crate::specs::Answers::points_of))]
 fn points(actions: u64, temporaries: u64) -> u64
     ensures { result ≡ points_of actions temporaries }

@@ -14,7 +14,7 @@ use list_end::end::{finish_actions, fix_size};
 use list_end::passes::size_pass;
 use list_values::section::Section;
 use list_values::sizes::{Direction, Rules, Sizing, Sources};
-use list_values::value::{Value, place};
+use list_values::value::{Span, Value, place};
 use stmt_walk::walk::{Export, Walk};
 
 // What is to be finished: how many subtables the section has, how many actions stand behind room for their Builds, and the walk
@@ -102,8 +102,11 @@ fn finish_sized(
 ) -> Result<Answer, Rejected>
     ensures { to_resolved result actions.new temporaries.new ≡ finish_sized sources.entry.now.section.stream.now sources.entry.now.section.table.now actions.old temporaries.old ending.subtables ending.count sources.entry.now.pointer (to_walk ending.walk) sizing }
 {
-    let base = place(0, ending.subtables);
-    let sizing = finish_actions(sources, actions, temporaries, base, ending.count, sizing)?;
+    let span = Span {
+        base: place(0, ending.subtables),
+        count: ending.count,
+    };
+    let sizing = finish_actions(sources, actions, temporaries, span, sizing)?;
     finish_export(sources, actions, temporaries, ending, sizing)
 }
 
@@ -123,11 +126,10 @@ fn both_passes(
     sources: &Sources<'_>,
     actions: &mut [u64],
     temporaries: &mut [u64],
-    base: usize,
-    count: usize,
+    span: Span,
     sizing: Sizing,
 ) -> Sizing
-    ensures { sized result actions.new temporaries.new ≡ both_passes sources.entry.now.section.stream.now sources.entry.now.section.table.now actions.old temporaries.old base count sources.entry.now.pointer sizing }
+    ensures { sized result actions.new temporaries.new ≡ both_passes sources.entry.now.section.stream.now sources.entry.now.section.table.now actions.old temporaries.old span.base span.count sources.entry.now.pointer sizing }
 {
     let backward = Rules {
         sources: *sources,
@@ -137,8 +139,8 @@ fn both_passes(
         direction: Direction::Forward,
         ..backward
     };
-    let back = size_pass(&backward, actions, temporaries, base, count, sizing);
-    size_pass(&forward, actions, temporaries, base, count, back)
+    let back = size_pass(&backward, actions, temporaries, span, sizing);
+    size_pass(&forward, actions, temporaries, span, back)
 }
 
 #[tactic(auto, unfolding(crate::specs::Ends::finish, crate::specs::Ends::finish_all, list_values::specs::Sizes::then_s))]
@@ -153,7 +155,8 @@ fn finished(
     let subtables = access::u16_at(sources.section.stream, header::SUBTABLES) as usize;
     let base = place(0, subtables);
     let count = actions_between(base, walk.st.end);
-    let sizing = both_passes(sources, actions, temporaries, base, count, walk.st.sizing);
+    let span = Span { base, count };
+    let sizing = both_passes(sources, actions, temporaries, span, walk.st.sizing);
     let ending = Ending {
         subtables,
         count,

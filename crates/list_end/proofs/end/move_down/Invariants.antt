@@ -5,7 +5,7 @@ use Rattle.list_end.specs.End.{move_to}
 use Rattle.list_end.proofs.end.move_down.Given as goal
 
 abbrev pub invariant-loop-i : goal.invariant-loop-i
-invariant-loop-i l = (length l.actions ≡ length l.initial.actions) × (run (l.count - l.i) l.i (move_to l.base (place 0 l.builds)) l.actions ≡ run l.count 0 (move_to l.base (place 0 l.builds)) l.initial.actions)
+invariant-loop-i l = (length l.actions ≡ length l.initial.actions) × (run (l.span.count - l.i) l.i (move_to l.span.base (place 0 l.builds)) l.actions ≡ run l.span.count 0 (move_to l.span.base (place 0 l.builds)) l.initial.actions)
 
 abbrev pub decreases-loop-i : goal.decreases-loop-i
-decreases-loop-i l = l.count - l.i
+decreases-loop-i l = l.span.count - l.i
