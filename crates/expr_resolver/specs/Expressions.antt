@@ -5,6 +5,7 @@ use Rattle.std.specs.Prelude.{ℕ, zero, suc, ◌+◌, ◌-◌, ◌*◌, ◌/◌
 use Rattle.access.specs.Le.{le16, le64}
 use Rattle.file_syntax.specs.Cursors.{cursor}
 use Rattle.file_syntax.specs.Expressions as section
+use Rattle.expr_inbuilts.specs.Outcomes.{Inbuilt}
 use Rattle.list_values.specs.declared.value.Value.{Value}
 use Rattle.list_pushes.specs.declared.push.State.{State}
 use Rattle.list_pushes.specs.declared.push.Env.{Env}
@@ -139,11 +140,11 @@ second_of walk s t e op first =
     (λ v next st1 b w. applied_to (expr_value walk s t e next b w st1) (apply2 op v 0))
     (λ n b w. resolved (Expr.No n) b w)
 
-unfoldable pub call_inbuilt : Walk → List ℕ → List ℕ → Env → ℕ → ℕ → ℕ → List ℕ → List ℕ → State → ExprOut
-call_inbuilt walk s t e pos op count a m st =
-    when eqb count 2
-    then second_of walk s t e op (expr_value walk s t e (after pos 4) a m st)
-    else applied_to (expr_value walk s t e (after pos 4) a m st) (apply1 op)
+unfoldable pub call_inbuilt : Walk → List ℕ → List ℕ → Env → ℕ → Inbuilt → List ℕ → List ℕ → State → ExprOut
+call_inbuilt walk s t e pos f a m st =
+    when eqb f.arguments 2
+    then second_of walk s t e f.op (expr_value walk s t e (after pos 4) a m st)
+    else applied_to (expr_value walk s t e (after pos 4) a m st) (apply1 f.op)
 
 -- k arguments, resolved only, the first into slot i
 unfoldable pub resolve_args : Walk → ℕ → ℕ → ℕ → List ℕ → List ℕ → List ℕ → State → ArgsOut
@@ -160,7 +161,7 @@ user_op walk s t e pos id n a m st =
     (λ k b w. resolved (Expr.No k) b w)
 
 unfoldable pub call_named : Walk → List ℕ → List ℕ → List ℕ → Env → ℕ → ℕ → ℕ → Callee → List ℕ → List ℕ → State → ExprOut
-call_named walk s t p e pos name n (Callee.Inbuilt op) a m st = call_inbuilt walk s t e pos op n a m st
+call_named walk s t p e pos name n (Callee.Inbuilt f) a m st = call_inbuilt walk s t e pos f a m st
 call_named walk s t p e pos name n (Callee.UserOp id) a m st = user_op walk s t e pos id n a m st
 call_named walk s t p e pos name n Callee.Local a m st = subpiece s t p a m pos name n e st
 call_named walk s t p e pos name n (Callee.No k) a m st = resolved (Expr.No k) a m
