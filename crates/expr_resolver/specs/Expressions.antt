@@ -1,7 +1,7 @@
 -- Expressions, resolved by a walk over their prefix code. A step takes the walk over a part, one level deeper, as an
 -- argument. In all of these s is the stream, t the section's table, p the scope's list, a the actions, m the temporaries, e
 -- the environment, st the state.
-use Rattle.std.specs.Prelude.{ℕ, zero, suc, ◌+◌, ◌-◌, ◌*◌, ◌/◌, ◌%◌, max, List, get_or, replicate, eqb, ltb}
+use Rattle.std.specs.Prelude.{ℕ, zero, suc, ◌+◌, ◌*◌, max, List, get_or, replicate, eqb, ltb}
 use Rattle.access.specs.Le.{le16, le64}
 use Rattle.file_syntax.specs.Cursors.{cursor}
 use Rattle.file_syntax.specs.Expressions as section
@@ -11,7 +11,7 @@ use Rattle.list_pushes.specs.declared.push.State.{State}
 use Rattle.list_pushes.specs.declared.push.Env.{Env}
 use Rattle.list_pushes.specs.Outcomes.{Read}
 use Rattle.prelude.specs.Base.{when◌then◌else◌}
-use Rattle.list_values.specs.Values.{absent, local}
+use Rattle.list_values.specs.Values.{absent}
 use Rattle.expr_scope.specs.declared.scope.ExprValue.{ExprValue}
 use Rattle.expr_scope.specs.Outcomes.{Meaning}
 use Rattle.expr_terms.specs.Outcomes.{Expr}
@@ -21,7 +21,7 @@ use Rattle.expr_scope.specs.Outcomes.{Args}
 use Rattle.expr_terms.specs.Outcomes.{Callee}
 use Rattle.expr_scope.specs.Slots.{put_arg}
 use Rattle.expr_scope.specs.Scopes.{resolve_ident}
-use Rattle.expr_reading.specs.Reading.{constant, read_operand}
+use Rattle.expr_reading.specs.Reading.{read_operand}
 use Rattle.expr_terms.specs.Answers.{ExprOut, resolved, on_expr, OperandOut, operand, on_operand, ArgsOut, passed, on_args, operand_of, applied_to, after}
 use Rattle.expr_terms.specs.Slices.{slice_bits}
 use Rattle.expr_terms.specs.Addresses.{resolve_address}
