@@ -1,21 +1,22 @@
 -- The spellings, and a name as a part of the stream.
-use mathlib.Core.Path.{◌≡◌, refl, ap, ◌∙◌}
+use mathlib.Core.Path.{◌≡◌, refl, ap, sym, subst, ◌∙◌}
+use mathlib.Core.Logic.{◌⊎◌, inl, inr}
 use mathlib.Core.Bool.{Bool, true, false, cond, ◌&&◌}
 use lib.Pointwise.{pointwise}
-use Rattle.std.specs.Prelude.{nat_eq, Option, Some, None, map}
+use Rattle.std.specs.Prelude.{nat_eq, Option, Some, None, MatchOption, map}
 use Rattle.std.specs.Borrow.{Bor}
 use Rattle.std.specs.List.{find}
-use Rattle.std.specs.Option.{option_map}
+use Rattle.std.specs.Option.{option_map, unwrap_or}
 use mathlib.Core.List.{List, [], ◌∷◌}
-use Prim.Native.Nat.{ℕ, ◌+◌, ◌-◌, ◌≤◌, ◌<◌}
+use Prim.Native.Nat.{ℕ, zero, suc, ◌+◌, ◌-◌, ◌≤◌, ◌<◌}
 use native.Mathlib.Omega.{arith}
-use lib.ListN.{length, get_or, take, drop, length-drop, get_or-eq_default}
-use lib.Seq.{take_all}
+use lib.ListN.{length, get_or, take, drop, length-drop}
+use lib.Seq.{drop-cons, take_all}
 use lib.Dec.{eqb}
 use Rattle.prelude.specs.Base.{same_numbers}
 use Rattle.expr_inbuilts.specs.Outcomes.{Inbuilt, to_inbuilt}
 use Rattle.expr_inbuilts.specs.declared.function.Inbuilt as function
-use Rattle.expr_inbuilts.specs.Inbuilts.{among, inbuilt_of, inbuilt_at}
+use Rattle.expr_inbuilts.specs.Inbuilts.{among}
 
 and_cond : (a b : Bool) → (a && b) ≡ cond a b false
 and_cond true b = refl
@@ -46,18 +47,28 @@ module _ (w : List ℕ) where
   row_law rows (Some row) e = ap (λ o. to_inbuilt (option_map (λ row. row.1) o)) e ∙ found_law rows
   row_law rows None e = ap (λ o. to_inbuilt (option_map (λ row. row.1) o)) e ∙ found_law rows
 
-pub at_whole : (s : List ℕ) (at n : ℕ) (r : Inbuilt) → n ≡ get_or s at 0 → r ≡ inbuilt_of (take (at + 1 + n - (at + 1)) (drop (at + 1) s)) → r ≡ inbuilt_at s at
-unfolding inbuilt_at
-at_whole s at n r e h = let z : at + 1 + n - (at + 1) ≡ n = omega arith in rw (← e) (rw z at h)
+-- what `spelled` finds where the length byte n stands ahead of the bytes more
+module _ (s more : List ℕ) (at n : ℕ) where
+  behind : at ≤ length s → take (length s - at) (drop at s) ≡ n ∷ more → (get_or s at 0 ≡ n) × (drop (suc at) s ≡ more)
+  behind h e =
+      let l : length (drop at s) ≡ length s - at = length-drop at s in
+      let w : drop at s ≡ n ∷ more = sym (take_all (length s - at) (drop at s) (omega arith)) ∙ e in
+      let k : length (drop at s) ≡ suc (length more) = ap length w in
+      let q : get_or s at 0 ∷ drop (suc at) s ≡ n ∷ more = sym (drop-cons s at 0 (omega arith)) ∙ w in
+      (ap (λ xs. get_or xs zero 0) q, ap (λ xs. drop (suc zero) xs) q)
 
-pub at_cut : (s : List ℕ) (at n : ℕ) (r : Inbuilt) → n ≡ get_or s at 0 → length s - (at + 1) < n → r ≡ inbuilt_of (take (length s - (at + 1)) (drop (at + 1) s)) → r ≡ inbuilt_at s at
-unfolding inbuilt_at
-at_cut s at n r e l h =
-    let p : length (drop (at + 1) s) ≡ length s - (at + 1) = length-drop (at + 1) s in
-    rw (← e, take_all n (drop (at + 1) s) (omega arith)) (rw (take_all (length s - (at + 1)) (drop (at + 1) s) (omega arith)) at h)
+  pub spelled_part : (r d : Bor (List ℕ)) (o : Option (Bor (List ℕ))) → at ≤ length s → take (length s - at) (drop at s) ≡ n ∷ more → d.now ≡ more → r ≡ unwrap_or o d → MatchOption o (length more ≤ n) (λ x. x.now ≡ take n more) → r.now ≡ take (get_or s at 0) (drop (at + 1) s)
+  spelled_part r d o h e m q k =
+      let p = behind h e in
+      let j : at + 1 ≡ suc at = omega arith in
+      rw (j, p.0, p.1) (ap (λ r. r.now) q ∙ ends o k)
+    where
+      ends : (o : Option (Bor (List ℕ))) → MatchOption o (length more ≤ n) (λ x. x.now ≡ take n more) → (unwrap_or o d).now ≡ take n more
+      ends None k = m ∙ sym (take_all n more k)
+      ends (Some x) k = k
 
-pub at_none : (s : List ℕ) (at : ℕ) (r : Inbuilt) → length s ≤ at → r ≡ inbuilt_of [] → r ≡ inbuilt_at s at
-unfolding inbuilt_at
-at_none s at r l h = rw (get_or-eq_default s 0 {n = at} l) h
-
-pub ruleset inbuilt_laws = (at_whole, at_cut, at_none)
+-- what `get` finds of the first m bytes, with n for m
+pub cut_or_whole : (more : List ℕ) (m n : ℕ) (o : Option (Bor (List ℕ))) → m ≡ n → MatchOption o ((m < 0) ⊎ (length more < m)) (λ x. (0 ≤ m) × (m ≤ length more) × (x.now ≡ take (m - 0) more) × (length x.now + 0 ≡ m)) → MatchOption o (length more ≤ n) (λ x. x.now ≡ take n more)
+cut_or_whole more m n None e (inl h) = absurd (omega arith)
+cut_or_whole more m n None e (inr h) = omega arith
+cut_or_whole more m n (Some x) e k = let z : m - 0 ≡ n = omega arith in subst (λ j. x.now ≡ take j more) z k.2

@@ -1,5 +1,5 @@
 // The spellings of `translate_inbuilt_func`, compared byte for byte with a name of the stream.
-ghost use Rattle.std.specs.Prelude.{◌≡◌, map};
+ghost use Rattle.std.specs.Prelude.{◌≡◌, ◌+◌, map, get_or, take, drop};
 ghost use Rattle.expr_inbuilts.specs.Outcomes.{to_inbuilt};
 ghost use Rattle.expr_inbuilts.specs.Inbuilts.{among, inbuilt_of, inbuilt_at};
 
@@ -51,19 +51,23 @@ fn inbuilt_of(word: &[u8]) -> Option<Inbuilt>
     among(&INBUILTS, word)
 }
 
-// The built-in function of the name whose length byte stands at a position.
-#[tactic(auto, using(crate::proofs::InbuiltLaws::inbuilt_laws))]
+// The name whose length byte stands at a position, as far as the stream goes.
+fn spelled(stream: &[u8], at: usize) -> &[u8]
+    ensures { result.now ≡ take (get_or stream.now at 0) (drop (at + 1) stream.now) }
+{
+    let Some(rest) = stream.get(at..) else {
+        return &[];
+    };
+    let Some((length, name)) = rest.split_first() else {
+        return &[];
+    };
+    name.get(..usize::from(*length)).unwrap_or(name)
+}
+
+// The built-in function of that name.
+#[tactic(auto, unfolding(crate::specs::Inbuilts::inbuilt_at))]
 pub fn translate_inbuilt_func(stream: &[u8], at: usize) -> Option<Inbuilt>
     ensures { to_inbuilt result ≡ inbuilt_at stream.now at }
 {
-    if at < stream.len() {
-        let from = at + 1;
-        let n = usize::from(stream[at]);
-        if n <= stream.len() - from {
-            let to = from + n;
-            return inbuilt_of(&stream[from..to]);
-        }
-        return inbuilt_of(&stream[from..]);
-    }
-    inbuilt_of(b"")
+    inbuilt_of(spelled(stream, at))
 }

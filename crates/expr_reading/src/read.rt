@@ -18,7 +18,7 @@ use list_values::value::{Value, absent, local, slice_bytes, with_size};
 pub fn needed_bytes(bits: u64) -> u64
     ensures { result ≡ needed_bytes bits }
 {
-    bits / 8 + (bits % 8 + 7) / 8
+    bits.div_ceil(8)
 }
 
 pub fn constant(count: u64) -> Value

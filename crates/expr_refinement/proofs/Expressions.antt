@@ -42,7 +42,7 @@ use Rattle.expr_scope.specs.declared.scope.ExprValue.{ExprValue as WordExpr}
 use Rattle.expr_terms.specs.Outcomes.{Expr}
 use Rattle.expr_terms.specs.Outcomes.{Operand}
 use Rattle.expr_terms.specs.Outcomes.{Callee}
-use Rattle.expr_scope.specs.declared.symbols.Symbol.{Symbol as WordSymbol}
+use Rattle.expr_scope.specs.Outcomes.{Symbol as WordSymbol}
 use Rattle.expr_terms.specs.Answers.{ExprOut, resolved, OperandOut, operand, operand_of, applied_to, after}
 use Rattle.expr_scope.specs.Slots.{arg_at, put_arg}
 use Rattle.expr_reading.specs.Reading.{read_operand}
@@ -495,7 +495,7 @@ module _ (s t : List ℕ) (e : Env) (p front tail rest : List ℕ) (we : WordEnv
 
         -- a built-in function
         one_case : (g : Inbuilt) → ((v : Value) → Applies g.op (v ∷ [])) → pos + 4 ≤ length s → num ≡ 1
-            → Answers next st (words.call_inbuilt (resolve_expr deep s t p we) s t we pos (operation_number g.op) 1 (A st) (M st) (W st)) (on e (d.resolve_arg_values i.args e st) λ vs. λ e1 st1. done (ExprValue.Apply g.op 0 vs) st1)
+            → Answers next st (words.call_inbuilt (resolve_expr deep s t p we) s t we pos (record { op = operation_number g.op; arguments = 1 }) (A st) (M st) (W st)) (on e (d.resolve_arg_values i.args e st) λ vs. λ e1 st1. done (ExprValue.Apply g.op 0 vs) st1)
         unfolding words.call_inbuilt
         one_case g ok l h =
             let o = one-arg s (le16 s 2) deep (pos + 4) i.args next l (rw h at args_read_lem) in
@@ -513,7 +513,7 @@ module _ (s t : List ℕ) (e : Env) (p front tail rest : List ℕ) (we : WordEnv
             rw r (apply_second g.op ok v 0 next next (max-eq_right {n = 0} {m = next} (omega arith)) st1 k _ _ (value_at_lem deep walks end y next h inside st1 f1 c1))
 
         two_case : (g : Inbuilt) → Applies2 g.op → pos + 4 ≤ length s → num ≡ 2
-            → Answers next st (words.call_inbuilt (resolve_expr deep s t p we) s t we pos (operation_number g.op) 2 (A st) (M st) (W st)) (on e (d.resolve_arg_values i.args e st) λ vs. λ e1 st1. done (ExprValue.Apply g.op 0 vs) st1)
+            → Answers next st (words.call_inbuilt (resolve_expr deep s t p we) s t we pos (record { op = operation_number g.op; arguments = 2 }) (A st) (M st) (W st)) (on e (d.resolve_arg_values i.args e st) λ vs. λ e1 st1. done (ExprValue.Apply g.op 0 vs) st1)
         unfolding words.call_inbuilt words.second_of
         two_case g ok l h =
             let o = two_args s (le16 s 2) deep (pos + 4) i.args next l (rw h at args_read_lem) in
@@ -527,9 +527,9 @@ module _ (s t : List ℕ) (e : Env) (p front tail rest : List ℕ) (we : WordEnv
             λ v st1 m k. second_of_lem g ok o.end o.second o.follows v st1 m.stood (scoped-later t p we st st1 m.later c) k)
 
         taking_case : (g : Inbuilt) → Taking g → pos + 4 ≤ length s → num ≡ g.arguments
-            → Answers next st (words.call_inbuilt (resolve_expr deep s t p we) s t we pos (operation_number g.op) num (A st) (M st) (W st)) (on e (d.resolve_arg_values i.args e st) λ vs. λ e1 st1. done (ExprValue.Apply g.op 0 vs) st1)
-        taking_case g (one a ok) l h = let b : num ≡ 1 = h ∙ a in rw b (one_case g ok l b)
-        taking_case g (two a ok) l h = let b : num ≡ 2 = h ∙ a in rw b (two_case g ok l b)
+            → Answers next st (words.call_inbuilt (resolve_expr deep s t p we) s t we pos (record { op = operation_number g.op; arguments = g.arguments }) (A st) (M st) (W st)) (on e (d.resolve_arg_values i.args e st) λ vs. λ e1 st1. done (ExprValue.Apply g.op 0 vs) st1)
+        taking_case g (one a ok) l h = rw a (one_case g ok l (h ∙ a))
+        taking_case g (two a ok) l h = rw a (two_case g ok l (h ∙ a))
 
         some-arguments : (g : Inbuilt) → Taking g → eqb g.arguments 0 ≡ false
         some-arguments g (one a ok) = rw a
@@ -542,7 +542,7 @@ module _ (s t : List ℕ) (e : Env) (p front tail rest : List ℕ) (we : WordEnv
             let n = args_count (expr_within (le16 s 2) deep) num (drop (pos + 4) s) i.args (drop next s) args_read_lem in
             rw (some-arguments g k, n, eqb_swap num g.arguments) (by (eqb g.arguments num) refl)
           where
-            by : (b : Bool) → eqb g.arguments num ≡ b → Answers next st (words.call_named (resolve_expr deep s t p we) s t p we pos (le16 s (pos + 1)) num (when b then Callee.Inbuilt (operation_number g.op) else Callee.No 33) (A st) (M st) (W st))
+            by : (b : Bool) → eqb g.arguments num ≡ b → Answers next st (words.call_named (resolve_expr deep s t p we) s t p we pos (le16 s (pos + 1)) num (when b then Callee.Inbuilt (record { op = operation_number g.op; arguments = g.arguments }) else Callee.No 33) (A st) (M st) (W st))
                 (on e (w.require b argument_count e st) λ _. λ e1 st1. on e1 (d.resolve_arg_values i.args e1 st1) λ vs. λ e2 st2. done (ExprValue.Apply g.op 0 vs) st2)
             by true h = unfold words.call_named w.require on in taking_case g k l (sym (eqb-true g.arguments num h))
             by false h = unfold words.call_named w.require on in stops next st 33 argument_count (unfold refusal_number in refl)

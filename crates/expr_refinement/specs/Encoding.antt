@@ -16,7 +16,7 @@ use Rattle.definition.specs.Refusals.{refusal_number}
 use Rattle.definition.specs.Scope.{find, Symbol, Meaning, means, wrong}
 use Rattle.list_pushes.specs.declared.push.Env.{Env as WordEnv}
 use Rattle.expr_scope.specs.Outcomes.{Found, Meaning as WordMeaning}
-use Rattle.expr_scope.specs.declared.symbols.Symbol.{Symbol as WordSymbol}
+use Rattle.expr_scope.specs.Outcomes.{Symbol as WordSymbol}
 use Rattle.expr_scope.specs.Slots.{of_slot, slot_at, param_place}
 use Rattle.expr_scope.specs.Scopes.{lookup_local}
 

@@ -1,16 +1,17 @@
 -- Expressions, resolved by a walk over their prefix code. A step takes the walk over a part, one level deeper, as an
 -- argument. In all of these s is the stream, t the section's table, p the scope's list, a the actions, m the temporaries, e
 -- the environment, st the state.
-use Rattle.std.specs.Prelude.{ℕ, zero, suc, ◌+◌, ◌-◌, ◌*◌, ◌/◌, ◌%◌, max, List, get_or, replicate, eqb, ltb}
+use Rattle.std.specs.Prelude.{ℕ, zero, suc, ◌+◌, ◌*◌, max, List, get_or, replicate, eqb, ltb}
 use Rattle.access.specs.Le.{le16, le64}
 use Rattle.file_syntax.specs.Cursors.{cursor}
 use Rattle.file_syntax.specs.Expressions as section
+use Rattle.expr_inbuilts.specs.Outcomes.{Inbuilt}
 use Rattle.list_values.specs.declared.value.Value.{Value}
 use Rattle.list_pushes.specs.declared.push.State.{State}
 use Rattle.list_pushes.specs.declared.push.Env.{Env}
 use Rattle.list_pushes.specs.Outcomes.{Read}
 use Rattle.prelude.specs.Base.{when◌then◌else◌}
-use Rattle.list_values.specs.Values.{absent, local}
+use Rattle.list_values.specs.Values.{absent}
 use Rattle.expr_scope.specs.declared.scope.ExprValue.{ExprValue}
 use Rattle.expr_scope.specs.Outcomes.{Meaning}
 use Rattle.expr_terms.specs.Outcomes.{Expr}
@@ -20,7 +21,7 @@ use Rattle.expr_scope.specs.Outcomes.{Args}
 use Rattle.expr_terms.specs.Outcomes.{Callee}
 use Rattle.expr_scope.specs.Slots.{put_arg}
 use Rattle.expr_scope.specs.Scopes.{resolve_ident}
-use Rattle.expr_reading.specs.Reading.{constant, read_operand}
+use Rattle.expr_reading.specs.Reading.{read_operand}
 use Rattle.expr_terms.specs.Answers.{ExprOut, resolved, on_expr, OperandOut, operand, on_operand, ArgsOut, passed, on_args, operand_of, applied_to, after}
 use Rattle.expr_terms.specs.Slices.{slice_bits}
 use Rattle.expr_terms.specs.Addresses.{resolve_address}
@@ -139,11 +140,11 @@ second_of walk s t e op first =
     (λ v next st1 b w. applied_to (expr_value walk s t e next b w st1) (apply2 op v 0))
     (λ n b w. resolved (Expr.No n) b w)
 
-unfoldable pub call_inbuilt : Walk → List ℕ → List ℕ → Env → ℕ → ℕ → ℕ → List ℕ → List ℕ → State → ExprOut
-call_inbuilt walk s t e pos op count a m st =
-    when eqb count 2
-    then second_of walk s t e op (expr_value walk s t e (after pos 4) a m st)
-    else applied_to (expr_value walk s t e (after pos 4) a m st) (apply1 op)
+unfoldable pub call_inbuilt : Walk → List ℕ → List ℕ → Env → ℕ → Inbuilt → List ℕ → List ℕ → State → ExprOut
+call_inbuilt walk s t e pos f a m st =
+    when eqb f.arguments 2
+    then second_of walk s t e f.op (expr_value walk s t e (after pos 4) a m st)
+    else applied_to (expr_value walk s t e (after pos 4) a m st) (apply1 f.op)
 
 -- k arguments, resolved only, the first into slot i
 unfoldable pub resolve_args : Walk → ℕ → ℕ → ℕ → List ℕ → List ℕ → List ℕ → State → ArgsOut
@@ -160,7 +161,7 @@ user_op walk s t e pos id n a m st =
     (λ k b w. resolved (Expr.No k) b w)
 
 unfoldable pub call_named : Walk → List ℕ → List ℕ → List ℕ → Env → ℕ → ℕ → ℕ → Callee → List ℕ → List ℕ → State → ExprOut
-call_named walk s t p e pos name n (Callee.Inbuilt op) a m st = call_inbuilt walk s t e pos op n a m st
+call_named walk s t p e pos name n (Callee.Inbuilt f) a m st = call_inbuilt walk s t e pos f a m st
 call_named walk s t p e pos name n (Callee.UserOp id) a m st = user_op walk s t e pos id n a m st
 call_named walk s t p e pos name n Callee.Local a m st = subpiece s t p a m pos name n e st
 call_named walk s t p e pos name n (Callee.No k) a m st = resolved (Expr.No k) a m

@@ -1,11 +1,12 @@
 // Expressions, resolved by a walk over their prefix code: each part one level deeper. Codes stay the bytes that the stream has:
-// the reader has refused those that mean nothing, but no type says so here, and as an enum each would be converted at every
-// step, and have a variant more for such a byte. The scope is no part of the context, since statements lend it as `&mut`, and the
-// position is each function's own, so both stand beside it.
-ghost use Rattle.std.specs.Prelude.{◌≡◌, ◌+◌, ℕ, List, Ok, IfSome};
+// the reader has refused those that mean nothing, but no type says so here, and as an enum each would be converted at every step,
+// and have a variant more for such a byte. The scope stands beside the context: a struct of both would be made anew at each call
+// of a statement, which lends the scope as `&mut` between. The position is each function's own.
+ghost use Rattle.std.specs.Prelude.{◌≡◌, ◌+◌, ℕ, List, Some, Ok, IfSome};
 ghost use Rattle.access.specs.Le.{le16};
 ghost use Rattle.expr_scope.specs.Scopes.{resolve_ident};
 ghost use Rattle.expr_scope.specs.Outcomes.{to_args};
+ghost use Rattle.expr_inbuilts.specs.Outcomes.{to_inbuilt};
 ghost use Rattle.expr_terms.specs.Outcomes.{to_expr, to_operand};
 ghost use Rattle.expr_terms.specs.Answers.{resolved, operand, passed, after};
 ghost use Rattle.expr_resolver.specs.Expressions.{means_at, local_address, address_of, atom, operation_of, skip_expr, operands_of, part_at, with_part, expr_value, part, resolve_op, call_inbuilt, resolve_args, user_op, resolve_call, resolve_expr};
@@ -14,6 +15,7 @@ use access::u16_in;
 use codes::limit::DEPTH;
 use codes::refusal::Refusal;
 use codes::{NONE, expression, header, operation};
+use expr_inbuilts::function::Inbuilt;
 use expr_reading::read::{constant, read_operand};
 use expr_scope::args::{ARGS_WORDS, put_arg};
 use expr_scope::scope::{Bits, ExprValue, plain_local, resolve_ident};
@@ -191,41 +193,29 @@ fn with_part(
     ensures { resolved (to_expr result) actions.new temporaries.new ≡ with_part code context.entry.now.section.stream.now context.entry.now.section.table.now actions.old temporaries.old pos context.entry.now.env part.value part.next part.state }
 {
     let next = part.next;
-    match code {
+    let (bits, next) = match code {
         expression::TRUNCATE => {
-            let bits = Bits {
-                from: 0,
-                count: 8 * u16_in(context.section.stream, next, 0),
-            };
-            let next = after(next, 2);
-            slice_bits(
-                context,
-                actions,
-                temporaries,
-                Resolved { next, ..part },
-                bits,
-            )
+            let count = 8 * u16_in(context.section.stream, next, 0);
+            (Bits { from: 0, count }, after(next, 2))
         }
         expression::SLICE_BITS => {
-            let bits = Bits {
-                from: u16_in(context.section.stream, next, 0),
-                count: u16_in(context.section.stream, next, 2),
-            };
-            let next = after(next, 4);
-            slice_bits(
-                context,
-                actions,
-                temporaries,
-                Resolved { next, ..part },
-                bits,
-            )
+            let from = u16_in(context.section.stream, next, 0);
+            let count = u16_in(context.section.stream, next, 2);
+            (Bits { from, count }, after(next, 4))
         }
         _ => {
             let space = u16_in(context.section.stream, pos, 1);
             let size = u16_in(context.section.stream, pos, 3);
-            resolve_address(context, actions, temporaries, space, size, part)
+            return resolve_address(context, actions, temporaries, space, size, part);
         }
-    }
+    };
+    slice_bits(
+        context,
+        actions,
+        temporaries,
+        Resolved { next, ..part },
+        bits,
+    )
 }
 
 // What stands at a position, where it is a plain local or an integer, of which reading pushes nothing, or a name that is refused.
@@ -354,20 +344,22 @@ fn call_inbuilt(
     context: &Context<'_>,
     scope: &[u64],
     pos: usize,
-    op: u64,
-    count: u64,
+    inbuilt: Inbuilt,
     actions: &mut [u64],
     temporaries: &mut [u64],
     state: State,
 ) -> Result<Resolved<ExprValue>, Refusal>
-    ensures { resolved (to_expr result) actions.new temporaries.new ≡ call_inbuilt (resolve_expr deep context.entry.now.section.stream.now context.entry.now.section.table.now scope.now context.entry.now.env) context.entry.now.section.stream.now context.entry.now.section.table.now context.entry.now.env pos op count actions.old temporaries.old state }
+    ensures { resolved (to_expr result) actions.new temporaries.new ≡ call_inbuilt (resolve_expr deep context.entry.now.section.stream.now context.entry.now.section.table.now scope.now context.entry.now.env) context.entry.now.section.stream.now context.entry.now.section.table.now context.entry.now.env pos (to_inbuilt (Some inbuilt)) actions.old temporaries.old state }
 {
     let at = after(pos, 4);
     let first = expr_value(deep, context, scope, at, actions, temporaries, state)?;
-    if count != 2 {
-        let operation = Operation::unary(op, first.value);
-        return Ok(applied(operation, first.next, first.state));
-    }
+    let op = match inbuilt {
+        Inbuilt::Unary(op) => {
+            let operation = Operation::unary(op, first.value);
+            return Ok(applied(operation, first.next, first.state));
+        }
+        Inbuilt::Binary(op) => op,
+    };
     let second = expr_value(
         deep,
         context,
@@ -454,14 +446,13 @@ fn resolve_call(
     let name = u16_in(context.section.stream, pos, 1);
     let arguments = access::byte(context.section.stream, pos, 3);
     match callee_of(context.section, name, arguments)? {
-        Callee::Inbuilt(op) => {
+        Callee::Inbuilt(inbuilt) => {
             call_inbuilt(
                 deep,
                 context,
                 scope,
                 pos,
-                op,
-                arguments,
+                inbuilt,
                 actions,
                 temporaries,
                 state,

@@ -5,6 +5,7 @@ use Rattle.codes.specs.Refusals.{number}
 use Rattle.list_values.specs.declared.value.Value.{Value}
 use Rattle.list_pushes.specs.declared.push.State.{State}
 use Rattle.expr_scope.specs.declared.scope.ExprValue.{ExprValue}
+use Rattle.expr_scope.specs.declared.symbols.Symbol as symbols
 
 pub data Meaning : Type 0 where
   Means : ExprValue → Meaning
@@ -47,3 +48,24 @@ to_plain (Err refusal) = Plain.Wrong (number refusal)
 abbrev pub one_more : Option ℕ → ℕ
 one_more (Some i) = suc i
 one_more None = 0
+
+-- what a global is, with its place in the list of its kind; a name of none is undefined
+pub data Symbol : Type 0 where
+  Undefined : Symbol
+  Space : ℕ → Symbol
+  Register : ℕ → Symbol
+  BitRange : ℕ → Symbol
+  Table : ℕ → Symbol
+  UserOp : ℕ → Symbol
+  Macro : ℕ → Symbol
+  Other : ℕ → Symbol
+
+abbrev pub to_symbol : Option symbols.Symbol → Symbol
+to_symbol None = Symbol.Undefined
+to_symbol (Some (symbols.Symbol.Space i)) = Symbol.Space i
+to_symbol (Some (symbols.Symbol.Register i)) = Symbol.Register i
+to_symbol (Some (symbols.Symbol.BitRange i)) = Symbol.BitRange i
+to_symbol (Some (symbols.Symbol.Table i)) = Symbol.Table i
+to_symbol (Some (symbols.Symbol.UserOp i)) = Symbol.UserOp i
+to_symbol (Some (symbols.Symbol.Macro i)) = Symbol.Macro i
+to_symbol (Some (symbols.Symbol.Other i)) = Symbol.Other i

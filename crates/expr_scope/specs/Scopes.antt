@@ -11,8 +11,7 @@ use Rattle.list_values.specs.Values.{local}
 use Rattle.list_values.specs.Sizes.{entry}
 use Rattle.list_pushes.specs.Pushes.{ReadOut, read, add_tmp, on_tmp}
 use Rattle.expr_scope.specs.declared.scope.ExprValue.{ExprValue}
-use Rattle.expr_scope.specs.Outcomes.{Meaning, Found, Plain}
-use Rattle.expr_scope.specs.declared.symbols.Symbol.{Symbol}
+use Rattle.expr_scope.specs.Outcomes.{Meaning, Found, Plain, Symbol}
 use Rattle.expr_scope.specs.Slots.{of_slot, slot_at, param_place}
 use Rattle.expr_scope.specs.Smalls.{small, put_small}
 use Rattle.expr_scope.specs.Symbols.{lookup}

@@ -1,7 +1,7 @@
 -- The global of a name. t is the section's table.
 use Rattle.std.specs.Prelude.{ℕ, ◌+◌, ◌-◌, ◌/◌, ◌%◌, List, get_or, eqb}
 use Rattle.prelude.specs.Base.{when◌then◌else◌}
-use Rattle.expr_scope.specs.declared.symbols.Symbol.{Symbol}
+use Rattle.expr_scope.specs.Outcomes.{Symbol}
 
 -- its place in the list of its kind
 unfoldable pub place_of : Symbol → ℕ

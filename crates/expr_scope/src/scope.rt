@@ -1,9 +1,10 @@
 // What a name means: a macro parameter, inst_next, inst_start, a local, a global register or bit range. And the slots that
-// hold a scope's parameters.
-ghost use Rattle.std.specs.Prelude.{◌≡◌};
+// hold a scope's parameters. The context and the scope are two parameters: a struct of both would be made anew at each call of a
+// statement, which lends the scope as `&mut` between.
+ghost use Rattle.std.specs.Prelude.{◌≡◌, Some};
 ghost use Rattle.list_pushes.specs.Outcomes.{to_read};
 ghost use Rattle.list_pushes.specs.Pushes.{read};
-ghost use Rattle.expr_scope.specs.Outcomes.{to_meaning, to_found, to_plain, one_more};
+ghost use Rattle.expr_scope.specs.Outcomes.{to_meaning, to_found, to_plain, to_symbol, one_more};
 ghost use Rattle.expr_scope.specs.Slots.{one_value, slot_of, of_slot, put_slot, slot_at, param_place};
 ghost use Rattle.expr_scope.specs.Scopes.{find_param, own_local, tmp_local, lookup_local, bit_range, global_meaning, local_meaning, inner_meaning, resolve_ident, plain_local, named_tmp};
 
@@ -63,7 +64,8 @@ pub struct BitRange {
     pub bits: Bits,
 }
 
-// So many bytes that a pointer refers to; 0 where no size is stated, since the words of slots and actions, which are lent, have it so.
+// So many bytes that a pointer refers to; 0 where no size is stated, since the words of slots and actions, which are lent, have it
+// so.
 #[derive(Clone, Copy)]
 pub struct Access {
     pub pointer: Value,
@@ -266,10 +268,9 @@ fn bit_range(section: Section<'_>, index: u64) -> ExprValue
 
 #[tactic(auto, unfolding(crate::specs::Scopes::global_meaning))]
 fn global_meaning(section: Section<'_>, symbol: Symbol) -> Result<ExprValue, Refusal>
-    ensures { to_meaning result ≡ global_meaning section.entry.stream.now section.entry.table.now symbol }
+    ensures { to_meaning result ≡ global_meaning section.entry.stream.now section.entry.table.now (to_symbol (Some symbol)) }
 {
     match symbol {
-        Symbol::Undefined => Err(Refusal::Undefined),
         Symbol::Register(i) => Ok(ExprValue::Local(local(value_kind::REGISTER, i))),
         Symbol::BitRange(i) => Ok(bit_range(section, i)),
         Symbol::Space(_)
@@ -296,14 +297,15 @@ fn local_meaning(context: &Context<'_>, scope: &[u64], name: u64) -> Option<Valu
 }
 
 // A local, else a global.
-#[tactic(auto, unfolding(crate::specs::Scopes::inner_meaning, crate::specs::Scopes::found_or))]
+#[tactic(auto, unfolding(crate::specs::Scopes::inner_meaning, crate::specs::Scopes::found_or, crate::specs::Scopes::global_meaning))]
 fn inner_meaning(context: &Context<'_>, scope: &[u64], name: u64) -> Result<ExprValue, Refusal>
     ensures { to_meaning result ≡ inner_meaning context.entry.now.section.stream.now context.entry.now.section.table.now scope.now context.entry.now.env name }
 {
-    match local_meaning(context, scope, name) {
-        Some(value) => Ok(ExprValue::Local(value)),
-        None => global_meaning(context.section, lookup(context.section.table, name)),
+    if let Some(value) = local_meaning(context, scope, name) {
+        return Ok(ExprValue::Local(value));
     }
+    let symbol = lookup(context.section.table, name).ok_or(Refusal::Undefined)?;
+    global_meaning(context.section, symbol)
 }
 
 #[tactic(auto, unfolding(crate::specs::Scopes::resolve_ident, crate::specs::Scopes::param_or))]
@@ -332,8 +334,7 @@ pub fn plain_local(
     if let Some(value) = local_meaning(context, scope, name) {
         return Ok(Some(value));
     }
-    match lookup(context.section.table, name) {
-        Symbol::Undefined => Err(Refusal::Undefined),
+    match lookup(context.section.table, name).ok_or(Refusal::Undefined)? {
         Symbol::Register(i) => Ok(Some(local(value_kind::REGISTER, i))),
         Symbol::BitRange(_) => Ok(None),
         Symbol::Space(_)

@@ -10,7 +10,7 @@ use Rattle.prelude.specs.Base.{when◌then◌else◌}
 use Rattle.list_values.specs.Values.{with_size}
 use Rattle.list_values.specs.Sizes.{entry}
 use Rattle.expr_scope.specs.declared.scope.ExprValue.{ExprValue}
-use Rattle.expr_scope.specs.declared.symbols.Symbol.{Symbol}
+use Rattle.expr_scope.specs.Outcomes.{Symbol}
 use Rattle.expr_terms.specs.Outcomes.{Expr}
 use Rattle.expr_terms.specs.Outcomes.{Space}
 use Rattle.expr_scope.specs.Symbols.{lookup}

@@ -14,8 +14,7 @@ use Rattle.prelude.specs.Base.{when◌then◌else◌}
 use Rattle.list_values.specs.Values.{absent, no_output}
 use Rattle.list_pushes.specs.Pushes.{PushedOut, pushed, push_op, on_read, on_pushed}
 use Rattle.expr_scope.specs.declared.scope.ExprValue.{ExprValue}
-use Rattle.expr_scope.specs.Outcomes.{Meaning}
-use Rattle.expr_scope.specs.declared.symbols.Symbol.{Symbol}
+use Rattle.expr_scope.specs.Outcomes.{Meaning, Symbol}
 use Rattle.expr_terms.specs.Outcomes.{Expr}
 use Rattle.expr_terms.specs.Outcomes.{Callee}
 use Rattle.expr_scope.specs.Slots.{arg_at}
@@ -38,7 +37,7 @@ symbol_called (Symbol.Other i) = Callee.Local
 unfoldable pub inbuilt_or : Inbuilt → Symbol → ℕ → Callee
 inbuilt_or f x n =
     when eqb f.arguments 0 then symbol_called x
-    else when eqb f.arguments n then Callee.Inbuilt f.op
+    else when eqb f.arguments n then Callee.Inbuilt f
     else Callee.No 33
 
 -- the built-in spellings come before any symbol

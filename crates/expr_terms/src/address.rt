@@ -61,8 +61,7 @@ fn kind_of_space(section: Section<'_>, index: u64) -> u64
 fn named_space(section: Section<'_>, name: u64) -> Result<u64, Refusal>
     ensures { to_space result ≡ named_space section.entry.stream.now section.entry.table.now name }
 {
-    match lookup(section.table, name) {
-        Symbol::Undefined => Err(Refusal::Undefined),
+    match lookup(section.table, name).ok_or(Refusal::Undefined)? {
         Symbol::Space(i) => Ok(kind_of_space(section, i)),
         Symbol::Register(_)
         | Symbol::BitRange(_)

@@ -1,4 +1,6 @@
-// Calls in expressions: built-in functions come before any symbol, then user ops; the rest is a subpiece of a local.
+// Calls in expressions: built-in functions come before any symbol, then user ops; the rest is a subpiece of a local. The scope
+// stands beside the context: a struct of both would be made anew at each call of a statement, which lends the scope as `&mut`
+// between.
 ghost use Rattle.std.specs.Prelude.{◌≡◌, is_some, unwrap_or, Ok};
 ghost use Rattle.list_pushes.specs.Outcomes.{to_pushed};
 ghost use Rattle.list_pushes.specs.Pushes.{pushed};
@@ -6,6 +8,7 @@ ghost use Rattle.expr_inbuilts.specs.Outcomes.{to_inbuilt};
 ghost use Rattle.expr_terms.specs.Outcomes.{to_expr, to_callee};
 ghost use Rattle.expr_terms.specs.Answers.{resolved};
 ghost use Rattle.expr_terms.specs.Calls.{symbol_called, inbuilt_or, callee_of, pass_arg, pass_args, applied, call_user_op, one_integer, only_integer, subpiece};
+ghost use Rattle.expr_scope.specs.Outcomes.{to_symbol};
 ghost use Rattle.expr_scope.specs.Symbols.{lookup};
 
 use crate::answers::{Resolved, after};
@@ -25,10 +28,10 @@ use list_values::value::{Value, no_output};
 // The greatest argument of a subpiece.
 const LAST_SUBPIECE: u64 = 255;
 
-// What a call's name is: a built-in function by its operation, a user op by its number, or a local.
+// What a call's name is: a built-in function, a user op by its number, or a local.
 #[derive(Clone, Copy)]
 pub enum Callee {
-    Inbuilt(u64),
+    Inbuilt(Inbuilt),
     UserOp(u64),
     Local,
 }
@@ -42,18 +45,18 @@ pub struct Call {
 
 // A global called: a user op, a macro, which no expression calls, or none of these.
 #[tactic(auto, unfolding(crate::specs::Calls::symbol_called))]
-fn symbol_called(symbol: Symbol) -> Result<Callee, Refusal>
-    ensures { to_callee result ≡ symbol_called symbol }
+fn symbol_called(symbol: Option<Symbol>) -> Result<Callee, Refusal>
+    ensures { to_callee result ≡ symbol_called (to_symbol symbol) }
 {
     match symbol {
-        Symbol::UserOp(id) => Ok(Callee::UserOp(id)),
-        Symbol::Macro(_) => Err(Refusal::MacroInExpression),
-        Symbol::Undefined
-        | Symbol::Space(_)
-        | Symbol::Register(_)
-        | Symbol::BitRange(_)
-        | Symbol::Table(_)
-        | Symbol::Other(_) => Ok(Callee::Local),
+        Some(Symbol::UserOp(id)) => Ok(Callee::UserOp(id)),
+        Some(Symbol::Macro(_)) => Err(Refusal::MacroInExpression),
+        Some(Symbol::Space(_))
+        | Some(Symbol::Register(_))
+        | Some(Symbol::BitRange(_))
+        | Some(Symbol::Table(_))
+        | Some(Symbol::Other(_))
+        | None => Ok(Callee::Local),
     }
 }
 
@@ -66,15 +69,17 @@ fn inbuilt_or(
 ) -> Result<Callee, Refusal>
     ensures { to_callee result ≡ inbuilt_or (to_inbuilt inbuilt) (lookup table.now name) count }
 {
-    let (op, arguments) = match inbuilt {
-        Some(Inbuilt::Unary(op)) => (op, 1),
-        Some(Inbuilt::Binary(op)) => (op, 2),
-        None => return symbol_called(lookup(table, name)),
+    let Some(inbuilt) = inbuilt else {
+        return symbol_called(lookup(table, name));
+    };
+    let arguments = match inbuilt {
+        Inbuilt::Unary(_) => 1,
+        Inbuilt::Binary(_) => 2,
     };
     if arguments != count {
         return Err(Refusal::ArgumentCount);
     }
-    Ok(Callee::Inbuilt(op))
+    Ok(Callee::Inbuilt(inbuilt))
 }
 
 #[tactic(auto, unfolding(crate::specs::Calls::callee_of))]

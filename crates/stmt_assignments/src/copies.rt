@@ -1,5 +1,6 @@
-// Copies: the target is a local, a place in RAM or a range of bits, which keeps the bits around it. The scope is no part of the
-// context, since statements lend it as `&mut`, and the position is each function's own.
+// Copies: the target is a local, a place in RAM or a range of bits, which keeps the bits around it. The scope stands beside the
+// context: a struct of both would be made anew at each call of a statement, which lends the scope as `&mut` between. The position
+// is each function's own.
 ghost use Rattle.std.specs.Prelude.{◌≡◌, ◌<◌, unwrap_or};
 ghost use Rattle.list_pushes.specs.Outcomes.{to_read};
 ghost use Rattle.list_pushes.specs.Pushes.{read};

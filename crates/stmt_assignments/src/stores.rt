@@ -1,5 +1,5 @@
-// Stores: the value is read before the pointer. The scope is no part of the context, since statements lend it as `&mut`, and the
-// position is each function's own.
+// Stores: the value is read before the pointer. The scope stands beside the context: a struct of both would be made anew at each
+// call of a statement, which lends the scope as `&mut` between. The position is each function's own.
 ghost use Rattle.std.specs.Prelude.{◌≡◌};
 ghost use Rattle.stmt_walk.specs.Outcomes.{to_walk, to_step};
 ghost use Rattle.stmt_walk.specs.Walks.{stepped};

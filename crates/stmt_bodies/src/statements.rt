@@ -1,5 +1,6 @@
-// Statements and macro bodies, which resolve each other: a macro call one level deeper. Codes stay the bytes of the stream, as
-// in expressions; the scope is no part of the context, since statements lend it as `&mut`, and the position is each function's own.
+// Statements and macro bodies, which resolve each other: a macro call one level deeper. Codes stay the bytes of the stream, as in
+// expressions. The scope stands beside the context: a struct of both would be made anew at each call of a statement, which lends
+// the scope as `&mut` between. The position is each function's own.
 ghost use Rattle.std.specs.Prelude.{◌≡◌};
 ghost use Rattle.stmt_walk.specs.Outcomes.{to_walk, to_step, to_steps};
 ghost use Rattle.stmt_walk.specs.Walks.{stepped, walked};

@@ -1,6 +1,6 @@
-// Branches: to a label of the section, or to an address, which a direct jump takes as it is and an indirect one reads. Codes stay the
-// bytes of the stream, as in expressions; the scope is no part of the context, since statements lend it as `&mut`, and the position
-// is each function's own.
+// Branches: to a label of the section, or to an address, which a direct jump takes as it is and an indirect one reads. Codes stay
+// the bytes of the stream, as in expressions. The scope stands beside the context: a struct of both would be made anew at each
+// call of a statement, which lends the scope as `&mut` between. The position is each function's own.
 ghost use Rattle.std.specs.Prelude.{◌≡◌};
 ghost use Rattle.expr_scope.specs.Outcomes.{to_meaning};
 ghost use Rattle.stmt_walk.specs.Outcomes.{to_walk, to_step, to_steps};

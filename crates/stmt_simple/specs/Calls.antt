@@ -12,7 +12,7 @@ use Rattle.list_values.specs.Values.{absent, no_output, value_at, put_value}
 use Rattle.list_pushes.specs.Pushes.{on_read, on_push, push}
 use Rattle.expr_scope.specs.Outcomes.{Args}
 use Rattle.expr_scope.specs.Slots.{param_place, arg_at}
-use Rattle.expr_scope.specs.declared.symbols.Symbol.{Symbol}
+use Rattle.expr_scope.specs.Outcomes.{Symbol}
 use Rattle.expr_scope.specs.Symbols.{lookup}
 use Rattle.expr_reading.specs.Reading.{read_operand}
 use Rattle.expr_terms.specs.Answers.{ArgsOut, passed, on_args, after}

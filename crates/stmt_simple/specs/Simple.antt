@@ -12,7 +12,7 @@ use Rattle.list_values.specs.Values.{absent, no_output}
 use Rattle.list_values.specs.Sizes.{entry}
 use Rattle.list_pushes.specs.Pushes.{on_read, push, push_op}
 use Rattle.expr_scope.specs.declared.scope.ExprValue.{ExprValue}
-use Rattle.expr_scope.specs.declared.symbols.Symbol.{Symbol}
+use Rattle.expr_scope.specs.Outcomes.{Symbol}
 use Rattle.expr_scope.specs.Symbols.{lookup}
 use Rattle.expr_scope.specs.Scopes.{named_tmp}
 use Rattle.expr_reading.specs.Reading.{read_value, read_operand}

@@ -1,9 +1,10 @@
-// Calls that enter no macro: the delay slot and user ops; and what a macro call is given. The scope is no part of the context, since
-// statements lend it as `&mut`, and the position is each function's own.
-ghost use Rattle.std.specs.Prelude.{◌≡◌};
+// Calls that enter no macro: the delay slot and user ops; and what a macro call is given. The scope stands beside the context: a
+// struct of both would be made anew at each call of a statement, which lends the scope as `&mut` between. The position is each
+// function's own.
+ghost use Rattle.std.specs.Prelude.{◌≡◌, Some};
 ghost use Rattle.list_values.specs.Base.{listed};
 ghost use Rattle.list_pushes.specs.Outcomes.{to_pushed};
-ghost use Rattle.expr_scope.specs.Outcomes.{to_args};
+ghost use Rattle.expr_scope.specs.Outcomes.{to_args, to_symbol};
 ghost use Rattle.expr_terms.specs.Answers.{passed};
 ghost use Rattle.stmt_walk.specs.Outcomes.{to_walk, to_step};
 ghost use Rattle.stmt_walk.specs.Walks.{stepped};
@@ -37,10 +38,9 @@ pub enum Called {
 // A statement calls no local, and a macro only a statement, so this is not the function of expressions.
 #[tactic(auto, unfolding(crate::specs::Calls::symbol_called))]
 fn symbol_called(symbol: Symbol) -> Result<Called, Refusal>
-    ensures { to_called result ≡ symbol_called symbol }
+    ensures { to_called result ≡ symbol_called (to_symbol (Some symbol)) }
 {
     match symbol {
-        Symbol::Undefined => Err(Refusal::Undefined),
         Symbol::UserOp(id) => Ok(Called::UserOp(id)),
         Symbol::Macro(id) => Ok(Called::Macro(id)),
         Symbol::Space(_)
@@ -51,14 +51,14 @@ fn symbol_called(symbol: Symbol) -> Result<Called, Refusal>
     }
 }
 
-#[tactic(auto, unfolding(crate::specs::Calls::called_of))]
+#[tactic(auto, unfolding(crate::specs::Calls::called_of, crate::specs::Calls::symbol_called))]
 pub fn called_of(section: Section<'_>, name: u64) -> Result<Called, Refusal>
     ensures { to_called result ≡ called_of section.entry.stream.now section.entry.table.now name }
 {
     if name == access::u16_at(section.stream, header::DELAY_SLOT) {
         return Ok(Called::DelaySlot);
     }
-    symbol_called(lookup(section.table, name))
+    symbol_called(lookup(section.table, name).ok_or(Refusal::Undefined)?)
 }
 
 #[tactic(auto, unfolding(crate::specs::Calls::delay_slot, list_values::specs::Base::then_l, stmt_walk::specs::Walks::pushed_then))]

@@ -1,5 +1,5 @@
-// Statements of one step: unimplemented, the export, locals, and builds. The scope is no part of the context, since statements lend
-// it as `&mut`, and the position is each function's own.
+// Statements of one step: unimplemented, the export, locals, and builds. The scope stands beside the context: a struct of both
+// would be made anew at each call of a statement, which lends the scope as `&mut` between. The position is each function's own.
 ghost use Rattle.std.specs.Prelude.{◌≡◌, ◌<◌, unwrap_or, IfSome};
 ghost use Rattle.list_values.specs.Base.{listed};
 ghost use Rattle.stmt_walk.specs.Outcomes.{to_walk, to_step};
@@ -182,8 +182,8 @@ pub fn build(
 ) -> Result<(usize, Walk), Refusal>
     ensures { listed (to_step walk result) actions.new ≡ build section.entry.stream.now section.entry.table.now actions.old pos (to_walk walk) }
 {
-    match lookup(section.table, u16_in(section.stream, pos, 1)) {
-        Symbol::Undefined => Err(Refusal::Undefined),
+    let name = u16_in(section.stream, pos, 1);
+    match lookup(section.table, name).ok_or(Refusal::Undefined)? {
         Symbol::Table(wanted) => build_table(section, actions, wanted, pos, walk),
         Symbol::Space(_)
         | Symbol::Register(_)
