@@ -1,5 +1,6 @@
 // Expressions, each ahead of its parts. The walk over a prefix-coded expression calls itself on each part, depth left
-// falling. Names and integers, which are the most and have no parts, are read at once.
+// falling. Names and integers, which are the most and have no parts, are read at once: without that a small section takes 4 of 100
+// longer, which misses the bar of four times the original with reading.
 ghost use Rattle.std.specs.Prelude.{◌≡◌};
 ghost use Rattle.file_syntax.specs.Expressions.{address_of, space, call, expr, exprs};
 ghost use Rattle.file_syntax.specs.Reads.{good, to_cursor};
