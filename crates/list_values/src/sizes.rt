@@ -8,8 +8,7 @@ ghost use Rattle.list_values.specs.Directions.{forwards};
 ghost use Rattle.list_values.specs.Sizes.{Settles, Counted, entry, list_size, export_size_of, tmp_size, listed_size, size_of, size_at, sum_of_errors, recorded, size_temporary, settled, set_operand, set_two, set_three, falls_back, pair_fallback, set_size_of_pair, triple_falls_back, triple_fallback, share_size, all_equal, set_size_of_triple, set_unsized};
 
 use crate::section::Section;
-use crate::value::{INPUT_0, INPUT_1, OUTPUT, Value, get, put_size, value_at};
-use codes::action::SIZE_PLACE;
+use crate::value::{INPUT_0, INPUT_1, OUTPUT, Value, put_size, value_at};
 use codes::list::List;
 use codes::{NONE, table, value_kind};
 
@@ -111,22 +110,13 @@ pub fn size_of(section: Section<'_>, temporaries: &[u64], value: Value) -> u64
     listed_size(section, value.kind, value.number)
 }
 
-// The known size of the operand there, from its words: no value is made of them, since each push asks for two or three sizes.
+// The known size of the operand there.
 #[tactic(auto, unfolding(crate::specs::Sizes::size_at, crate::specs::Sizes::size_of, crate::specs::Sizes::size_of_local, crate::specs::Values::value_at, crate::specs::Values::value_of))]
 #[inline(always)]
 fn size_at(section: Section<'_>, actions: &[u64], temporaries: &[u64], at: usize, index: u8) -> u64
     ensures { result ≡ size_at section.entry.stream.now section.entry.table.now actions.now temporaries.now at index }
 {
-    let w = get(actions, at, usize::from(index) + 1);
-    let own = w / SIZE_PLACE % 65536;
-    if own != NONE {
-        return own;
-    }
-    let number = get(actions, at, usize::from(index));
-    if w % 256 == value_kind::PCODE_TMP {
-        return tmp_size(temporaries, number);
-    }
-    listed_size(section, w % 256, number)
+    size_of(section, temporaries, value_at(actions, at, index))
 }
 
 // The sum, up to the greatest number of a word.
