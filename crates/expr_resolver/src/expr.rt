@@ -13,7 +13,7 @@ ghost use Rattle.expr_resolver.specs.Expressions.{means_at, local_address, addre
 use access::u16_in;
 use codes::limit::DEPTH;
 use codes::refusal::Refusal;
-use codes::{NONE, expression, header, operation};
+use codes::{NONE, expression, operation};
 use expr_reading::read::{constant, read_operand};
 use expr_scope::args::{ARGS_WORDS, put_arg};
 use expr_scope::scope::{Bits, ExprValue, plain_local, resolve_ident};
@@ -142,9 +142,7 @@ pub fn skip_expr(stream: &[u8], pos: usize) -> usize
     ensures { result ≡ skip_expr stream.now pos }
 {
     let start = Cursor { at: pos, val: 0 };
-    let names = access::u16_at(stream, header::NAMES);
-    let source = Source { stream, names };
-    place_of(file_syntax::expressions::expr(DEPTH, &source, start))
+    place_of(file_syntax::expressions::expr(DEPTH, &Source::new(stream), start))
 }
 
 // The six greater operators swap their operands before either is resolved.
