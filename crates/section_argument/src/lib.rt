@@ -154,6 +154,7 @@ pub fn read_section(rt: &(impl Files + AllocGlobal), path: &[u8]) -> Result<Vec<
         Err(error) => return Err(Problem::CannotOpen(said_of(rt.alloc(), path, &error)?)),
     };
     let mut bytes = Vec::new(rt.alloc());
+    // By `as`, since both have 64 bits.
     if let Err(error) = file.take(TOO_LONG_FILE as u64).read_to_end(&mut bytes) {
         return Err(Problem::CannotRead(said_of(rt.alloc(), path, &error)?));
     }
