@@ -14,7 +14,7 @@ ghost use Rattle.expr_resolver.specs.Expressions.{means_at, local_address, addre
 use access::u16_in;
 use codes::limit::DEPTH;
 use codes::refusal::Refusal;
-use codes::{NONE, expression, header, operation};
+use codes::{NONE, expression, operation};
 use expr_inbuilts::function::Inbuilt;
 use expr_reading::read::read_operand;
 use expr_scope::args::{ARGS_WORDS, put_arg};
@@ -144,9 +144,7 @@ pub fn skip_expr(stream: &[u8], pos: usize) -> usize
     ensures { result ≡ skip_expr stream.now pos }
 {
     let start = Cursor { at: pos, val: 0 };
-    let names = access::u16_at(stream, header::NAMES);
-    let source = Source { stream, names };
-    place_of(file_syntax::expressions::expr(DEPTH, &source, start))
+    place_of(file_syntax::expressions::expr(DEPTH, &Source::new(stream), start))
 }
 
 // The six greater operators swap their operands before either is resolved.

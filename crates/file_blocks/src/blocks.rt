@@ -12,12 +12,13 @@ pub const BLOCK: usize = 512;
 
 pub const PAYLOAD: usize = 510;
 
-// The bytes of the longest file, and of the longest stream.
+// The bytes of the longest file.
 pub const LONGEST_FILE: usize = 65536;
 
 // So many bytes of a file are enough to refuse it as too long.
 pub const TOO_LONG_FILE: usize = LONGEST_FILE + 1;
 
+// The bytes of the longest stream, which is that of the longest file.
 pub const LONGEST_STREAM: usize = 65280;
 
 // The sum of a payload is taken in two parts of which the first has so many bytes.
@@ -31,7 +32,8 @@ fn sum(bytes: &[u8]) -> u16
     bytes.iter().map(|&byte| u16::from(byte)).sum()
 }
 
-// A block's payload and its number, as its last two bytes say.
+// A block's payload and its number, as its last two bytes say. The number becomes a u64 by `as`: both have 64 bits, and the library
+// has no `From` between them.
 #[tactic(auto, using(crate::proofs::BlockLaws::checks_laws))]
 fn checks_out(block: &[u8], number: usize) -> bool
     requires { (length block.now ≡ 512) × (number ≤ 65536) }

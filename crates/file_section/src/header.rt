@@ -62,8 +62,7 @@ fn counts(stream: &[u8], cursor: Cursor) -> Result<Cursor, Refused>
 fn roles(stream: &[u8], cursor: Cursor) -> Result<Cursor, Refused>
     ensures { to_cursor result ≡ roles stream.now (good cursor) }
 {
-    let names = access::u16_at(stream, codes::header::NAMES);
-    let source = Source { stream, names };
+    let source = Source::new(stream);
     let spaces = access::u16_at(stream, codes::header::SPACES);
     let default_space = u16_or(stream, spaces, Refusal::NamesNothing, cursor)?;
     let inst_start = name(&source, default_space)?;

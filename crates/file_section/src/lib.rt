@@ -9,8 +9,8 @@
 //   3328 + k     where list k begins: spaces, registers, bit ranges, tables, user ops, macros, other symbols, fields,
 //                subtables, statements
 //   3338         the first ordinal of the section's own statements
-// The header stays in the stream, at its fixed offsets. A number becomes an index by `as`: both have 64 bits, and the library has no
-// `From` between them.
+// The header stays in the stream, at its fixed offsets. A number becomes an index by `as`: both have 64 bits, and the library has
+// no `From` between them.
 #![tactic(auto)]
 
 ghost use Rattle.std.specs.Prelude.{◌≡◌};
@@ -44,9 +44,8 @@ fn own_statements(
     ensures { reading (to_cursor result) table.new ≡ statements stream.now (reading (to_cursor so_far) table.old) }
 {
     access::put(table, table::STATEMENTS, low(place_of(so_far)));
-    let names = access::u16_at(stream, codes::header::NAMES);
     let count = access::u16_at(stream, codes::header::STATEMENTS);
-    let end = body(&Source { stream, names }, count, so_far?)?;
+    let end = body(&Source::new(stream), count, so_far?)?;
     tail(stream, end)
 }
 

@@ -79,8 +79,7 @@ fn named(
 ) -> Result<Cursor, Refused>
     ensures { reading (to_cursor result) table.new ≡ named (list_number which) stream.now index (reading (to_cursor so_far) table.old) }
 {
-    let names = access::u16_at(stream, header::NAMES);
-    let source = Source { stream, names };
+    let source = Source::new(stream);
     let found = name(&source, so_far?)?;
     let place = slot(which, found.val);
     mark(place, stamp(which, index), found, table)
@@ -177,8 +176,7 @@ fn entry(
 {
     let marked = named(which, stream, index, so_far, table);
     if let List::Macros = which {
-        let names = access::u16_at(stream, header::NAMES);
-        return macro_entry(&Source { stream, names }, index, marked, table);
+        return macro_entry(&Source::new(stream), index, marked, table);
     }
     after(which, stream, marked?)
 }

@@ -153,6 +153,7 @@ pub fn names(
     requires { count ≤ 1024 }
     ensures { reading (to_cursor result) table.new ≡ names stream.now count (reading (to_cursor so_far) table.old) }
 {
+    // On the stack, since the library lends no heap.
     let mut k = [0u16; CHAINS];
     chained(stream, count, so_far, table, &mut k)
 }

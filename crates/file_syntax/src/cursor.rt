@@ -9,9 +9,9 @@ ghost use Rattle.file_syntax.specs.Cursors as words;
 ghost use Rattle.file_syntax.specs.Reads.{good, to_cursor};
 
 use access::inside::two;
-use codes::NONE;
 use codes::limit::SIZES;
 use codes::refusal::Refusal;
+use codes::{NONE, header};
 
 // First bits and bit counts are below this.
 const BITS: u64 = 8193;
@@ -21,6 +21,19 @@ const BITS: u64 = 8193;
 pub struct Source<'a> {
     pub stream: &'a [u8],
     pub names: u64,
+}
+
+impl<'a> Source<'a> {
+    // The header, which stands at the stream's start, says how many names there are.
+    pub fn new(stream: &'a [u8]) -> Source<'a>
+        ensures stream { result.stream.now ≡ stream.now }
+        ensures names { result.names ≡ le16 stream.now 2 }
+    {
+        Source {
+            stream,
+            names: access::u16_at(stream, header::NAMES),
+        }
+    }
 }
 
 // Where the reading is, and the number read last.

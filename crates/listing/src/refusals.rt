@@ -4,7 +4,8 @@ use crate::statements::Statement;
 use codes::refusal::Refusal;
 use std::fmt;
 
-// A table and no `match`: one from numbers and one to meanings would have an arm for each refusal, more than a function has lines.
+// A table and no `match`: one from numbers and one to meanings would have an arm for each refusal, and the project's rule is that
+// functions have fewer than 40 lines.
 static MEANINGS: [(Refusal, &str); 36] = [
     (
         Refusal::BadLength,

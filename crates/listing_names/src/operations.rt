@@ -10,7 +10,8 @@ fn word(words: &str, number: u64) -> &str
     words.split(' ').nth(number as usize).unwrap_or("")
 }
 
-// The name of an operation. A dash stands for a number that no operation has; past the last there is none.
+// The name of an operation. One string and no array, which would be as many lines as there are names, more than a function has.
+// A dash stands for a number that no operation has; past the last there is none.
 pub fn operation(op: u64) -> &'static str
     ensures { result.now ≡ operation_text op }
 {

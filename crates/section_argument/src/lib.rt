@@ -2,9 +2,9 @@
 // standard error where one cannot be had.
 #![tactic(auto)]
 
-ghost use Rattle.std.specs.Prelude.{◌≡◌, ◌≤◌, ◌↔◌, length, All, IfOk, IsErrOf, IsUtf8};
-ghost use Rattle.section_argument.specs.declared.Problem.TheVariants.{Failed, NotUtf8};
-ghost use Rattle.section_argument.specs.Problems.{IsFailed};
+ghost use Rattle.std.specs.Prelude.{◌≡◌, ◌≤◌, ◌↔◌, length, All, IfErr, IfOk, IsErrOf, IsUtf8};
+ghost use Rattle.section_argument.specs.declared.Problem.TheVariants.{Failed, ListFull, NotUtf8, WrongCall};
+ghost use Rattle.section_argument.specs.Problems.{IsOutOfMemory};
 
 use file_blocks::blocks::TOO_LONG_FILE;
 use std::alloc::{AllocError, AllocFailed, Global};
@@ -46,7 +46,7 @@ impl From<io::Error> for Problem {
 }
 
 impl From<AllocError> for Problem {
-    ghost from_gives = { λ _ problem. IsFailed problem };
+    ghost from_gives = { λ _ problem. IsOutOfMemory problem };
 
     fn from(error: AllocError) -> Problem {
         Problem::Failed(io::Error::from(error))
@@ -54,7 +54,7 @@ impl From<AllocError> for Problem {
 }
 
 impl<T: Drop> From<AllocFailed<T>> for Problem {
-    ghost from_gives = { λ _ problem. IsFailed problem };
+    ghost from_gives = { λ _ problem. IsOutOfMemory problem };
 
     fn from(error: AllocFailed<T>) -> Problem {
         Problem::from(AllocError::from(error))
@@ -112,6 +112,7 @@ impl Program {
 // makes the call a wrong one. No more can be promised: the library's `Env` says of an argument only that it fits the room for it.
 pub fn arguments(rt: &(impl Env + AllocGlobal)) -> Result<Vec<Vec<u8>>, Problem>
     ensures count { IfOk result (λ words. length words.items ≤ 3) }
+    ensures problems { IfErr result (λ problem. (problem ≡ WrongCall → ⊥) → IsOutOfMemory problem) }
     ensures lengths { IfOk result (λ words. All (λ word. length word.items ≤ 4096) words.items) }
 {
     let mut words = Vec::new(rt.alloc());
@@ -144,7 +145,9 @@ fn said_of(alloc: Global, path: &str, error: &io::Error) -> Result<String, Alloc
 // The bytes of the section file of that name, or as many as show that it is too long for one. The library's `Files` says of no
 // file what it holds, so that neither these bytes nor their number can be promised.
 pub fn read_section(rt: &(impl Files + AllocGlobal), path: &[u8]) -> Result<Vec<u8>, Problem>
-    ensures { IsErrOf result NotUtf8 ↔ (IsUtf8 path.now → ⊥) }
+    ensures name { IsErrOf result NotUtf8 ↔ (IsUtf8 path.now → ⊥) }
+    ensures no_call { IsErrOf result WrongCall → ⊥ }
+    ensures no_list { IsErrOf result ListFull → ⊥ }
 {
     let Ok(path) = str::from_utf8(path) else {
         return Err(Problem::NotUtf8);
@@ -154,6 +157,7 @@ pub fn read_section(rt: &(impl Files + AllocGlobal), path: &[u8]) -> Result<Vec<
         Err(error) => return Err(Problem::CannotOpen(said_of(rt.alloc(), path, &error)?)),
     };
     let mut bytes = Vec::new(rt.alloc());
+    // By `as`, since both have 64 bits.
     if let Err(error) = file.take(TOO_LONG_FILE as u64).read_to_end(&mut bytes) {
         return Err(Problem::CannotRead(said_of(rt.alloc(), path, &error)?));
     }
