@@ -5,8 +5,9 @@
 #![tactic(auto)]
 
 use codes::refusal::Refusal;
-use codes::table;
-use file_blocks::blocks::{BLOCK, LONGEST_FILE, PAYLOAD, TOO_LONG_FILE, check_blocks, join};
+use file_blocks::blocks::{BLOCK, LONGEST_FILE, PAYLOAD, TOO_LONG_FILE};
+use list_values::section::Section;
+use resolve_file::section::with_section;
 use std::alloc::{AllocError, Global};
 use std::io::{self, BufWriter, Read, Write};
 
@@ -46,6 +47,7 @@ impl<'a> Input<'a> {
     fn run(&mut self, file: &mut [u8]) {
         let start = self.u32() as usize;
         let end = start + usize::from(self.byte());
+        // By the places, since a file's bytes go round at its greatest length, and a payload's are not all its block's.
         for place in start..end {
             let place = place % LONGEST_FILE;
             let byte = self.byte();
@@ -85,16 +87,9 @@ fn seal(file: &mut [u8]) {
     }
 }
 
-// Why a file is refused, if it is. `resolve_file::section::with_section` would say it too, but it stands above the whole walk, and
-// this is a program of the reader alone.
-fn refusal_of(alloc: Global, file: &[u8]) -> Result<Option<Refusal>, AllocError> {
-    if let Err(refusal) = check_blocks(file) {
-        return Ok(Some(refusal));
-    }
-    let mut stream = vec![in alloc; 0u8; file.len() / BLOCK * PAYLOAD]?;
-    join(file, &mut stream);
-    let mut table = [0u16; table::LENGTH];
-    Ok(file_section::read_stream(&stream, &mut table).err())
+// Why a file is refused when it is read, if it is.
+fn refusal_of(file: &[u8]) -> Option<Refusal> {
+    with_section(file, &mut |_: Section<'_>| ()).err()
 }
 
 fn describe<W: Write>(out: &mut W, alloc: Global, input: &[u8]) -> io::Result<()> {
@@ -102,7 +97,7 @@ fn describe<W: Write>(out: &mut W, alloc: Global, input: &[u8]) -> io::Result<()
     for _ in 0..input.u16() {
         out.write_all(input.name())?;
         let file = input.file(alloc)?;
-        let refusal = refusal_of(alloc, &file)?;
+        let refusal = refusal_of(&file);
         writeln!(out, " {}", refusal.map_or(0, u64::from))?;
     }
     Ok(())

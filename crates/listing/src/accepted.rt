@@ -2,7 +2,7 @@
 use crate::actions::{Actions, Space};
 use crate::names::{Count, Names};
 use crate::values::{Size, Value};
-use codes::export_kind;
+use codes::{action, export_kind};
 use mizgalon::Checked;
 use resolve_answer::answer::Answer;
 use std::fmt;
@@ -74,8 +74,9 @@ impl fmt::Display for Accepted<'_> {
             checked,
         } = *self;
         let Checked { answer, passes } = checked;
-        let count = answer.actions;
-        write!(f, "{}", Actions { list, count, names })?;
+        let (actions, _) = list.as_chunks::<{ action::WORDS }>();
+        let actions = &actions[..actions.len().min(answer.actions as usize)];
+        write!(f, "{}", Actions { actions, names })?;
         if let Some(export) = Export::new(names, answer) {
             writeln!(f, "{export}")?;
         }

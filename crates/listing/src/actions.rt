@@ -299,15 +299,13 @@ impl<'a> Words<'a> {
 // The actions of a list, a line for each.
 #[derive(Clone, Copy)]
 pub(crate) struct Actions<'a> {
-    pub(crate) list: &'a [u64],
-    pub(crate) count: u64,
+    pub(crate) actions: &'a [[u64; action::WORDS]],
     pub(crate) names: Names<'a>,
 }
 
 impl fmt::Display for Actions<'_> {
     fn fmt<W: fmt::Write>(&self, f: &mut fmt::Formatter<W>) -> fmt::Result {
-        let (actions, _) = self.list.as_chunks::<{ action::WORDS }>();
-        for words in actions.iter().take(self.count as usize) {
+        for words in self.actions {
             let words = Words {
                 words,
                 names: self.names,

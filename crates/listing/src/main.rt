@@ -3,8 +3,8 @@
 #![tactic(auto)]
 
 use accepted::Accepted;
-use codes::NONE;
 use codes::refusal::Refusal;
+use expr_terms::answers::given;
 use list_values::section::Section;
 use mizgalon::Checked;
 use names::Names;
@@ -58,10 +58,8 @@ impl Listing {
     fn print<W: Write>(&self, out: &mut W, section: Option<Section<'_>>) -> io::Result<()> {
         let answer = self.checked.answer;
         if let Ok(reason) = Reason::try_from(answer.refusal) {
-            let statement = match section {
-                Some(section) if answer.ordinal != NONE => {
-                    Some(Statement::new(section, answer.ordinal))
-                }
+            let statement = match (section, given(answer.ordinal)) {
+                (Some(section), Some(ordinal)) => Some(Statement::new(section, ordinal)),
                 _ => None,
             };
             let errors = answer.errors;

@@ -1,5 +1,5 @@
 // The names of a section's file and its temporaries, as a listing has them, and counts of things.
-use codes::NONE;
+use expr_terms::answers::given;
 use list_values::section::Section;
 use listing_names::names::{Symbol, name_of, symbol_name};
 use std::fmt;
@@ -79,10 +79,9 @@ impl<'a> Names<'a> {
     }
 
     pub(crate) fn temporary(&self, index: u64) -> Temporary<'a> {
-        let number = access::get(self.temporaries, index as usize) % 65536;
-        if number == NONE {
+        let Some(number) = given(access::get(self.temporaries, index as usize) % 65536) else {
             return Temporary::Unnamed(index);
-        }
+        };
         let name = Name(name_of(self.section, number));
         if self.is_shared(index, number) {
             return Temporary::Shared(name, index);

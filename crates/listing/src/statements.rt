@@ -6,6 +6,7 @@ use file_syntax::cursor::{Cursor, Source, place_of};
 use list_values::section::Section;
 use listing_names::names::name_of;
 use std::fmt;
+use stmt_simple::calls::macro_at;
 
 #[derive(Clone, Copy)]
 enum Kind {
@@ -76,10 +77,8 @@ pub(crate) struct Statement<'a> {
 
 // Where the statement stands that so many of those from a place on come before.
 fn after(stream: &[u8], at: usize, count: u64) -> usize {
-    let names = access::u16_at(stream, header::NAMES);
-    let source = Source { stream, names };
     let cursor = Cursor { at, val: 0 };
-    place_of(file_syntax::statements::body(&source, count, cursor))
+    place_of(file_syntax::statements::body(&Source::new(stream), count, cursor))
 }
 
 // The number that stands in the table at a place.
@@ -103,7 +102,7 @@ fn macro_of(section: Section<'_>, ordinal: u64) -> usize {
 fn macro_body<'a>(section: Section<'a>, index: usize) -> Body<'a> {
     let stream = section.stream;
     let index = index % MACROS as usize;
-    let at = usize::from(entry(section, table::MACROS + index));
+    let at = macro_at(section.table, index as u64);
     let parameters = access::byte(stream, at, 0) as usize;
     let name = name_of(section, access::u16_at(stream, at.saturating_sub(2)));
     Body {

@@ -1,7 +1,8 @@
 // A value: what it is by the file's name, its byte offset after a plus, its size after a colon: `r1+2:4`.
 use crate::names::{Name, Names, Temporary};
-use codes::action::SIZE_PLACE;
-use codes::{NONE, header, value_kind};
+use codes::{header, value_kind};
+use expr_terms::answers::given;
+use list_values::value::value_at;
 use listing_names::names::Symbol;
 use std::fmt;
 
@@ -11,10 +12,7 @@ pub(crate) struct Size(Option<u64>);
 
 impl From<u64> for Size {
     fn from(number: u64) -> Size {
-        if number == NONE {
-            return Size(None);
-        }
-        Size(Some(number))
+        Size(given(number))
     }
 }
 
@@ -71,10 +69,11 @@ impl<'a> Names<'a> {
 
     // The value of two words.
     pub(crate) fn value(&self, number: u64, word: u64) -> Value<'a> {
+        let value = value_at(&[number, word], 0, 0);
         Value {
-            base: self.base(word % 256, number),
-            offset: word / 256 % 65536,
-            size: Size::from(word / SIZE_PLACE),
+            base: self.base(value.kind, value.number),
+            offset: value.offset,
+            size: Size::from(value.size),
         }
     }
 }

@@ -12,17 +12,11 @@ use list_values::section::Section;
 use resolve_file::pointer_size;
 use resolve_file::section::with_section;
 
-#[derive(Clone, Copy)]
+#[derive(Clone, Copy, Default)]
 pub struct Counts {
     pub subtables: u64,
     pub pointer: u64,
 }
-
-// What is told of a file that is refused.
-const NO_COUNTS: Counts = Counts {
-    subtables: 0,
-    pointer: 0,
-};
 
 #[tactic(auto, unfolding(crate::specs::Counts::table_counts))]
 fn table_counts(section: Section<'_>) -> Counts
@@ -40,6 +34,6 @@ pub fn section_counts(file: &[u8]) -> Counts
 {
     match with_section(file, &mut |section: Section<'_>| table_counts(section)) {
         Ok(counts) => counts,
-        Err(_) => NO_COUNTS,
+        Err(_) => Counts::default(),
     }
 }

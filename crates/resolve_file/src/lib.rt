@@ -13,6 +13,7 @@ use codes::list::List;
 use codes::refusal::Refusal;
 use codes::{NONE, action, header, table};
 use expr_scope::smalls::SCOPE_WORDS;
+use expr_terms::answers::given;
 use list_pushes::push::{Context, Env, State};
 use list_values::section::Section;
 use list_values::sizes::{Sizing, entry};
@@ -29,15 +30,14 @@ pub mod section;
 const DEPTH: u64 = 16;
 
 // The size of the default space's pointers, 8 where there is none.
-#[tactic(auto, unfolding(crate::specs::Files::pointer_size))]
+#[tactic(auto, unfolding(crate::specs::Files::pointer_size, expr_terms::specs::Answers::given))]
 pub fn pointer_size(section: Section<'_>) -> u64
     ensures { result ≡ pointer_size section.entry.stream.now section.entry.table.now }
 {
-    let i = access::u16_at(section.stream, header::DEFAULT_SPACE);
-    if i == NONE {
+    let Some(space) = given(access::u16_at(section.stream, header::DEFAULT_SPACE)) else {
         return 8;
-    }
-    let at = entry(section.table, usize::from(List::Spaces), i * 5 + 3);
+    };
+    let at = entry(section.table, usize::from(List::Spaces), space * 5 + 3);
     access::u16_at(section.stream, at)
 }
 

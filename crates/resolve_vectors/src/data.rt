@@ -119,6 +119,7 @@ impl<'a> Cases<'a> {
             return Err(self.ill_formed());
         }
         let mut word = [0u8; 8];
+        // No `copy_from_slice`, which asks for slices of one length: that a reading gives as many bytes is promised nowhere.
         for (to, byte) in word.iter_mut().zip(self.bytes(length)?) {
             *to = *byte;
         }

@@ -55,6 +55,7 @@ fn replay<W: Write>(out: &mut W, alloc: Global, data: &[u8]) -> Result<(), Probl
         cases,
         differ: 0,
     };
+    // How many cases there are is told ahead of them, and each is printed by its number.
     for number in 0..cases {
         let case = left.case(alloc)?;
         let difference = case.difference(alloc)?;
