@@ -18,6 +18,8 @@ pub enum Symbol {
 }
 
 // The name whose length byte stands at a place, as far as the stream goes.
+// Not one function with that of `expr_inbuilts`, which is private there: its promise is in words of its own, since `spelled_at`
+// stands above it.
 fn spelled<'a>(stream: &'a [u8], at: usize) -> &'a [u8]
     ensures { result.now ≡ spelled_at stream.now at }
 {
