@@ -6,7 +6,6 @@ use file_syntax::cursor::{Cursor, Source, place_of};
 use list_values::section::Section;
 use listing_names::names::name_of;
 use std::fmt;
-use stmt_simple::calls::macro_at;
 
 #[derive(Clone, Copy)]
 enum Kind {
@@ -102,7 +101,8 @@ fn macro_of(section: Section<'_>, ordinal: u64) -> usize {
 fn macro_body<'a>(section: Section<'a>, index: usize) -> Body<'a> {
     let stream = section.stream;
     let index = index % MACROS as usize;
-    let at = macro_at(section.table, index as u64);
+    // Not by the stage's `macro_at`, which promises no bound for a place that is added to.
+    let at = usize::from(entry(section, table::MACROS + index));
     let parameters = access::byte(stream, at, 0) as usize;
     let name = name_of(section, access::u16_at(stream, at.saturating_sub(2)));
     Body {
