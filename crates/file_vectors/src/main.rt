@@ -45,6 +45,7 @@ impl<'a> Input<'a> {
 
     // A run's bytes, at their places among the payloads of a file's blocks, as far as the file goes.
     fn run(&mut self, file: &mut [u8]) {
+        // By `as`: the library has no `From` between a `u32` and a `usize`, and nothing is lost.
         let start = self.u32() as usize;
         let end = start + usize::from(self.byte());
         // By the places, since a file's bytes go round at its greatest length, and a payload's are not all its block's.

@@ -28,6 +28,7 @@ pub fn resolve(file: &[u8], actions: &mut [u64], temporaries: &mut [u64]) -> Ans
     resolve_words(file, actions, temporaries)
 }
 
+// No `From`, which would have to stand in the crate of `Answer`: the definition's word of its promise stands above that.
 fn numbers(answer: Answer) -> [u64; 12]
     ensures { result ≡ numbers (result_of answer) }
 {
