@@ -40,7 +40,8 @@ fn with_blocks<R, F: FnMut(Section<'_>) -> R>(file: &[u8], step: &mut F) -> Resu
     with_front(&buffer, count, step)
 }
 
-// The stream is so many bytes from the first on.
+// The stream is so many bytes from the first on. A slice cut by each of the two callers would be no plainer: what the first bytes
+// are would be shown twice.
 fn with_front<R, F: FnMut(Section<'_>) -> R>(
     bytes: &[u8],
     count: usize,
