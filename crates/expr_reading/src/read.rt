@@ -84,7 +84,9 @@ pub fn take_stated(
     set_size(section, temporaries, value, size, state)
 }
 
+// This and `masked` are compiled into what reads, since a push in them grows too large to be taken in without a hint.
 #[tactic(auto, unfolding(crate::specs::Reading::copy_to))]
+#[inline(always)]
 fn copy_to(
     context: &Context<'_>,
     actions: &mut [u64],
@@ -122,6 +124,7 @@ pub fn sliced(value: Value, more: u64, size: u64, state: State) -> Result<(Value
 
 // An operation into a temporary, and then so many of its low bits.
 #[tactic(auto, unfolding(crate::specs::Reading::masked, list_pushes::specs::Pushes::on_read))]
+#[inline(always)]
 pub fn masked(
     context: &Context<'_>,
     actions: &mut [u64],

@@ -319,8 +319,10 @@ pub fn resolve_ident(context: &Context<'_>, scope: &[u64], name: u64) -> Result<
 }
 
 // The local that a name means which is no parameter's: the usual case, in which the larger `ExprValue` need not be made. None
-// where only `resolve_ident` tells what the name means: a parameter or a range of bits.
+// where only `resolve_ident` tells what the name means: a parameter or a range of bits. Compiled into its three callers, to which
+// its answer then need not go through memory.
 #[tactic(auto, unfolding(crate::specs::Scopes::plain_local, crate::specs::Scopes::plain_of, crate::specs::Scopes::inner_meaning, crate::specs::Scopes::found_or, crate::specs::Scopes::global_meaning, crate::specs::Scopes::bit_range, crate::specs::Scopes::bits_at))]
+#[inline(always)]
 pub fn plain_local(
     context: &Context<'_>,
     scope: &[u64],

@@ -133,6 +133,7 @@ pub fn output_or(
 }
 
 #[tactic(auto, unfolding(crate::specs::Pushes::write_operands))]
+#[inline(always)]
 fn write_operands(actions: &mut [u64], at: usize, out: Value, first: Value, second: Value)
     ensures { actions.new ≡ write_operands actions.old at out first second }
 {
@@ -142,6 +143,7 @@ fn write_operands(actions: &mut [u64], at: usize, out: Value, first: Value, seco
 }
 
 #[tactic(auto, unfolding(crate::specs::Pushes::write_head))]
+#[inline(always)]
 fn write_head(actions: &mut [u64], at: usize, kind: u64, operation: Operation)
     ensures { actions.new ≡ write_head actions.old at kind operation.code operation.number operation.count }
 {
@@ -151,8 +153,10 @@ fn write_head(actions: &mut [u64], at: usize, kind: u64, operation: Operation)
     put(actions, at, action::INPUT_COUNT, operation.count);
 }
 
-// All 24 words of an action with at most two inputs.
+// All 24 words of an action with at most two inputs. It and what it calls are compiled into each push, where most of the words
+// are known: called, an operation goes through memory.
 #[tactic(auto, unfolding(crate::specs::Pushes::write))]
+#[inline(always)]
 fn write(actions: &mut [u64], at: usize, kind: u64, operation: Operation, out: Value)
     ensures { actions.new ≡ write actions.old at kind operation.code operation.number operation.count out operation.first operation.second }
 {

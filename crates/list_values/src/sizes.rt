@@ -81,7 +81,8 @@ fn tmp_size(temporaries: &[u64], index: u64) -> u64
 }
 
 // The size of a register, table export or field. It is not compiled into what asks for a size, most of which has one of its own:
-// these hints on inlining, and those of `list_pushes`, are what was measured to be fastest.
+// these hints on inlining, and those of `list_pushes`, `expr_scope`, `expr_reading` and `stmt_branches`, are what was measured to be
+// fastest.
 #[tactic(auto, unfolding(crate::specs::Sizes::listed_size))]
 #[inline(never)]
 fn listed_size(section: Section<'_>, kind: u64, number: u64) -> u64

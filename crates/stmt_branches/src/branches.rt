@@ -55,6 +55,7 @@ pub fn label_statement(
 }
 
 #[tactic(auto, unfolding(crate::specs::Branches::branch_to, stmt_walk::specs::Walks::step_pushed, stmt_walk::specs::Walks::pushed_then))]
+#[inline(always)]
 fn branch_to(
     context: &Context<'_>,
     actions: &mut [u64],
