@@ -1,4 +1,5 @@
 mod Laws
+mod Widths
 pub mod Put
 pub mod Theorem
 pub mod OperationNames

@@ -1,5 +1,5 @@
 -- Words with a space between them.
-use Rattle.std.specs.Prelude.{ℕ, zero, suc, List, [], ◌∷◌, eqb}
+use Rattle.std.specs.Prelude.{ℕ, zero, suc, max, List, [], ◌∷◌, length, eqb}
 use Rattle.prelude.specs.Base.{when◌then◌else◌}
 
 -- the bytes ahead of the first space
@@ -16,3 +16,8 @@ rest (x ∷ xs) = when eqb x 32 then xs else rest xs
 unfoldable pub word : ℕ → List ℕ → List ℕ
 word zero xs = first xs
 word (suc n) xs = word n (rest xs)
+
+-- no word is longer
+unfoldable pub widest : List ℕ → ℕ
+widest [] = 0
+widest (x ∷ xs) = max (length (first (x ∷ xs))) (widest xs)

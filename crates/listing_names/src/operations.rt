@@ -1,5 +1,5 @@
 // The operations by the names that the field gives them (Ghidra's p-code reference).
-ghost use Rattle.std.specs.Prelude.{◌≡◌};
+ghost use Rattle.std.specs.Prelude.{◌≡◌, ◌≤◌, length};
 ghost use Rattle.listing_names.specs.Words.{word};
 ghost use Rattle.listing_names.specs.Operations.{operation_text};
 
@@ -11,9 +11,10 @@ fn word(words: &str, number: u64) -> &str
 }
 
 // The name of an operation. One string and no array, which would be as many lines as there are names, more than a function has.
-// A dash stands for a number that no operation has; past the last there is none.
+// A dash stands for a number that no operation has; past the last there is none. A name has 32 bytes at most.
 pub fn operation(op: u64) -> &'static str
-    ensures { result.now ≡ operation_text op }
+    ensures text { result.now ≡ operation_text op }
+    ensures within { length result.now ≤ 32 }
 {
     let names =
         "INT_MULT INT_DIV INT_SDIV INT_REM INT_SREM INT_ADD INT_SUB INT_LEFT INT_RIGHT INT_SRIGHT \
