@@ -2,7 +2,7 @@
 // the reader has refused those that mean nothing, but no type says so here, and as an enum each would be converted at every step,
 // and have a variant more for such a byte. The scope stands beside the context: a struct of both would be made anew at each call
 // of a statement, which lends the scope as `&mut` between. The position is each function's own.
-ghost use Rattle.std.specs.Prelude.{◌≡◌, ◌+◌, Some, Ok};
+ghost use Rattle.std.specs.Prelude.{◌≡◌, ◌+◌, ℕ, List, Some, Ok, IfSome};
 ghost use Rattle.access.specs.Le.{le16};
 ghost use Rattle.expr_scope.specs.Scopes.{resolve_ident};
 ghost use Rattle.expr_scope.specs.Outcomes.{to_args};
@@ -16,7 +16,7 @@ use codes::limit::DEPTH;
 use codes::refusal::Refusal;
 use codes::{NONE, expression, operation};
 use expr_inbuilts::function::Inbuilt;
-use expr_reading::read::read_operand;
+use expr_reading::read::{constant, read_operand};
 use expr_scope::args::{ARGS_WORDS, put_arg};
 use expr_scope::scope::{Bits, ExprValue, plain_local, resolve_ident};
 use expr_terms::address::resolve_address;
@@ -216,6 +216,43 @@ fn with_part(
     )
 }
 
+// What stands at a position, where it is a plain local or an integer, of which reading pushes nothing, or a name that is refused. Told
+// by `expr_value` at once: by the way of all, which carries each operand as an `ExprValue`, sections of operators took a third longer.
+#[tactic(auto, using(crate::proofs::ExprLaws::plain_read, crate::proofs::ExprLaws::plain_refused, crate::proofs::ExprLaws::integer_read))]
+fn plain_operand(
+    deep: u64,
+    context: &Context<'_>,
+    scope: &[u64],
+    pos: usize,
+    state: State,
+) -> Option<Result<Resolved<Value>, Refusal>>
+    ensures { IfSome result (λ o. (a m : List ℕ) → operand (to_operand o) a m ≡ expr_value (resolve_expr deep context.entry.now.section.stream.now context.entry.now.section.table.now scope.now context.entry.now.env) context.entry.now.section.stream.now context.entry.now.section.table.now context.entry.now.env pos a m state) }
+{
+    if deep == 0 {
+        return None;
+    }
+    match access::byte(context.section.stream, pos, 0) {
+        expression::IDENT => {
+            let name = u16_in(context.section.stream, pos, 1);
+            match plain_local(context, scope, name) {
+                Ok(Some(value)) => Some(Ok(Resolved {
+                    value,
+                    next: after(pos, 3),
+                    state,
+                })),
+                Ok(None) => None,
+                Err(refusal) => Some(Err(refusal)),
+            }
+        }
+        expression::INTEGER => Some(Ok(Resolved {
+            value: constant(access::u64_at(context.section.stream, after(pos, 1))),
+            next: after(pos, 9),
+            state,
+        })),
+        _ => None,
+    }
+}
+
 // An expression resolved, then read.
 #[cycle(call_inbuilt_expr_value_part_resolve_args_resolve_call_resolve_expr_resolve_op_user_op)]
 #[tactic(auto, unfolding(crate::specs::Expressions::expr_value, crate::specs::Expressions::value_then, expr_terms::specs::Answers::on_expr, expr_terms::specs::Answers::operand_of))]
@@ -230,6 +267,9 @@ pub fn expr_value(
 ) -> Result<Resolved<Value>, Refusal>
     ensures { operand (to_operand result) actions.new temporaries.new ≡ expr_value (resolve_expr deep context.entry.now.section.stream.now context.entry.now.section.table.now scope.now context.entry.now.env) context.entry.now.section.stream.now context.entry.now.section.table.now context.entry.now.env pos actions.old temporaries.old state }
 {
+    if let Some(operand) = plain_operand(deep, context, scope, pos, state) {
+        return operand;
+    }
     let expr = resolve_expr(deep, context, scope, pos, actions, temporaries, state)?;
     let (value, state) = read_operand(context, actions, temporaries, expr.value, expr.state)?;
     Ok(Resolved {
