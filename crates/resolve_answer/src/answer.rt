@@ -6,8 +6,8 @@ ghost use Rattle.stmt_walk.specs.Outcomes.{to_walk, to_export};
 ghost use Rattle.resolve_answer.specs.Answers.{resolved_to, refused, points_of, accepted};
 ghost use Rattle.resolve_answer.specs.Outcomes.{of_file, of_statement, of_end, export_numbers};
 
+use codes::NONE;
 use codes::refusal::Refusal;
-use codes::{NONE, export_kind};
 use list_end::end::Unfinished;
 use list_values::value::word;
 use stmt_walk::walk::{Export, Stopped, Walk};
@@ -109,25 +109,24 @@ fn points(actions: u64, temporaries: u64) -> u64
     0
 }
 
-// An answer with the export's four numbers, all 0 where there is none, and with zeros elsewhere.
+// An answer with the export's four numbers, of which the value's are 0 where there is none, and with zeros elsewhere.
 #[tactic(auto, unfolding(crate::specs::Answers::export_words))]
-fn export_words(export: Option<Export>) -> Answer
+fn export_words(export: Export) -> Answer
     ensures { result ≡ export_numbers (to_export export) }
 {
-    let Some(export) = export else {
-        return Answer::default();
-    };
-    let (kind, value, size) = match export {
-        Export::Value(value) => (export_kind::VALUE, value, 0),
-        Export::RamRef(to) => (export_kind::RAM_REF, to.pointer, to.size),
-        Export::RegisterRef(to) => (export_kind::REGISTER_REF, to.pointer, to.size),
-    };
-    Answer {
+    let Export { kind, to } = export;
+    let answer = Answer {
         kind,
-        number: value.number,
-        word: word(value),
-        size,
+        size: to.size,
         ..Answer::default()
+    };
+    if kind == 0 {
+        return answer;
+    }
+    Answer {
+        number: to.pointer.number,
+        word: word(to.pointer),
+        ..answer
     }
 }
 
@@ -138,7 +137,7 @@ pub fn accepted(
     subtables: usize,
     count: usize,
     walk: Walk,
-    export: Option<Export>,
+    export: Export,
 ) -> Answer
     ensures { resolved_to result actions.new temporaries.new ≡ accepted actions.old temporaries.old subtables count (to_walk walk) (to_export export) }
 {

@@ -1,10 +1,10 @@
 // The end of a walk: the two passes, the actions finished, the export's size fixed, the size errors counted, the answer.
-ghost use Rattle.std.specs.Prelude.{◌≡◌, Some};
+ghost use Rattle.std.specs.Prelude.{◌≡◌};
 ghost use Rattle.list_values.specs.Sizes.{sized};
 ghost use Rattle.stmt_walk.specs.Outcomes.{to_walk, to_export};
 ghost use Rattle.resolve_answer.specs.Answers.{resolved_to};
 ghost use Rattle.resolve_answer.specs.Outcomes.{to_resolved};
-ghost use Rattle.resolve_answer.specs.Ends.{judged, export_with, finish_export, finish_sized, actions_between, both_passes, finish};
+ghost use Rattle.resolve_answer.specs.Ends.{judged, finish_export, finish_sized, actions_between, both_passes, finish};
 
 use crate::answer::{Answer, Rejected, accepted, refused};
 use codes::refusal::Refusal;
@@ -14,7 +14,7 @@ use list_end::end::{finish_actions, fix_size};
 use list_end::passes::size_pass;
 use list_values::section::Section;
 use list_values::sizes::{Direction, Rules, Sizing, Sources};
-use list_values::value::{Span, Value, place};
+use list_values::value::{Span, place};
 use stmt_walk::walk::{Export, Walk};
 
 // What is to be finished: how many subtables the section has, how many actions stand behind room for their Builds, and the walk
@@ -32,7 +32,7 @@ fn judged(
     actions: &mut [u64],
     temporaries: &mut [u64],
     ending: Ending,
-    export: Option<Export>,
+    export: Export,
     sizing: Sizing,
 ) -> Result<Answer, Rejected>
     ensures { to_resolved result actions.new temporaries.new ≡ judged actions.old temporaries.old ending.subtables ending.count (to_walk ending.walk) (to_export export) sizing }
@@ -52,27 +52,6 @@ fn judged(
     Ok(accepted(actions, temporaries, subtables, count, walk, export))
 }
 
-// The value that is exported, or the pointer to it.
-fn exported(export: Export) -> Value
-    ensures { result ≡ (to_export (Some export)).v }
-{
-    match export {
-        Export::Value(value) => value,
-        Export::RamRef(to) | Export::RegisterRef(to) => to.pointer,
-    }
-}
-
-// The export with another value, as it was fixed.
-fn with_value(export: Export, pointer: Value) -> Export
-    ensures { to_export (Some result) ≡ export_with (to_export (Some export)) pointer }
-{
-    match export {
-        Export::Value(_) => Export::Value(pointer),
-        Export::RamRef(to) => Export::RamRef(Access { pointer, ..to }),
-        Export::RegisterRef(to) => Export::RegisterRef(Access { pointer, ..to }),
-    }
-}
-
 #[tactic(auto, unfolding(crate::specs::Ends::finish_export, crate::specs::Ends::judged_fixed))]
 fn finish_export(
     sources: &Sources<'_>,
@@ -83,12 +62,22 @@ fn finish_export(
 ) -> Result<Answer, Rejected>
     ensures { to_resolved result actions.new temporaries.new ≡ finish_export sources.entry.now.section.stream.now sources.entry.now.section.table.now actions.old temporaries.old ending.subtables ending.count sources.entry.now.pointer (to_walk ending.walk) sizing }
 {
-    let Some(export) = ending.walk.export else {
-        return judged(actions, temporaries, ending, None, sizing);
+    let export = ending.walk.export;
+    if export.kind == 0 {
+        return judged(actions, temporaries, ending, export, sizing);
+    }
+    let (pointer, sizing) = fix_size(sources, temporaries, export.to.pointer, sizing);
+    let to = Access {
+        pointer,
+        ..export.to
     };
-    let (value, sizing) = fix_size(sources, temporaries, exported(export), sizing);
-    let export = Some(with_value(export, value));
-    judged(actions, temporaries, ending, export, sizing)
+    judged(
+        actions,
+        temporaries,
+        ending,
+        Export { to, ..export },
+        sizing,
+    )
 }
 
 // From the actions with the sizes that the passes found.

@@ -12,17 +12,18 @@ ghost use Rattle.resolve_file.specs.Files.{pointer_size, at_start, start_env, wa
 use codes::list::List;
 use codes::refusal::Refusal;
 use codes::{NONE, action, header, table};
+use expr_scope::scope::Access;
 use expr_scope::smalls::SCOPE_WORDS;
 use expr_terms::answers::given;
 use list_pushes::push::{Context, Env, State};
 use list_values::section::Section;
 use list_values::sizes::{Sizing, entry};
-use list_values::value::place;
+use list_values::value::{absent, place};
 use resolve_answer::answer::{Answer, Rejected, refused};
 use resolve_answer::finish::finish;
 use section::with_section;
 use stmt_bodies::statements::body;
-use stmt_walk::walk::{Stopped, Walk};
+use stmt_walk::walk::{Export, Stopped, Walk};
 
 pub mod section;
 
@@ -58,7 +59,13 @@ fn at_start(subtables: usize) -> Walk
         labels: 0,
         placed: 0,
         statements: 0,
-        export: None,
+        export: Export {
+            kind: 0,
+            to: Access {
+                pointer: absent(),
+                size: 0,
+            },
+        },
     }
 }
 

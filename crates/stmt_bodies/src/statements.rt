@@ -104,7 +104,7 @@ fn begun(walk: Walk, ordinal: u64, statements: u64) -> Walk
 fn begin(walk: Walk, ordinal: u64) -> Result<Walk, Stopped>
     ensures { to_begun result ≡ begin ordinal (to_walk walk) }
 {
-    if walk.export.is_some() {
+    if walk.export.kind != 0 {
         return Err(Stopped {
             refusal: Refusal::AfterExport,
             ordinal,

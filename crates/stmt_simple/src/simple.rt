@@ -10,10 +10,10 @@ use access::u16_in;
 use codes::limit::DEPTH;
 use codes::list::List;
 use codes::refusal::Refusal;
-use codes::{action_kind, header, operation, table};
+use codes::{action_kind, export_kind, header, operation, table};
 use expr_reading::read::{read_operand, read_value};
 use expr_resolver::expr::resolve_expr;
-use expr_scope::scope::{ExprValue, named_tmp};
+use expr_scope::scope::{Access, ExprValue, named_tmp};
 use expr_scope::symbols::{Symbol, lookup};
 use expr_terms::answers::{Resolved, after};
 use list_pushes::push::{Context, Operation, State, push, push_op};
@@ -49,20 +49,20 @@ fn export_of(
     ensures { stepped (to_step walk result) actions.new temporaries.new ≡ export_of context.entry.now.section.stream.now context.entry.now.section.table.now actions.old temporaries.old context.entry.now.env expr.value expr.next expr.state (to_walk walk) }
 {
     let Resolved { next, value, state } = expr;
-    let (export, st) = match value {
-        ExprValue::RamRef(to) => (Export::RamRef(to), state),
-        ExprValue::RegisterRef(to) => (Export::RegisterRef(to), state),
+    let (kind, to, st) = match value {
+        ExprValue::RamRef(to) => (export_kind::RAM_REF, to, state),
+        ExprValue::RegisterRef(to) => (export_kind::REGISTER_REF, to, state),
         ExprValue::Local(_)
         | ExprValue::Unbound(_)
         | ExprValue::Const { .. }
         | ExprValue::Apply(_)
         | ExprValue::AddressOf { .. }
         | ExprValue::BitRange(_) => {
-            let (read, st) = read_operand(context, actions, temporaries, value, state)?;
-            (Export::Value(read), st)
+            let (pointer, st) = read_operand(context, actions, temporaries, value, state)?;
+            (export_kind::VALUE, Access { pointer, size: 0 }, st)
         }
     };
-    let export = Some(export);
+    let export = Export { kind, to };
     Ok((next, Walk { st, export, ..walk }))
 }
 

@@ -1,10 +1,9 @@
 -- The state of the walk and what a step of it gives, as the words have them: the export by a number, 0 where there is none,
 -- and a refusal by its number with the ordinal of the statement that has begun.
-use Rattle.std.specs.Prelude.{ℕ, Option, Some, None, Result, Ok, Err}
+use Rattle.std.specs.Prelude.{ℕ, Result, Ok, Err}
 use Rattle.codes.specs.declared.refusal.Refusal.{Refusal}
 use Rattle.codes.specs.Refusals.{number}
 use Rattle.list_values.specs.declared.value.Value as values
-use Rattle.list_values.specs.Values.{absent}
 use Rattle.list_pushes.specs.declared.push.State.{State}
 use Rattle.stmt_walk.specs.declared.walk.Export as exports
 use Rattle.stmt_walk.specs.declared.walk.Walk as walks
@@ -26,11 +25,8 @@ pub data Step : Type 0 where
   Next : ℕ → Walk → Step
   Stop : ℕ → ℕ → Step
 
-abbrev pub to_export : Option exports.Export → Export
-to_export None = record { kind = 0; v = absent; size = 0 }
-to_export (Some (exports.Export.Value v)) = record { kind = 1; v = v; size = 0 }
-to_export (Some (exports.Export.RamRef x)) = record { kind = 2; v = x.pointer; size = x.size }
-to_export (Some (exports.Export.RegisterRef x)) = record { kind = 3; v = x.pointer; size = x.size }
+abbrev pub to_export : exports.Export → Export
+to_export x = record { kind = x.kind; v = x.to.pointer; size = x.to.size }
 
 abbrev pub to_walk : walks.Walk → Walk
 to_walk w = record { st = w.st; labels = w.labels; placed = w.placed; statements = w.statements; export = to_export w.export }

@@ -7,14 +7,14 @@ ghost use Rattle.stmt_walk.specs.Walks.{stop};
 use codes::refusal::Refusal;
 use expr_scope::scope::Access;
 use list_pushes::push::State;
-use list_values::value::Value;
 
-// What a section exports: a value, or what stands at a pointer, in RAM or among the registers, with its access size.
+// What a section exports. Its kind: 0 nothing, 1 a value, 2 what a pointer refers to in RAM, 3 among the registers; then the
+// value or the pointer, and the size of the access. The kind is a number: what `body` and those above it promise holds of a
+// walk with any, and an enum would ask more.
 #[derive(Clone, Copy)]
-pub enum Export {
-    Value(Value),
-    RamRef(Access),
-    RegisterRef(Access),
+pub struct Export {
+    pub kind: u64,
+    pub to: Access,
 }
 
 // The walk's state above that of expressions: labels given, labels placed, statements begun, the export. A step is given the
@@ -26,7 +26,7 @@ pub struct Walk {
     pub labels: u64,
     pub placed: u64,
     pub statements: u64,
-    pub export: Option<Export>,
+    pub export: Export,
 }
 
 // A refusal, and the ordinal of the statement that had begun.
