@@ -11,17 +11,17 @@ use Rattle.resolve_answer.specs.Answers.{Resolved, resolved_to, refused, export_
 
 abbrev pub to_resolved : Result Answer Rejected → List ℕ → List ℕ → Resolved
 to_resolved (Ok r) a m = resolved_to r a m
-to_resolved (Err e) a m = refused a m (number e.refusal) (unwrap_or e.ordinal 65535) e.errors
+to_resolved (Err e) a m = refused a m e.refusal (unwrap_or e.ordinal 65535) e.errors
 
 -- a refusal of the file, of a statement, and of an action at the end
 abbrev pub of_file : Refusal → Rejected
-of_file refusal = record { refusal = refusal; ordinal = None; errors = 0 }
+of_file refusal = record { refusal = number refusal; ordinal = None; errors = 0 }
 
 abbrev pub of_statement : Stopped → Rejected
-of_statement s = record { refusal = s.refusal; ordinal = Some s.ordinal; errors = 0 }
+of_statement s = record { refusal = number s.refusal; ordinal = Some s.ordinal; errors = 0 }
 
 abbrev pub of_end : Unfinished → Rejected
-of_end u = record { refusal = u.refusal; ordinal = Some u.sizing.begun; errors = 0 }
+of_end u = record { refusal = number u.refusal; ordinal = Some u.sizing.begun; errors = 0 }
 
 -- the export's four numbers, and zeros elsewhere
 abbrev pub export_numbers : Export → Answer

@@ -42,10 +42,11 @@ impl Answer {
     }
 }
 
-// Why a section is refused, at which statement, and the size errors that were counted.
+// Why a section is refused, at which statement, and the size errors that were counted. The refusal is its number, as in the
+// answer: what `refused` promises holds of any number, and a `Refusal` would ask more.
 #[derive(Clone, Copy)]
 pub struct Rejected {
-    pub refusal: Refusal,
+    pub refusal: u64,
     pub ordinal: Option<u64>,
     pub errors: u64,
 }
@@ -55,7 +56,7 @@ impl From<Refusal> for Rejected {
 
     fn from(refusal: Refusal) -> Rejected {
         Rejected {
-            refusal,
+            refusal: u64::from(refusal),
             ordinal: None,
             errors: 0,
         }
@@ -86,12 +87,12 @@ impl From<Unfinished> for Rejected {
 
 #[tactic(auto, unfolding(crate::specs::Answers::refused, list_end::specs::End::zero_from))]
 pub fn refused(actions: &mut [u64], temporaries: &mut [u64], why: Rejected) -> Answer
-    ensures { resolved_to result actions.new temporaries.new ≡ refused actions.old temporaries.old (number why.refusal) (unwrap_or why.ordinal 65535) why.errors }
+    ensures { resolved_to result actions.new temporaries.new ≡ refused actions.old temporaries.old why.refusal (unwrap_or why.ordinal 65535) why.errors }
 {
     access::zero_from(actions, 0);
     access::zero_from(temporaries, 0);
     Answer {
-        refusal: u64::from(why.refusal),
+        refusal: why.refusal,
         ordinal: why.ordinal.unwrap_or(NONE),
         errors: why.errors,
         ..Answer::default()

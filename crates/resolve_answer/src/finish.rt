@@ -39,9 +39,9 @@ fn judged(
 {
     if sizing.errors != 0 {
         return Err(Rejected {
-            refusal: Refusal::ErrorsRecorded,
             ordinal: Some(sizing.first),
             errors: sizing.errors,
+            ..Rejected::from(Refusal::ErrorsRecorded)
         });
     }
     let Ending {
