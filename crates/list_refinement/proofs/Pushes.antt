@@ -38,7 +38,7 @@ use Rattle.list_refinement.proofs.Focus.{value_of, words_of}
 use Rattle.list_refinement.proofs.After.{After, after_ready}
 use Rattle.list_refinement.proofs.Rules.{update_is, Ruled, ruled-after, updated_after}
 use Rattle.list_refinement.proofs.Lists.{list_length, list_focus, focus_at, write-action}
-use Rattle.list_refinement.proofs.Seen.{bind_tmp, bind_pushed, yes, seen_read, seen_pushed, seen_tmp, seen_push, outcome}
+use Rattle.list_refinement.proofs.Seen.{bind_tmp, bind_pushed, yes, seen_read, seen_pushed, seen_tmp, seen_push, outcome, outcome_map}
 use Rattle.list_refinement.specs.RuleKinds.{kind_of, Operands}
 
 -- temporaries
@@ -293,6 +293,14 @@ module _ (e : Env) (s : State) (front tail rest : List ℕ) (lent : Lent e front
                 { end = end_more updated.0 i; temporaries = count i; sizing = enc_z updated.1 })
                 (actions_in front tail (s.actions ++ (updated.0 ∷ []))) (temporaries_in rest updated.1.temporaries))
             go false p = unfold on_push require seen_pushed outcome refusal_number in refl
+
+        pub op_no_output_is : output ≡ none
+            → seen_pushed (push_op stream table (actions_in front tail s.actions) (temporaries_in rest ts) we (operation_number operation) number
+            (length inputs) (output_of (some operation) output) (first_of inputs) (second_of inputs) (enc_s (length front) s))
+            ≡ outcome front tail rest (λ x. x) (d.op_no_output operation number inputs e s)
+        unfolding d.op_no_output
+        op_no_output_is none-given =
+            push-op_is ∙ rw none-given (sym (outcome_map front tail rest e (λ x. x) (λ _. tt) (d.push_op operation number inputs none e s)))
 
         -- what a push that is done leaves
         pub push-op-done : (a : SemanticAction) (u : State) → d.push_op operation number inputs output e s ≡ done a u

@@ -48,6 +48,12 @@ module _ (front tail rest : List ℕ) where
   outcome enc (done a s) = yes (enc a) (enc_s (length front) s) (actions_of s) (tmps_of s)
   outcome enc (stopped r ordinal errors) = no (refusal_number r)
 
+  -- an answer changed afterwards
+  pub outcome_map : {A B C : Type 0} (e : Env) (f : B → C) (c : A → B) (o : Outcome A) → outcome f (on e o λ a. λ e s. done (c a) s) ≡ outcome (λ a. f (c a)) o
+  unfolding outcome on
+  outcome_map e f c (done a s) = refl
+  outcome_map e f c (stopped r ordinal errors) = refl
+
   module _ {A C B R : Type 0} (e : Env) (seen : R → Seen B) (enc_c : C → B) (k : A → Walk C) where
     abbrev Goes : {D : Type 0} → (A → D) → (D → WordState → List ℕ → List ℕ → R) → Outcome A → Type 0
     Goes enc f o = (a : A) (s : State) → o ≡ done a s → seen (f (enc a) (enc_s (length front) s) (actions_of s) (tmps_of s))

@@ -192,6 +192,15 @@ module _ (s t : List ℕ) (sec : Section) (holds : SizesHold s t sec) (tail : Li
           go true = unfold base_opens in refl
           go false = differ_is v.kind v.number v.offset v.size
 
+      -- a value that is no operand yet
+      pub set_value_is : (v : Value) (n : ℕ) → Sound sec (length z.temporaries) v → n < 65535
+          → settled (temporaries_in tail z.temporaries) (enc_v v) (size_of s t (temporaries_in tail z.temporaries) (enc_v v)) n (enc_z z)
+          ≡ listed (enc_z (set_size sec n v z).1) (temporaries_in tail (set_size sec n v z).1.temporaries)
+      unfolding set_size
+      set_value_is v n f h =
+          rw (size_is z.temporaries fit v f)
+          (settled_is (d.size_of sec z.temporaries v) v n (known_small z.temporaries fit v f) f h)
+
 -- what setting a size leaves
 pub record Sets (y z : Sizing) : Type 0 where
   pub count : length y.temporaries ≡ length z.temporaries
