@@ -2,12 +2,21 @@
 use mathlib.Core.Path.{◌≡◌}
 use mathlib.Core.Bool.{Bool, true, false}
 use mathlib.Core.List.{List}
-use Prim.Native.Nat.{ℕ, suc, ◌-◌, ◌%◌, ◌≤◌, ◌<◌}
+use Prim.Native.Nat.{ℕ, suc, ◌+◌, ◌-◌, ◌%◌, ◌≤◌, ◌<◌}
+use native.Mathlib.Nat.{add-zero}
 use native.Mathlib.Omega.{arith}
 use lib.ListN.{get_or, set}
+use borrow.Author.Tests.{eq-eqb}
 use Rattle.prelude.specs.Base.{when◌then◌else◌}
+use Rattle.access.specs.Le.{le16}
 use Rattle.file_syntax.specs.Cursors.{Cursor}
-use Rattle.file_section.specs.Names.{reading, alike, known, spelling, name_at}
+use Rattle.file_section.specs.Names.{reading, rest_alike, alike, known, spelling, name_at}
+
+pub alike-rest : (s : List ℕ) (a b x y l : ℕ) (r : Bool) → (x ≡ le16 s a) × (x < 65536) → (y ≡ le16 s b) × (y < 65536) → x ≡ y → (l ≡ get_or s (a + 0) 0) × (l < 256) → r ≡ rest_alike s a b l → r ≡ alike s a b
+unfolding alike
+alike-rest s a b x y l r p q d h e =
+    let z : l ≡ get_or s a 0 = rw add-zero at h.0 in
+    rw (← p.0, ← q.0, eq-eqb x y d, ← z) e
 
 known_open : (s t : List ℕ) (p i j : ℕ) (w : Bool) → i ≡ suc j → known s t p i ≡ w → (when alike s p (get_or t j 0) then true else known s t p j) ≡ w
 unfolding known

@@ -57,15 +57,15 @@ clear_eight : (b : List ℕ) → clear b ≡ true → le64 b 0 ≡ 0
 unfolding le64 le32 le16
 clear_eight b e = rw (clear_at b 0 e, clear_at b 1 e, clear_at b 2 e, clear_at b 3 e, clear_at b 4 e, clear_at b 5 e, clear_at b 6 e, clear_at b 7 e)
 
-no_byte : (s : List ℕ) → le64 s 0 ≡ 0 →
-    (get_or s 0 0 ≡ 0) × (get_or s 1 0 ≡ 0) × (get_or s 2 0 ≡ 0) × (get_or s 3 0 ≡ 0) × (get_or s 4 0 ≡ 0) × (get_or s 5 0 ≡ 0) × (get_or s 6 0 ≡ 0) × (get_or s 7 0 ≡ 0)
+no_byte : (s : List ℕ) (i : ℕ) → le64 s i ≡ 0 →
+    (get_or s i 0 ≡ 0) × (get_or s (i + 1) 0 ≡ 0) × (get_or s (i + 2) 0 ≡ 0) × (get_or s (i + 2 + 1) 0 ≡ 0) × (get_or s (i + 4) 0 ≡ 0) × (get_or s (i + 4 + 1) 0 ≡ 0) × (get_or s (i + 4 + 2) 0 ≡ 0) × (get_or s (i + 4 + 2 + 1) 0 ≡ 0)
 unfolding le64 le32 le16
-no_byte s e = (omega arith, omega arith, omega arith, omega arith, omega arith, omega arith, omega arith, omega arith)
+no_byte s i e = (omega arith, omega arith, omega arith, omega arith, omega arith, omega arith, omega arith, omega arith)
 
 eight_clear : (b : List ℕ) → length b ≡ 8 → le64 b 0 ≡ 0 → clear b ≡ true
 unfolding zeros
 eight_clear b l e =
-    let n = no_byte b e in
+    let n = no_byte b 0 e in
     sym (clear_drop 8 0 b (omega arith)) ∙ rw (n.0, n.1, n.2, n.3, n.4, n.5, n.6, n.7)
 
 le_eight : (b : List ℕ) → from_le_bytes w64 b ≡ le64 b 0
