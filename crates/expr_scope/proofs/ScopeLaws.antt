@@ -87,10 +87,10 @@ wrong_means (Meaning.Means (ExprValue.AddressOf u z)) n h = absurd (cc h)
 wrong_means (Meaning.Means (ExprValue.BitRange r)) n h = absurd (cc h)
 wrong_means (Meaning.Wrong m) n h = let d : m ≡ n = cc in ap Meaning.Wrong d
 
-plain_param : (k : ℕ) (p : List ℕ) (x : Meaning) (v : Value) → (when eqb k 0 then plain_of x else Plain.Untold) ≡ Plain.Is v → param_or k p x ≡ Meaning.Means (ExprValue.Local v)
+local_param : (k : ℕ) (p : List ℕ) (x : Meaning) (v : Value) → (when eqb k 0 then plain_of x else Plain.Untold) ≡ Plain.Is v → param_or k p x ≡ Meaning.Means (ExprValue.Local v)
 unfolding param_or
-plain_param zero p x v h = local_means x v h
-plain_param (suc k) p x v h = absurd (cc (rw (ne_eqb (suc k) 0 (λ z. omega arith)) at h))
+local_param zero p x v h = local_means x v h
+local_param (suc k) p x v h = absurd (cc (rw (ne_eqb (suc k) 0 (λ z. omega arith)) at h))
 
 wrong_param : (k : ℕ) (p : List ℕ) (x : Meaning) (n : ℕ) → (when eqb k 0 then plain_of x else Plain.Untold) ≡ Plain.Wrong n → param_or k p x ≡ Meaning.Wrong n
 unfolding param_or
@@ -100,11 +100,17 @@ wrong_param (suc k) p x n h = absurd (cc (rw (ne_eqb (suc k) 0 (λ z. omega arit
 module _ (s t p : List ℕ) (e : Env) (name : ℕ) where
   pub plain_means : (v : Value) → Plain.Is v ≡ plain_local s t p e name → resolve_ident s t p e name ≡ Meaning.Means (ExprValue.Local v)
   unfolding plain_local resolve_ident
-  plain_means v h = plain_param (find_param e.count p name) p (inner_meaning s t p e name) v (sym h)
+  plain_means v h = local_param (find_param e.count p name) p (inner_meaning s t p e name) v (sym h)
 
   pub plain_wrong : (n : ℕ) → Plain.Wrong n ≡ plain_local s t p e name → resolve_ident s t p e name ≡ Meaning.Wrong n
   unfolding plain_local resolve_ident
   plain_wrong n h = wrong_param (find_param e.count p name) p (inner_meaning s t p e name) n (sym h)
+
+-- a parameter is not told at once
+module _ (s t p : List ℕ) (e : Env) (name i : ℕ) (f : i ≡ find_param e.count p name) where
+  pub plain_param : 0 < i → Plain.Untold ≡ plain_local s t p e name
+  unfolding plain_local
+  plain_param h = rw (← f, ne_eqb i 0 (λ z. omega arith))
 
 -- what is not told at once means something
 untold_means : (x : Meaning) → plain_of x ≡ Plain.Untold → (n : ℕ) → x ≡ Meaning.Wrong n → ⊥
