@@ -140,10 +140,10 @@ impl<'a> Cases<'a> {
         self.words(alloc, count)
     }
 
-    // A file of that length: what stands ahead of its zeros, the zeros, and its last two bytes.
+    // A file of that length: what stands ahead of its zeros, the zeros, and its last two bytes; none if it has fewer than two.
     fn file(&mut self, alloc: Global, length: usize, body: usize) -> Result<Vec<u8>, Problem> {
         let body = self.bytes(body)?;
-        let last = self.bytes(length.min(2))?;
+        let last = self.bytes(if length < 2 { 0 } else { 2 })?;
         let before_last = length.saturating_sub(last.len());
         if body.len() > before_last {
             return Err(self.ill_formed());

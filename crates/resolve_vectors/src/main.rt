@@ -94,3 +94,24 @@ fn main(rt: HostRuntime) -> io::Result<()> {
         Err(problem) => eprintln!(rt; "vectors: {problem}"),
     }
 }
+
+#[cfg(test)]
+mod tests {
+    use super::*;
+    use std::test::Fail;
+
+    // One case, with nothing lent: a file of one byte, which has no last two, and which is refused for its length.
+    const ONE_BYTE: &[u8] = b"\x01\0\0\0\x01\0\0\0\x01\0\0\0\0\0\0\0\0\0\0\0*\x01\x01\x02\xff\xff\
+        \0\0\0\0\0\0\0\0\0\0\0\0\0\0\0\0\0\0";
+
+    #[test]
+    fn a_file_of_one_byte(rt: HostRuntime) -> Result<(), Fail> {
+        let mut out = Vec::new(rt.alloc());
+        replay(&mut out, rt.alloc(), ONE_BYTE)?;
+        assert_eq!(rt;
+            out.as_slice(),
+            b"cases by refusal: 1:1\n1 cases, 0 differ\n".as_slice()
+        );
+        Ok(())
+    }
+}
