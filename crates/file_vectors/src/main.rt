@@ -14,6 +14,9 @@ use std::io::{self, BufWriter, Read, Write};
 // So much of the input is read; zeros stand behind a shorter one.
 const INPUT: usize = 65536;
 
+// So many lengths and places there are: a larger number stands for its rest by this, ahead of all else that is done with it.
+const NUMBERS: u32 = 1000000;
+
 // What is left of the input, behind which stand zeros.
 #[derive(Clone, Copy)]
 struct Input<'a>(&'a [u8]);
@@ -35,6 +38,11 @@ impl<'a> Input<'a> {
         u32::from_le_bytes([self.byte(), self.byte(), self.byte(), self.byte()])
     }
 
+    // A length or a place.
+    fn number(&mut self) -> u32 {
+        self.u32() % NUMBERS
+    }
+
     // The bytes behind a length byte; none where they are not all there.
     fn name(&mut self) -> &'a [u8] {
         let length = usize::from(self.byte());
@@ -46,7 +54,7 @@ impl<'a> Input<'a> {
     // A run's bytes, at their places among the payloads of a file's blocks, as far as the file goes.
     fn run(&mut self, file: &mut [u8]) {
         // By `as`: the library has no `From` between a `u32` and a `usize`, and nothing is lost.
-        let start = self.u32() as usize;
+        let start = self.number() as usize;
         let end = start + usize::from(self.byte());
         // By the places, since a file's bytes go round at its greatest length, and a payload's are not all its block's.
         for place in start..end {
@@ -60,13 +68,14 @@ impl<'a> Input<'a> {
 
     // The file of a description, at most a byte longer than the longest.
     fn file(&mut self, alloc: Global) -> Result<Vec<u8>, AllocError> {
-        let length = self.u32() as usize % (TOO_LONG_FILE + 1);
-        let mut file = vec![in alloc; 0u8; length]?;
+        let told = self.number() as usize;
+        let mut file = vec![in alloc; 0u8; told % (TOO_LONG_FILE + 1)]?;
         for _ in 0..self.u16() {
             self.run(&mut file);
         }
+        // The blocks are counted by another rest of the length than the bytes are.
         if self.byte() == 1 {
-            seal(&mut file);
+            seal(&mut file, told % TOO_LONG_FILE / BLOCK);
         }
         let more = self.byte();
         if let Some(last) = file.last_mut() {
@@ -76,10 +85,10 @@ impl<'a> Input<'a> {
     }
 }
 
-// The right check of each block: its payload and its number.
-fn seal(file: &mut [u8]) {
+// The right check, of its payload and its number, of so many blocks, or of all where the file has fewer.
+fn seal(file: &mut [u8], count: usize) {
     let (blocks, _) = file.as_chunks_mut::<BLOCK>();
-    for (number, block) in (0..u16::MAX).zip(blocks) {
+    for (number, block) in (0..u16::MAX).zip(blocks.iter_mut().take(count)) {
         let payload = block[..PAYLOAD].iter();
         let total = payload.fold(number, |total, byte| total.wrapping_add(u16::from(*byte)));
         let [low, high] = total.to_le_bytes();
@@ -111,4 +120,22 @@ fn main(rt: HostRuntime) -> io::Result<()> {
     let mut out = BufWriter::new(rt.alloc(), io::writer(&rt))?;
     describe(&mut out, rt.alloc(), &input)?;
     out.flush()
+}
+
+#[cfg(test)]
+mod tests {
+    use super::*;
+    use std::test::Fail;
+
+    // The first has 65,536 bytes, and none of its blocks gets its check; the second has 512; the third's run is at place 0.
+    const LARGE: &[u8] = b"\x03\0\x01a\x02\0\x02\0\0\0\x01\0\x01b\x40\x44\x0f\0\0\0\x01\0\
+        \x01c\0\x02\0\0\x01\0\x40\x42\x0f\0\x01\x01\x01\0";
+
+    #[test]
+    fn large_lengths_and_places(rt: HostRuntime) -> Result<(), Fail> {
+        let mut out = Vec::new(rt.alloc());
+        describe(&mut out, rt.alloc(), LARGE)?;
+        assert_eq!(rt; out.as_slice(), b"a 2\nb 5\nc 4\n".as_slice());
+        Ok(())
+    }
 }
