@@ -79,25 +79,34 @@ fn read<R: Input + AllocGlobal>(rt: &R) -> Result<Vec<u8>, Problem> {
     }
 }
 
-fn run(rt: &(impl Input + Print + AllocGlobal)) -> Result<(), Problem> {
-    let data = read(rt)?;
+// What is wrong with the data is said on standard error; a failure of memory, input or output is left to `main`.
+fn complain(rt: &impl Eprint, problem: Problem) -> io::Result<()> {
+    match problem {
+        Problem::Failed(error) => Err(error),
+        said => eprintln!(rt; "vectors: {said}"),
+    }
+}
+
+// A complaint comes ahead of the differences that the buffer still holds, and also where these cannot be written.
+fn replay_read(rt: &(impl Print + Eprint + AllocGlobal), data: &[u8]) -> io::Result<()> {
     let mut out = BufWriter::new(rt.alloc(), io::writer(rt))?;
-    let outcome = replay(&mut out, rt.alloc(), &data);
-    out.flush()?;
-    outcome
+    if let Err(problem) = replay(&mut out, rt.alloc(), data) {
+        complain(rt, problem)?;
+    }
+    out.flush()
 }
 
 fn main(rt: HostRuntime) -> io::Result<()> {
-    match run(&rt) {
-        Ok(()) => Ok(()),
-        Err(Problem::Failed(error)) => Err(error),
-        Err(problem) => eprintln!(rt; "vectors: {problem}"),
+    match read(&rt) {
+        Ok(data) => replay_read(&rt, &data),
+        Err(problem) => complain(&rt, problem),
     }
 }
 
 #[cfg(test)]
 mod tests {
     use super::*;
+    use std::cell::Cell;
     use std::test::Fail;
 
     // One case, with nothing lent: a file of one byte, which has no last two, and which is refused for its length.
@@ -112,6 +121,50 @@ mod tests {
             out.as_slice(),
             b"cases by refusal: 1:1\n1 cases, 0 differ\n".as_slice()
         );
+        Ok(())
+    }
+
+    // One case, of an empty file, whose right answer says 2 where 1 is right, and a byte more.
+    const DIFFERS_AND_GOES_ON: &[u8] =
+        b"\x01\0\0\0\0\0\0\0\0\0\0\0\0\0\0\0\0\0\0\0\x01\x02\x02\xff\xff\
+        \0\0\0\0\0\0\0\0\0\0\0\0\0\0\0\0\0\0x";
+
+    // Nothing can be written on standard output before something was said on standard error.
+    #[derive(Drop)]
+    struct SaysFirst(Cell<bool>);
+
+    impl Print for SaysFirst {
+        fn print<D: fmt::Display + Drop>(&self, _: D) -> io::Result<()> {
+            self.write_all(b"")
+        }
+
+        fn println<D: fmt::Display + Drop>(&self, _: D) -> io::Result<()> {
+            self.write_all(b"")
+        }
+
+        fn write_all(&self, _: &[u8]) -> io::Result<()> {
+            if self.0.get() {
+                return Ok(());
+            }
+            Err(io::Error::from(io::ErrorKind::Other))
+        }
+    }
+
+    impl Eprint for SaysFirst {
+        fn eprint<D: fmt::Display + Drop>(&self, _: D) -> io::Result<()> {
+            self.0.set(true);
+            Ok(())
+        }
+
+        fn eprintln<D: fmt::Display + Drop>(&self, text: D) -> io::Result<()> {
+            self.eprint(text)
+        }
+    }
+
+    #[test]
+    fn the_complaint_comes_first(rt: HostRuntime) -> Result<(), Fail> {
+        let outputs = (SaysFirst(Cell::new(false)), rt.alloc());
+        replay_read(&outputs, DIFFERS_AND_GOES_ON)?;
         Ok(())
     }
 }
