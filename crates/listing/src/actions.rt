@@ -121,7 +121,8 @@ impl fmt::Display for Inputs<'_> {
     fn fmt<W: fmt::Write>(&self, f: &mut fmt::Formatter<W>) -> fmt::Result {
         for (index, [number, word]) in self.words.iter().copied().enumerate() {
             let ahead = if index == 0 { self.first } else { ", " };
-            write!(f, "{ahead}{}", self.names.value(number, word))?;
+            f.write_str(ahead)?;
+            self.names.value(number, word).fmt(f)?;
         }
         Ok(())
     }

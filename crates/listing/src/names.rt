@@ -8,8 +8,23 @@ use std::fmt;
 #[derive(Clone, Copy)]
 pub(crate) struct Name<'a>(pub(crate) &'a [u8]);
 
+impl<'a> Name<'a> {
+    // The whole name as text, where all of it is visible ASCII: one piece is written faster than a piece for each byte. By
+    // `fold`, which takes several bytes at a time where `all` may stop at each.
+    fn visible(&self) -> Option<&'a str> {
+        let bytes = self.0.iter();
+        if bytes.fold(true, |visible, byte| visible & byte.is_ascii_graphic()) {
+            return str::from_utf8(self.0).ok();
+        }
+        None
+    }
+}
+
 impl fmt::Display for Name<'_> {
     fn fmt<W: fmt::Write>(&self, f: &mut fmt::Formatter<W>) -> fmt::Result {
+        if let Some(name) = self.visible() {
+            return f.write_str(name);
+        }
         for byte in self.0.iter().copied() {
             if byte.is_ascii_graphic() {
                 write!(f, "{}", char::from(byte))?;
@@ -47,7 +62,7 @@ pub(crate) enum Temporary<'a> {
 impl fmt::Display for Temporary<'_> {
     fn fmt<W: fmt::Write>(&self, f: &mut fmt::Formatter<W>) -> fmt::Result {
         match *self {
-            Temporary::Named(name) => write!(f, "{name}"),
+            Temporary::Named(name) => name.fmt(f),
             Temporary::Shared(name, number) => write!(f, "{name}#{number}"),
             Temporary::Unnamed(number) => write!(f, "t{number}"),
         }

@@ -38,9 +38,9 @@ enum Base<'a> {
 impl fmt::Display for Base<'_> {
     fn fmt<W: fmt::Write>(&self, f: &mut fmt::Formatter<W>) -> fmt::Result {
         match *self {
-            Base::Named(name) => write!(f, "{name}"),
+            Base::Named(name) => name.fmt(f),
             Base::Reference(name) => write!(f, "&{name}"),
-            Base::Temporary(temporary) => write!(f, "{temporary}"),
+            Base::Temporary(temporary) => temporary.fmt(f),
             Base::Constant(number) => write!(f, "{number:#x}"),
         }
     }
@@ -81,9 +81,10 @@ impl<'a> Names<'a> {
 impl fmt::Display for Value<'_> {
     fn fmt<W: fmt::Write>(&self, f: &mut fmt::Formatter<W>) -> fmt::Result {
         let Value { base, offset, size } = *self;
-        if offset == 0 {
-            return write!(f, "{base}{size}");
+        base.fmt(f)?;
+        if offset != 0 {
+            write!(f, "+{offset}")?;
         }
-        write!(f, "{base}+{offset}{size}")
+        size.fmt(f)
     }
 }
