@@ -32,25 +32,43 @@ impl fmt::Display for Difference {
 
 // A case: its file, the lengths of the lists to lend, and what the answer and the lists are to be.
 #[derive(Drop)]
-pub(crate) struct Case {
+pub(crate) struct Case<'a> {
     file: Vec<u8>,
     lent_actions: usize,
     lent_temporaries: usize,
-    result: Vec<u64>,
-    actions: Vec<u64>,
-    temporaries: Vec<u64>,
+    result: Words<'a>,
+    actions: Words<'a>,
+    temporaries: Words<'a>,
 }
 
-// The first word that is not the right one. Behind the right ones all are to be 0.
-fn first_wrong(words: &[u64], right: &[u64]) -> Option<usize> {
-    let mut words = words.iter().copied().enumerate();
-    let (index, _) = words.find(|(index, word)| *word != access::get(right, *index))?;
-    Some(index)
+// So many words at the start of what is left of the data. They are read where they are compared: a list of them would be as
+// long as the lent one.
+#[derive(Clone, Copy)]
+struct Words<'a> {
+    data: Cases<'a>,
+    count: usize,
 }
 
-impl Case {
+impl Words<'_> {
+    // The next word; behind the last all are to be 0.
+    fn next(&mut self) -> u64 {
+        if self.count == 0 {
+            return 0;
+        }
+        self.count -= 1;
+        self.data.word().unwrap_or(0)
+    }
+}
+
+// The first word that is not the right one.
+fn first_wrong(words: &[u64], mut right: Words<'_>) -> Option<usize> {
+    words.iter().position(|word| *word != right.next())
+}
+
+impl Case<'_> {
     pub(crate) fn refusal(&self) -> u64 {
-        self.result.first().copied().unwrap_or(0)
+        let mut result = self.result;
+        result.next()
     }
 
     // The first difference between the answer to the case and the right one.
@@ -59,13 +77,13 @@ impl Case {
         let mut temporaries = vec![in alloc; FILLER; self.lent_temporaries]?;
         let mut result = [0u64; 12];
         mizgalon::mizgalon_resolve(&self.file, &mut actions, &mut temporaries, &mut result);
-        if let Some(index) = first_wrong(&result, &self.result) {
+        if let Some(index) = first_wrong(&result, self.result) {
             return Ok(Some(Difference::Result(index)));
         }
-        if let Some(index) = first_wrong(&actions, &self.actions) {
+        if let Some(index) = first_wrong(&actions, self.actions) {
             return Ok(Some(Difference::Action(index)));
         }
-        Ok(first_wrong(&temporaries, &self.temporaries).map(Difference::Temporary))
+        Ok(first_wrong(&temporaries, self.temporaries).map(Difference::Temporary))
     }
 }
 
@@ -126,18 +144,18 @@ impl<'a> Cases<'a> {
         Ok(u64::from_le_bytes(word))
     }
 
-    fn words(&mut self, alloc: Global, count: usize) -> Result<Vec<u64>, Problem> {
-        let mut words = Vec::new(alloc);
+    fn words(&mut self, count: usize) -> Result<Words<'a>, Problem> {
+        let words = Words { data: *self, count };
         for _ in 0..count {
-            words.push(self.word()?)?;
+            self.word()?;
         }
         Ok(words)
     }
 
     // The words of a list behind their number, which is no greater than the length of the lent list.
-    fn list(&mut self, alloc: Global, lent: usize) -> Result<Vec<u64>, Problem> {
+    fn list(&mut self, lent: usize) -> Result<Words<'a>, Problem> {
         let count = self.number(lent)?;
-        self.words(alloc, count)
+        self.words(count)
     }
 
     // A file of that length: what stands ahead of its zeros, the zeros, and its last two bytes; none if it has fewer than two.
@@ -155,7 +173,7 @@ impl<'a> Cases<'a> {
     }
 
     // The next case. No case has a longer file than the longest and a byte more.
-    pub(crate) fn case(&mut self, alloc: Global) -> Result<Case, Problem> {
+    pub(crate) fn case(&mut self, alloc: Global) -> Result<Case<'a>, Problem> {
         let length = self.number(TOO_LONG_FILE)?;
         let body = self.number(TOO_LONG_FILE)?;
         let lent_actions = self.number(ACTIONS)?;
@@ -164,9 +182,9 @@ impl<'a> Cases<'a> {
             file: self.file(alloc, length, body)?,
             lent_actions,
             lent_temporaries,
-            result: self.words(alloc, 12)?,
-            actions: self.list(alloc, lent_actions)?,
-            temporaries: self.list(alloc, lent_temporaries)?,
+            result: self.words(12)?,
+            actions: self.list(lent_actions)?,
+            temporaries: self.list(lent_temporaries)?,
         };
         self.next = self.next.saturating_add(1);
         Ok(case)

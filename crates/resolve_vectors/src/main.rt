@@ -26,7 +26,7 @@ struct Counts {
 }
 
 impl Counts {
-    fn count(&mut self, case: &Case, differs: bool) {
+    fn count(&mut self, case: &Case<'_>, differs: bool) {
         if let Some(count) = self.by_refusal.get_mut(case.refusal() as usize) {
             *count = count.saturating_add(1);
         }
