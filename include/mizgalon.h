@@ -9,7 +9,7 @@
  * before the call; they and the result must not overlap each other or the file.
  *
  * Nothing is allocated, so there is nothing to free. There is no state: the functions can be called
- * from any number of threads at once. mizgalon_resolve needs up to 288 KiB of stack (265,568 bytes is
+ * from any number of threads at once. mizgalon_resolve needs up to 288 KiB of stack (261,872 bytes is
  * the most that was measured: macros 16 deep, expressions 32 deep); mizgalon_check needs 8 KiB.
  */
 #ifndef MIZGALON_H
