@@ -14,7 +14,7 @@ use std::io::{self, BufWriter, Read, Write};
 // So much of the input is read; zeros stand behind a shorter one.
 const INPUT: usize = 65536;
 
-// So many lengths and places there are: a larger number stands for its rest by this, ahead of all else that is done with it.
+// Lengths and places are taken modulo this number before anything else is done with them.
 const NUMBERS: u32 = 1000000;
 
 // What is left of the input, behind which stand zeros.
