@@ -143,7 +143,7 @@ fn operation_of(code: u64) -> u64
 pub fn skip_expr(stream: &[u8], pos: usize) -> usize
     ensures { result ≡ skip_expr stream.now pos }
 {
-    let start = Cursor { at: pos, val: 0 };
+    let start = Ok(Cursor { at: pos, val: 0 });
     place_of(file_syntax::expressions::expr(DEPTH, &Source::new(stream), start))
 }
 

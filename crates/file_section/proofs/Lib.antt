@@ -4,5 +4,6 @@ mod NameLaws
 mod ChainLaws
 mod ListLaws
 mod RefusedLaws
+mod RangeLaws
 mod ZeroLaws
 mod AgreeLaws

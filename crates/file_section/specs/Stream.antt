@@ -7,7 +7,7 @@
 --   3328 + k      where list k begins: spaces, registers, bit ranges, tables, user ops, macros, other symbols, fields,
 --                 subtables, statements (`Holds.spaces` and on)
 --   3338          the first ordinal of the section's own statements (`Holds.own_ordinal`)
-use Rattle.std.specs.Prelude.{ℕ, zero, suc, ◌-◌, ◌%◌, Bool, true, false, List, length, get_or, set, eqb}
+use Rattle.std.specs.Prelude.{ℕ, zero, suc, ◌-◌, ◌%◌, ◌≤◌, Bool, true, false, List, length, get_or, set, eqb}
 use Rattle.prelude.specs.Base.{when◌then◌else◌}
 use Rattle.access.specs.Le.{le16}
 use Rattle.file_syntax.specs.Cursors.{Cursor, refuse}
@@ -28,6 +28,10 @@ tail s c = when zeros (length s - c.at) c.at s then c else refuse 3 c
 -- the section's own statements, and the end
 unfoldable pub statements : List ℕ → Reading → Reading
 statements s w = reading (tail s (body s (le16 s 2) (le16 s 22) w.cursor)) (set w.table 3337 (w.cursor.at % 65536))
+
+-- the number of a refusal of a stream
+abbrev pub OfStream : ℕ → Type 0
+OfStream refusal = (3 ≤ refusal) × (refusal ≤ 6)
 
 -- a refusal, or 0, and the table
 pub record Answer : Type 0 where

@@ -5,8 +5,9 @@ ghost use Rattle.file_syntax.specs.Cursors.{u16};
 ghost use Rattle.file_syntax.specs.Reads.{good, to_cursor};
 
 use codes::limit::{MACROS, NAMES, STATEMENTS};
-use codes::refusal::Refusal;
-use file_syntax::cursor::{Cursor, Refused, Source, below, name, u16_or};
+use file_syntax::cursor::{
+    Cursor, NAMES_NOTHING, OUTSIDE_LIMIT, Refused, Source, below, name, u16_or,
+};
 
 // The counts are below these: of names, as of registers, bit ranges and other symbols; of tables, as of user ops.
 const RULE_SETS: u64 = 1;
@@ -28,7 +29,7 @@ const SUBTABLES: u64 = 33;
 fn count(stream: &[u8], limit: u64, cursor: Cursor) -> Result<Cursor, Refused>
     ensures { to_cursor result ≡ u16 stream.now limit 4 (good cursor) }
 {
-    below::<u16>(stream, limit, Refusal::OutsideLimit, cursor)
+    below::<u16>(stream, limit, OUTSIDE_LIMIT, Ok(cursor))
 }
 
 // Rule set, names and the counts of the globals.
@@ -64,11 +65,11 @@ fn roles(stream: &[u8], cursor: Cursor) -> Result<Cursor, Refused>
 {
     let source = Source::new(stream);
     let spaces = access::u16_at(stream, codes::header::SPACES);
-    let default_space = u16_or(stream, spaces, Refusal::NamesNothing, cursor)?;
-    let inst_start = name(&source, default_space)?;
-    let inst_next = name(&source, inst_start)?;
-    let constant = name(&source, inst_next)?;
-    name(&source, constant)
+    let default_space = u16_or(stream, spaces, NAMES_NOTHING, Ok(cursor))?;
+    let inst_start = name(&source, Ok(default_space))?;
+    let inst_next = name(&source, Ok(inst_start))?;
+    let constant = name(&source, Ok(inst_next))?;
+    name(&source, Ok(constant))
 }
 
 // Not compiled into what reads the rest, which is faster without it.

@@ -14,14 +14,17 @@
 #![tactic(auto)]
 
 ghost use Rattle.std.specs.Prelude.{◌≡◌};
-ghost use Rattle.codes.specs.Refusals.{number_or_zero};
-ghost use Rattle.file_section.specs.Stream.{statements, answer, read_stream};
+ghost use Rattle.std.specs.Int.NonZero.{non_zero_u64_get};
+ghost use Rattle.codes.specs.Refusals.{number, number_or_zero};
+ghost use Rattle.file_section.specs.Stream.{OfStream, statements, answer, read_stream};
 ghost use Rattle.file_section.specs.Names.{reading};
 ghost use Rattle.file_syntax.specs.Reads.{to_cursor};
 
 use codes::refusal::Refusal;
 use codes::table;
-use file_syntax::cursor::{Cursor, Refused, Source, place_of};
+use file_syntax::cursor::{
+    Cursor, MALFORMED, NAMES_NOTHING, OUTSIDE_LIMIT, Refused, Source, place_of,
+};
 use file_syntax::statements::body;
 use header::header;
 use lists::lists;
@@ -35,7 +38,7 @@ mod names;
 mod zeros;
 
 // The section's own statements, and the end.
-#[tactic(auto, using(crate::proofs::RefusedLaws::passing), unfolding(crate::specs::Stream::statements))]
+#[tactic(auto, unfolding(crate::specs::Stream::statements))]
 fn own_statements(
     stream: &[u8],
     so_far: Result<Cursor, Refused>,
@@ -45,19 +48,36 @@ fn own_statements(
 {
     access::put(table, table::STATEMENTS, low(place_of(so_far)));
     let count = access::u16_at(stream, codes::header::STATEMENTS);
-    let end = body(&Source::new(stream), count, so_far?)?;
-    tail(stream, end)
+    tail(stream, body(&Source::new(stream), count, so_far))
+}
+
+// The refusal that the number of a refused stream names.
+fn refusal_of(refused: Refused) -> Refusal
+    requires { OfStream (non_zero_u64_get refused.refusal) }
+    ensures { number result ≡ non_zero_u64_get refused.refusal }
+{
+    match u64::from(refused) {
+        MALFORMED => Refusal::Malformed,
+        OUTSIDE_LIMIT => Refusal::OutsideLimit,
+        NAMES_NOTHING => Refusal::NamesNothing,
+        _ => Refusal::SpelledTwice,
+    }
 }
 
 // The refusal of a stream, if there is one, and the table.
-#[tactic(auto, using(crate::proofs::RefusedLaws::passing, crate::proofs::HeaderLaws::few), unfolding(crate::specs::Stream::read_stream))]
+#[tactic(auto, using(crate::proofs::HeaderLaws::few), unfolding(crate::specs::Stream::read_stream))]
 pub fn read_stream(stream: &[u8], table: &mut [u16; table::LENGTH]) -> Result<(), Refusal>
     ensures { answer (number_or_zero result) table.new ≡ read_stream stream.now table.old }
 {
-    let head = header(stream)?;
+    let head = header(stream);
+    if let Err(refused) = head {
+        return Err(refusal_of(refused));
+    }
     let count = access::u16_at(stream, codes::header::NAMES) as usize;
-    let named = names(stream, count, Ok(head), table);
+    let named = names(stream, count, head, table);
     let listed = lists(stream, named, table);
-    own_statements(stream, listed, table)?;
-    Ok(())
+    match own_statements(stream, listed, table) {
+        Ok(_) => Ok(()),
+        Err(refused) => Err(refusal_of(refused)),
+    }
 }

@@ -10,11 +10,10 @@ ghost use Rattle.file_syntax.specs.Reads.{good, to_cursor};
 use crate::names::low;
 use codes::limit::STATEMENTS;
 use codes::list::List;
-use codes::refusal::Refusal;
 use codes::{header, table};
 use file_syntax::cursor::{
-    Cursor, Refused, Source, below, bits, code, last_number, name, place_of, refuse, size, size_or,
-    small_count,
+    Cursor, NAMES_NOTHING, OUTSIDE_LIMIT, Refused, SPELLED_TWICE, Source, below, bits, code,
+    last_number, name, place_of, refuse, size, size_or, small_count,
 };
 use file_syntax::statements::body;
 
@@ -62,7 +61,7 @@ fn mark(at: usize, value: u16, cursor: Cursor, table: &mut [u16]) -> Result<Curs
     ensures { reading (to_cursor result) table.new ≡ mark at value (reading (good cursor) table.old) }
 {
     if access::get(table, at) != 0 {
-        return refuse(Refusal::SpelledTwice, cursor);
+        return refuse(SPELLED_TWICE, Ok(cursor));
     }
     access::put(table, at, value);
     Ok(cursor)
@@ -80,7 +79,7 @@ fn named(
     ensures { reading (to_cursor result) table.new ≡ named (list_number which) stream.now index (reading (to_cursor so_far) table.old) }
 {
     let source = Source::new(stream);
-    let found = name(&source, so_far?)?;
+    let found = name(&source, so_far)?;
     let place = slot(which, found.val);
     mark(place, stamp(which, index), found, table)
 }
@@ -91,20 +90,20 @@ fn after(which: List, stream: &[u8], cursor: Cursor) -> Result<Cursor, Refused>
     ensures { to_cursor result ≡ after (list_number which) stream.now (good cursor) }
 {
     match which {
-        List::Spaces => size(stream, code(stream, 3, cursor)?),
-        List::Registers => size(stream, cursor),
+        List::Spaces => size(stream, code(stream, 3, Ok(cursor))),
+        List::Registers => size(stream, Ok(cursor)),
         List::BitRanges => {
             let registers = access::u16_at(stream, header::REGISTERS);
             bits(
                 stream,
-                below::<u16>(stream, registers, Refusal::NamesNothing, cursor)?,
+                below::<u16>(stream, registers, NAMES_NOTHING, Ok(cursor)),
             )
         }
-        List::Tables | List::Fields => size_or(stream, cursor),
+        List::Tables | List::Fields => size_or(stream, Ok(cursor)),
         List::UserOps | List::Macros | List::Others => Ok(cursor),
         List::Subtables => {
             let tables = access::u16_at(stream, header::TABLES);
-            below::<u16>(stream, tables, Refusal::NamesNothing, cursor)
+            below::<u16>(stream, tables, NAMES_NOTHING, Ok(cursor))
         }
     }
 }
@@ -117,7 +116,7 @@ fn params(source: &Source<'_>, cursor: Cursor) -> Result<Cursor, Refused>
     let count = cursor.val;
     let mut cursor = cursor;
     for index in 0..count {
-        cursor = name(source, cursor)?;
+        cursor = name(source, Ok(cursor))?;
     }
     Ok(cursor)
 }
@@ -127,9 +126,9 @@ fn params(source: &Source<'_>, cursor: Cursor) -> Result<Cursor, Refused>
 fn macro_head(source: &Source<'_>, so_far: Result<Cursor, Refused>) -> Result<Cursor, Refused>
     ensures { to_cursor result ≡ macro_head source.entry.now.stream.now source.entry.now.names (to_cursor so_far) }
 {
-    let counted = small_count(source.stream, so_far?)?;
+    let counted = small_count(source.stream, so_far)?;
     let named = params(source, counted)?;
-    below::<u16>(source.stream, STATEMENTS, Refusal::OutsideLimit, named)
+    below::<u16>(source.stream, STATEMENTS, OUTSIDE_LIMIT, Ok(named))
 }
 
 // Where a macro stands, its first ordinal, and the next free ordinal after its statements.
@@ -160,7 +159,7 @@ fn macro_entry(
     let head = macro_head(source, so_far);
     note_macro(index, place_of(so_far), last_number(head), table);
     let begun = head?;
-    body(source, begun.val, begun)
+    body(source, begun.val, Ok(begun))
 }
 
 // An entry of a list, by its number there.

@@ -6,8 +6,9 @@ ghost use Rattle.file_section.specs.Chains.{Hashed, Linked};
 ghost use Rattle.file_syntax.specs.Reads.{to_cursor};
 
 use crate::chains::{CHAINS, LAST, hash, link};
-use codes::refusal::Refusal;
-use file_syntax::cursor::{Cursor, Refused, below, place_of, refuse, skip};
+use file_syntax::cursor::{
+    Cursor, OUTSIDE_LIMIT, Refused, SPELLED_TWICE, below, place_of, refuse, skip,
+};
 
 // A name has fewer letters than this.
 const LETTERS: u64 = 25;
@@ -78,13 +79,13 @@ fn spelling(
     ensures { to_cursor result ≡ spelling stream.now table.now index (to_cursor so_far) }
 {
     let start = so_far?;
-    let l = below::<u8>(stream, LETTERS, Refusal::OutsideLimit, start)?;
+    let l = below::<u8>(stream, LETTERS, OUTSIDE_LIMIT, Ok(start))?;
     if l.val == 0 {
-        return refuse(Refusal::OutsideLimit, l);
+        return refuse(OUTSIDE_LIMIT, Ok(l));
     }
-    let end = skip(stream, l.val as usize, l)?;
+    let end = skip(stream, l.val as usize, Ok(l))?;
     if known(stream, table, chains, start.at, chain, index) {
-        return refuse(Refusal::SpelledTwice, end);
+        return refuse(SPELLED_TWICE, Ok(end));
     }
     Ok(end)
 }

@@ -1,10 +1,9 @@
 // The stream after its statements is zero, which is tested by eight bytes at a time.
 ghost use Rattle.std.specs.Prelude.{◌≡◌, ◌-◌, length};
 ghost use Rattle.file_section.specs.Stream.{zeros, tail};
-ghost use Rattle.file_syntax.specs.Reads.{good, to_cursor};
+ghost use Rattle.file_syntax.specs.Reads.{to_cursor};
 
-use codes::refusal::Refusal;
-use file_syntax::cursor::{Cursor, Refused, refuse};
+use file_syntax::cursor::{Cursor, MALFORMED, Refused, refuse};
 
 // Whether all bytes are zero.
 fn all_zeros(bytes: &[u8]) -> bool
@@ -26,12 +25,13 @@ fn only_zeros(stream: &[u8], from: usize) -> bool
 }
 
 // The stream after the cursor is zero.
-#[tactic(auto, unfolding(crate::specs::Stream::tail))]
-pub fn tail(stream: &[u8], cursor: Cursor) -> Result<Cursor, Refused>
-    ensures { to_cursor result ≡ tail stream.now (good cursor) }
+#[tactic(auto, using(crate::proofs::RefusedLaws::passing), unfolding(crate::specs::Stream::tail))]
+pub fn tail(stream: &[u8], so_far: Result<Cursor, Refused>) -> Result<Cursor, Refused>
+    ensures { to_cursor result ≡ tail stream.now (to_cursor so_far) }
 {
-    if !only_zeros(stream, cursor.at) {
-        return refuse(Refusal::Malformed, cursor);
+    let at = so_far?.at;
+    if !only_zeros(stream, at) {
+        return refuse(MALFORMED, so_far);
     }
-    Ok(cursor)
+    so_far
 }

@@ -6,77 +6,123 @@ use Prim.Native.Nat.{ℕ, zero, suc, ◌+◌, ◌-◌, ◌<◌}
 use native.Mathlib.Omega.{arith}
 use lib.Dec.{eqb}
 use borrow.Author.Tests.{ne_eqb}
-use Rattle.codes.specs.declared.refusal.Refusal.{Refusal}
-use Rattle.codes.specs.Refusals as refusals
-use Rattle.codes.proofs.Numbers.{number-positive}
+use Rattle.std.specs.Int.NonZero.{non_zero_u64_get}
+use Rattle.std.specs.declared.num.NonZeroU64.{NonZeroU64}
 use Rattle.access.specs.Loops.{run}
 use Rattle.access.proofs.LoopLaws.{run_again, run_end}
 use Rattle.file_syntax.specs.Cursors.{Cursor, cursor, refuse, number, u8, u16, u16or, skip}
-use Rattle.file_syntax.specs.Expressions.{counted, kind_of, after_code, expr}
-use Rattle.file_syntax.specs.Statements.{jump_of, after_jump, jump_label, target_of, after_target, branch_dst, form_of, after_form, statement, body}
+use Rattle.file_syntax.specs.Expressions.{counted, Kind, kind_of, after_code, expr}
+use Rattle.file_syntax.specs.Statements.{Jump, jump_of, after_jump, jump_label, Target, target_of, after_target, branch_dst, Form, form_of, after_form, statement, body}
 
-pub refusal_number : (r : Refusal) → eqb (refusals.number r) 0 ≡ false
-refusal_number r = ne_eqb (refusals.number r) 0 (λ z. omega (arith, number-positive r))
+abbrev pub refused : ℕ → NonZeroU64 → ℕ → Cursor
+refused p r x = cursor p (non_zero_u64_get r) x
 
-pub number_passes : (v n len lim k p : ℕ) (r : Refusal) → number v n len lim k (cursor p (refusals.number r) 0) ≡ cursor p (refusals.number r) 0
+pub refusal_number : (r : NonZeroU64) → eqb (non_zero_u64_get r) 0 ≡ false
+refusal_number r = ne_eqb (non_zero_u64_get r) 0 (λ z. omega (arith, r.ok))
+
+pub number_passes : (v n len lim k p : ℕ) (r : NonZeroU64) (x : ℕ) → number v n len lim k (refused p r x) ≡ refused p r x
 unfolding number
-number_passes v n len lim k p r = rw (refusal_number r)
+number_passes v n len lim k p r x = rw (refusal_number r)
 
-pub u8_passes : (s : List ℕ) (lim k p : ℕ) (r : Refusal) → u8 s lim k (cursor p (refusals.number r) 0) ≡ cursor p (refusals.number r) 0
+pub u8_passes : (s : List ℕ) (lim k p : ℕ) (r : NonZeroU64) (x : ℕ) → u8 s lim k (refused p r x) ≡ refused p r x
 unfolding u8
-u8_passes s lim k p r = number_passes _ _ _ _ _ p r
+u8_passes s lim k p r x = number_passes _ _ _ _ _ p r x
 
-pub u16_passes : (s : List ℕ) (lim k p : ℕ) (r : Refusal) → u16 s lim k (cursor p (refusals.number r) 0) ≡ cursor p (refusals.number r) 0
+pub u16_passes : (s : List ℕ) (lim k p : ℕ) (r : NonZeroU64) (x : ℕ) → u16 s lim k (refused p r x) ≡ refused p r x
 unfolding u16
-u16_passes s lim k p r = number_passes _ _ _ _ _ p r
+u16_passes s lim k p r x = number_passes _ _ _ _ _ p r x
 
-pub u16or_passes : (s : List ℕ) (lim k p : ℕ) (r : Refusal) → u16or s lim k (cursor p (refusals.number r) 0) ≡ cursor p (refusals.number r) 0
+pub u16or_passes : (s : List ℕ) (lim k p : ℕ) (r : NonZeroU64) (x : ℕ) → u16or s lim k (refused p r x) ≡ refused p r x
 unfolding u16or
-u16or_passes s lim k p r = number_passes _ _ _ _ _ p r
+u16or_passes s lim k p r x = number_passes _ _ _ _ _ p r x
 
-pub skip_passes : (s : List ℕ) (n p : ℕ) (r : Refusal) → skip s n (cursor p (refusals.number r) 0) ≡ cursor p (refusals.number r) 0
+pub skip_passes : (s : List ℕ) (n p : ℕ) (r : NonZeroU64) (x : ℕ) → skip s n (refused p r x) ≡ refused p r x
 unfolding skip
-skip_passes s n p r = number_passes _ _ _ _ _ p r
+skip_passes s n p r x = number_passes _ _ _ _ _ p r x
 
-pub refuse_passes : (k p : ℕ) (r : Refusal) → refuse k (cursor p (refusals.number r) 0) ≡ cursor p (refusals.number r) 0
+pub refuse_passes : (k p : ℕ) (r : NonZeroU64) (x : ℕ) → refuse k (refused p r x) ≡ refused p r x
 unfolding refuse
-refuse_passes k p r = rw (refusal_number r)
-
--- its number is 0, so no part follows
-pub counted_passes : (f : Cursor → Cursor) (p k : ℕ) → counted f (cursor p k 0) ≡ cursor p k 0
-unfolding counted run
-counted_passes f p k = refl
-
-pub expr_passes : (d : ℕ) (s : List ℕ) (m p : ℕ) (r : Refusal) → expr d s m (cursor p (refusals.number r) 0) ≡ cursor p (refusals.number r) 0
-unfolding expr after_code kind_of
-expr_passes zero s m p r = rw (u8_passes s 9 3 p r) (refuse_passes 4 p r)
-expr_passes (suc d) s m p r = rw (u8_passes s 9 3 p r) (u16_passes s m 5 p r)
-
-pub jump_label_passes : (s : List ℕ) (m p : ℕ) (r : Refusal) → jump_label s m (cursor p (refusals.number r) 0) ≡ cursor p (refusals.number r) 0
-unfolding jump_label after_jump jump_of
-jump_label_passes s m p r = rw (u8_passes s 2 3 p r) (u16_passes s m 5 p r)
-
-pub branch_dst_passes : (s : List ℕ) (m p : ℕ) (r : Refusal) → branch_dst s m (cursor p (refusals.number r) 0) ≡ cursor p (refusals.number r) 0
-unfolding branch_dst after_target target_of
-branch_dst_passes s m p r = rw (u8_passes s 3 3 p r) (jump_label_passes s m p r)
-
-pub statement_passes : (s : List ℕ) (m p : ℕ) (r : Refusal) → statement s m (cursor p (refusals.number r) 0) ≡ cursor p (refusals.number r) 0
-unfolding statement after_form form_of
-statement_passes s m p r = rw (u8_passes s 11 3 p r)
+refuse_passes k p r x = rw (refusal_number r)
 
 pub run_passes : {A : Type 0} (n i : ℕ) (f : A → A) (x : A) → f x ≡ x → run n i (λ _. f) x ≡ x
 unfolding run
 run_passes zero i f x e = refl
 run_passes (suc n) i f x e = rw e (run_passes n (suc i) f x e)
 
-pub body_passes : (s : List ℕ) (m n p : ℕ) (r : Refusal) → body s m n (cursor p (refusals.number r) 0) ≡ cursor p (refusals.number r) 0
+-- where its number is 0 no part follows
+pub counted_passes : (f : Cursor → Cursor) (p k : ℕ) → counted f (cursor p k 0) ≡ cursor p k 0
+unfolding counted run
+counted_passes f p k = refl
+
+pub counted_refused : (f : Cursor → Cursor) (p : ℕ) (r : NonZeroU64) (x : ℕ) → f (refused p r x) ≡ refused p r x → counted f (refused p r x) ≡ refused p r x
+unfolding counted
+counted_refused f p r x e = run_passes x 0 f _ e
+
+pub after_code_passes : (w : Kind) (s : List ℕ) (m : ℕ) (f : Cursor → Cursor) (p : ℕ) (r : NonZeroU64) (x : ℕ) → f (refused p r x) ≡ refused p r x → after_code w s m f (refused p r x) ≡ refused p r x
+unfolding after_code
+after_code_passes Kind.ident s m f p r x e = u16_passes s m 5 p r x
+after_code_passes Kind.integer s m f p r x e = skip_passes s 8 p r x
+after_code_passes Kind.address s m f p r x e = rw (u16or_passes s 1025 4 p r x) (u16_passes s m 5 p r x)
+after_code_passes Kind.truncate s m f p r x e = rw e (u16_passes s 1025 4 p r x)
+after_code_passes Kind.slice s m f p r x e = rw (e, u16_passes s 8193 4 p r x) (u16_passes s 8193 4 p r x)
+after_code_passes Kind.operator s m f p r x e = rw (e, u8_passes s 39 3 p r x) e
+after_code_passes Kind.deref s m f p r x e = rw (u16or_passes s m 5 p r x, u16or_passes s 1025 4 p r x) e
+after_code_passes Kind.pool s m f p r x e = rw (u8_passes s 9 4 p r x) (counted_refused f p r x e)
+after_code_passes Kind.calling s m f p r x e = rw (u16_passes s m 5 p r x, u8_passes s 9 4 p r x) (counted_refused f p r x e)
+
+pub expr_passes : (d : ℕ) (s : List ℕ) (m p : ℕ) (r : NonZeroU64) (x : ℕ) → expr d s m (refused p r x) ≡ refused p r x
+unfolding expr
+expr_passes zero s m p r x = rw (u8_passes s 9 3 p r x) (refuse_passes 4 p r x)
+expr_passes (suc d) s m p r x = rw (u8_passes s 9 3 p r x) (after_code_passes (kind_of x) s m (expr d s m) p r x (expr_passes d s m p r x))
+
+pub exprs_passes : (d : ℕ) (s : List ℕ) (m p : ℕ) (r : NonZeroU64) (x : ℕ) → counted (expr d s m) (refused p r x) ≡ refused p r x
+exprs_passes d s m p r x = counted_refused (expr d s m) p r x (expr_passes d s m p r x)
+
+after_jump_passes : (w : Jump) (s : List ℕ) (m p : ℕ) (r : NonZeroU64) (x : ℕ) → after_jump w s m (refused p r x) ≡ refused p r x
+unfolding after_jump
+after_jump_passes Jump.to_name s m p r x = u16_passes s m 5 p r x
+after_jump_passes Jump.to_integer s m p r x = rw (skip_passes s 8 p r x) (u16_passes s 1025 4 p r x)
+
+pub jump_label_passes : (s : List ℕ) (m p : ℕ) (r : NonZeroU64) (x : ℕ) → jump_label s m (refused p r x) ≡ refused p r x
+unfolding jump_label
+jump_label_passes s m p r x = rw (u8_passes s 2 3 p r x) (after_jump_passes (jump_of x) s m p r x)
+
+after_target_passes : (w : Target) (s : List ℕ) (m p : ℕ) (r : NonZeroU64) (x : ℕ) → after_target w s m (refused p r x) ≡ refused p r x
+unfolding after_target
+after_target_passes Target.direct s m p r x = jump_label_passes s m p r x
+after_target_passes Target.indirect s m p r x = jump_label_passes s m p r x
+after_target_passes Target.label s m p r x = u16_passes s m 5 p r x
+
+pub branch_dst_passes : (s : List ℕ) (m p : ℕ) (r : NonZeroU64) (x : ℕ) → branch_dst s m (refused p r x) ≡ refused p r x
+unfolding branch_dst
+branch_dst_passes s m p r x = rw (u8_passes s 3 3 p r x) (after_target_passes (target_of x) s m p r x)
+
+after_form_passes : (w : Form) (s : List ℕ) (m p : ℕ) (r : NonZeroU64) (x : ℕ) → after_form w s m (refused p r x) ≡ refused p r x
+unfolding after_form
+after_form_passes Form.unimplemented s m p r x = refl
+after_form_passes Form.export s m p r x = expr_passes 32 s m p r x
+after_form_passes Form.local s m p r x = rw (u16_passes s m 5 p r x) (u16or_passes s 1025 4 p r x)
+after_form_passes Form.assignment s m p r x = rw (u16_passes s m 5 p r x, u16or_passes s 1025 4 p r x) (expr_passes 32 s m p r x)
+after_form_passes Form.build s m p r x = u16_passes s m 5 p r x
+after_form_passes Form.copy s m p r x = rw (expr_passes 32 s m p r x) (expr_passes 32 s m p r x)
+after_form_passes Form.store s m p r x = rw (u16or_passes s m 5 p r x, u16or_passes s 1025 4 p r x, expr_passes 32 s m p r x) (expr_passes 32 s m p r x)
+after_form_passes Form.calling s m p r x = rw (u16_passes s m 5 p r x, u8_passes s 9 4 p r x) (exprs_passes 32 s m p r x)
+after_form_passes Form.branch s m p r x = rw (branch_dst_passes s m p r x) (u8_passes s 3 3 p r x)
+after_form_passes Form.cond_branch s m p r x = rw (expr_passes 32 s m p r x, branch_dst_passes s m p r x) (u8_passes s 3 3 p r x)
+after_form_passes Form.placed s m p r x = u16_passes s m 5 p r x
+
+pub statement_passes : (s : List ℕ) (m p : ℕ) (r : NonZeroU64) (x : ℕ) → statement s m (refused p r x) ≡ refused p r x
+unfolding statement
+statement_passes s m p r x = rw (u8_passes s 11 3 p r x) (after_form_passes (form_of x) s m p r x)
+
+pub body_passes : (s : List ℕ) (m n p : ℕ) (r : NonZeroU64) (x : ℕ) → body s m n (refused p r x) ≡ refused p r x
 unfolding body
-body_passes s m n p r = run_passes n 0 (statement s m) _ (statement_passes s m p r)
+body_passes s m n p r x = run_passes n 0 (statement s m) _ (statement_passes s m p r x)
 
 -- a turn that is refused is the last
 pub run_stops : {A : Type 0} (n i : ℕ) (f : A → A) (x y w : A) → i < n → run (n - i) i (λ _. f) x ≡ w → y ≡ f x → f y ≡ y → y ≡ w
 run_stops n i f x y w h e p q = sym (run_passes (n - (i + 1)) (i + 1) f y q) ∙ run_again n i (λ _. f) x y w h e p
 
-pub ruleset passing = (u8_passes, u16_passes, u16or_passes, skip_passes, refuse_passes, counted_passes, expr_passes, jump_label_passes, branch_dst_passes, statement_passes, body_passes)
+pub ruleset passing = (u8_passes, u16_passes, u16or_passes, skip_passes, refuse_passes, expr_passes, exprs_passes, jump_label_passes, branch_dst_passes, statement_passes, body_passes)
 
-pub ruleset body_laws = (run_end)
+pub ruleset body_laws = (run_end, body_passes, exprs_passes)

@@ -1,9 +1,11 @@
 // A cursor over the stream, and the fields that it reads. Each reader gives the cursor behind its field or says where and why
-// the stream is refused, so that the first position that is wrong gives the refusal. The stream stands beside the cursor: with the
-// stream in it, each promise would have to say of the cursor answered that its stream is still the same.
+// the stream is refused; a reading that is refused it gives back as it is, so that the first position that is wrong gives the
+// refusal. The stream stands beside the cursor: with the stream in it, each promise would have to say of the cursor answered that
+// its stream is still the same. The readers are compiled into their callers, by which a cursor that is known not to be refused
+// stays in registers: without that reading takes a twelfth longer.
 ghost use Rattle.std.specs.Prelude.{◌≡◌, ◌+◌, ◌≤◌, ℕ, List, length, get_or};
 ghost use Rattle.access.specs.Le.{le16};
-ghost use Rattle.codes.specs.Refusals.{number};
+ghost use Rattle.std.specs.Int.NonZero.{non_zero_u64_get};
 ghost use Rattle.file_syntax.specs.Cursors.{refuse, u8, u16, u16or, u8_is_number, u16_is_number, skip, code, small_count, name, name_or, size, size_or, bits};
 ghost use Rattle.file_syntax.specs.Cursors as words;
 ghost use Rattle.file_syntax.specs.Reads.{good, to_cursor};
@@ -12,9 +14,19 @@ use access::inside::two;
 use codes::limit::SIZES;
 use codes::refusal::Refusal;
 use codes::{NONE, header};
+use std::num::NonZero;
 
 // First bits and bit counts are below this.
 const BITS: u64 = 8193;
+
+// The numbers of the four refusals of a stream.
+pub const MALFORMED: u64 = Refusal::Malformed as u64;
+
+pub const OUTSIDE_LIMIT: u64 = Refusal::OutsideLimit as u64;
+
+pub const NAMES_NOTHING: u64 = Refusal::NamesNothing as u64;
+
+pub const SPELLED_TWICE: u64 = Refusal::SpelledTwice as u64;
 
 // A stream, and how many names it has: an index of a name is below that.
 #[derive(Clone, Copy)]
@@ -43,11 +55,14 @@ pub struct Cursor {
     pub val: u64,
 }
 
-// Where the stream is refused, and why.
+// A reading that is refused: where it stands, the number of the refusal, and the number read last, which a reader that refuses
+// makes 0. The refusal is a number, since what the readers promise holds of any, and a `Refusal` would ask more. With the last two
+// the other way round reading takes an eighth longer.
 #[derive(Clone, Copy)]
 pub struct Refused {
     pub at: usize,
-    pub refusal: Refusal,
+    pub refusal: NonZero<u64>,
+    pub val: u64,
 }
 
 // Where a reading stands, refused or not.
@@ -60,24 +75,31 @@ pub fn place_of(reading: Result<Cursor, Refused>) -> usize
     }
 }
 
-// The number read last, 0 once the reading is refused.
+// The number read last, 0 once a reader refuses.
 pub fn last_number(reading: Result<Cursor, Refused>) -> u64
     ensures { result ≡ (to_cursor reading).val }
 {
     match reading {
         Ok(cursor) => cursor.val,
-        Err(_) => 0,
+        Err(refused) => refused.val,
     }
 }
 
-#[tactic(auto, unfolding(crate::specs::Cursors::refuse))]
-pub fn refuse(refusal: Refusal, cursor: Cursor) -> Result<Cursor, Refused>
-    ensures { to_cursor result ≡ refuse (number refusal) (good cursor) }
+// The reading refused where it stands; 0 is no refusal.
+#[tactic(auto, using(crate::proofs::RefusedLaws::passing), unfolding(crate::specs::Cursors::refuse))]
+#[inline(always)]
+pub fn refuse(refusal: u64, reading: Result<Cursor, Refused>) -> Result<Cursor, Refused>
+    ensures { to_cursor result ≡ refuse refusal (to_cursor reading) }
 {
-    Err(Refused {
-        at: cursor.at,
-        refusal,
-    })
+    let at = reading?.at;
+    match NonZero::<u64>::new(refusal) {
+        Some(refusal) => Err(Refused {
+            at,
+            val: 0,
+            refusal,
+        }),
+        None => Ok(Cursor { at, val: 0 }),
+    }
 }
 
 // A number of one byte or of two, as the stream has it.
@@ -136,22 +158,36 @@ impl Field for u16 {
 }
 
 // A number below the limit, of as many bytes as its type has.
-#[tactic(auto, unfolding(crate::specs::Cursors::number, crate::specs::Cursors::refuse))]
+#[tactic(auto, using(crate::proofs::RefusedLaws::passing), unfolding(crate::specs::Cursors::number))]
+#[inline(always)]
 pub fn below<N: Field>(
     stream: &[u8],
     limit: u64,
-    refusal: Refusal,
+    refusal: u64,
+    reading: Result<Cursor, Refused>,
+) -> Result<Cursor, Refused>
+    ensures { to_cursor result ≡ N.word stream.now limit refusal (to_cursor reading) }
+{
+    below_at::<N>(stream, limit, refusal, reading?)
+}
+
+// The same for a reading that is not refused, of the cursor alone.
+#[tactic(auto, unfolding(crate::specs::Cursors::number, crate::specs::Cursors::refuse))]
+fn below_at<N: Field>(
+    stream: &[u8],
+    limit: u64,
+    refusal: u64,
     cursor: Cursor,
 ) -> Result<Cursor, Refused>
-    ensures { to_cursor result ≡ N.word stream.now limit (number refusal) (good cursor) }
+    ensures { to_cursor result ≡ N.word stream.now limit refusal (good cursor) }
 {
     let at = cursor.at;
     if at > stream.len() || stream.len() - at < N::bytes() {
-        return refuse(Refusal::Malformed, cursor);
+        return refuse(MALFORMED, Ok(cursor));
     }
     let value = N::value(stream, at);
     if value >= limit {
-        return refuse(refusal, cursor);
+        return refuse(refusal, Ok(cursor));
     }
     Ok(Cursor {
         at: at + N::bytes(),
@@ -161,30 +197,36 @@ pub fn below<N: Field>(
 
 // The same, or 65,535, which stands for absent; the reader only checks the file, so it makes no Option of it.
 #[tactic(auto, unfolding(crate::specs::Cursors::u16or, crate::specs::Cursors::u16))]
+#[inline(always)]
 pub fn u16_or(
     stream: &[u8],
     limit: u64,
-    refusal: Refusal,
-    cursor: Cursor,
+    refusal: u64,
+    reading: Result<Cursor, Refused>,
 ) -> Result<Cursor, Refused>
-    ensures { to_cursor result ≡ u16or stream.now limit (number refusal) (good cursor) }
+    ensures { to_cursor result ≡ u16or stream.now limit refusal (to_cursor reading) }
 {
-    if access::u16_at(stream, cursor.at) == NONE {
-        return below::<u16>(stream, 65536, refusal, cursor);
+    if access::u16_at(stream, place_of(reading)) == NONE {
+        return below::<u16>(stream, 65536, refusal, reading);
     }
-    below::<u16>(stream, limit, refusal, cursor)
+    below::<u16>(stream, limit, refusal, reading)
 }
 
-#[tactic(auto, unfolding(crate::specs::Cursors::skip, crate::specs::Cursors::number, crate::specs::Cursors::refuse))]
-pub fn skip(stream: &[u8], count: usize, cursor: Cursor) -> Result<Cursor, Refused>
-    ensures { to_cursor result ≡ skip stream.now count (good cursor) }
+#[tactic(auto, using(crate::proofs::RefusedLaws::passing), unfolding(crate::specs::Cursors::skip, crate::specs::Cursors::number, crate::specs::Cursors::refuse))]
+#[inline(always)]
+pub fn skip(
+    stream: &[u8],
+    count: usize,
+    reading: Result<Cursor, Refused>,
+) -> Result<Cursor, Refused>
+    ensures { to_cursor result ≡ skip stream.now count (to_cursor reading) }
 {
-    let at = cursor.at;
+    let at = reading?.at;
     if at > stream.len() {
-        return refuse(Refusal::Malformed, cursor);
+        return refuse(MALFORMED, reading);
     }
     if stream.len() - at < count {
-        return refuse(Refusal::Malformed, cursor);
+        return refuse(MALFORMED, reading);
     }
     Ok(Cursor {
         at: at + count,
@@ -193,57 +235,63 @@ pub fn skip(stream: &[u8], count: usize, cursor: Cursor) -> Result<Cursor, Refus
 }
 
 // One of so many codes.
-pub fn code(stream: &[u8], count: u64, cursor: Cursor) -> Result<Cursor, Refused>
-    ensures { to_cursor result ≡ code stream.now count (good cursor) }
+#[inline(always)]
+pub fn code(stream: &[u8], count: u64, reading: Result<Cursor, Refused>) -> Result<Cursor, Refused>
+    ensures { to_cursor result ≡ code stream.now count (to_cursor reading) }
 {
-    below::<u8>(stream, count, Refusal::Malformed, cursor)
+    below::<u8>(stream, count, MALFORMED, reading)
 }
 
 // A count of arguments or parameters.
-pub fn small_count(stream: &[u8], cursor: Cursor) -> Result<Cursor, Refused>
-    ensures { to_cursor result ≡ small_count stream.now (good cursor) }
+#[inline(always)]
+pub fn small_count(stream: &[u8], reading: Result<Cursor, Refused>) -> Result<Cursor, Refused>
+    ensures { to_cursor result ≡ small_count stream.now (to_cursor reading) }
 {
-    below::<u8>(stream, 9, Refusal::OutsideLimit, cursor)
+    below::<u8>(stream, 9, OUTSIDE_LIMIT, reading)
 }
 
 // One of the names.
-pub fn name(source: &Source<'_>, cursor: Cursor) -> Result<Cursor, Refused>
-    ensures { to_cursor result ≡ name source.entry.now.stream.now source.entry.now.names (good cursor) }
+#[inline(always)]
+pub fn name(source: &Source<'_>, reading: Result<Cursor, Refused>) -> Result<Cursor, Refused>
+    ensures { to_cursor result ≡ name source.entry.now.stream.now source.entry.now.names (to_cursor reading) }
 {
-    below::<u16>(source.stream, source.names, Refusal::NamesNothing, cursor)
+    below::<u16>(source.stream, source.names, NAMES_NOTHING, reading)
 }
 
-pub fn name_or(source: &Source<'_>, cursor: Cursor) -> Result<Cursor, Refused>
-    ensures { to_cursor result ≡ name_or source.entry.now.stream.now source.entry.now.names (good cursor) }
+#[inline(always)]
+pub fn name_or(source: &Source<'_>, reading: Result<Cursor, Refused>) -> Result<Cursor, Refused>
+    ensures { to_cursor result ≡ name_or source.entry.now.stream.now source.entry.now.names (to_cursor reading) }
 {
-    u16_or(source.stream, source.names, Refusal::NamesNothing, cursor)
+    u16_or(source.stream, source.names, NAMES_NOTHING, reading)
 }
 
-pub fn size(stream: &[u8], cursor: Cursor) -> Result<Cursor, Refused>
-    ensures { to_cursor result ≡ size stream.now (good cursor) }
+#[inline(always)]
+pub fn size(stream: &[u8], reading: Result<Cursor, Refused>) -> Result<Cursor, Refused>
+    ensures { to_cursor result ≡ size stream.now (to_cursor reading) }
 {
-    below::<u16>(stream, SIZES, Refusal::OutsideLimit, cursor)
+    below::<u16>(stream, SIZES, OUTSIDE_LIMIT, reading)
 }
 
-pub fn size_or(stream: &[u8], cursor: Cursor) -> Result<Cursor, Refused>
-    ensures { to_cursor result ≡ size_or stream.now (good cursor) }
+#[inline(always)]
+pub fn size_or(stream: &[u8], reading: Result<Cursor, Refused>) -> Result<Cursor, Refused>
+    ensures { to_cursor result ≡ size_or stream.now (to_cursor reading) }
 {
-    u16_or(stream, SIZES, Refusal::OutsideLimit, cursor)
+    u16_or(stream, SIZES, OUTSIDE_LIMIT, reading)
 }
 
 // A first bit and a bit count.
-#[tactic(auto, using(crate::proofs::RefusedLaws::passing))]
-pub fn bits(stream: &[u8], cursor: Cursor) -> Result<Cursor, Refused>
-    ensures { to_cursor result ≡ bits stream.now (good cursor) }
+#[inline(always)]
+pub fn bits(stream: &[u8], reading: Result<Cursor, Refused>) -> Result<Cursor, Refused>
+    ensures { to_cursor result ≡ bits stream.now (to_cursor reading) }
 {
-    let first = below::<u16>(stream, BITS, Refusal::OutsideLimit, cursor)?;
-    below::<u16>(stream, BITS, Refusal::OutsideLimit, first)
+    let first = below::<u16>(stream, BITS, OUTSIDE_LIMIT, reading);
+    below::<u16>(stream, BITS, OUTSIDE_LIMIT, first)
 }
 
-impl From<Refused> for Refusal {
-    ghost from_gives = { λ refused refusal. refusal ≡ refused.refusal };
+impl From<Refused> for u64 {
+    ghost from_gives = { λ refused number. number ≡ non_zero_u64_get refused.refusal };
 
-    fn from(refused: Refused) -> Refusal {
-        refused.refusal
+    fn from(refused: Refused) -> u64 {
+        refused.refusal.get()
     }
 }

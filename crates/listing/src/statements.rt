@@ -76,8 +76,8 @@ pub(crate) struct Statement<'a> {
 
 // Where the statement stands that so many of those from a place on come before.
 fn after(stream: &[u8], at: usize, count: u64) -> usize {
-    let cursor = Cursor { at, val: 0 };
-    place_of(file_syntax::statements::body(&Source::new(stream), count, cursor))
+    let start = Ok(Cursor { at, val: 0 });
+    place_of(file_syntax::statements::body(&Source::new(stream), count, start))
 }
 
 // The number that stands in the table at a place.

@@ -13,4 +13,4 @@ pub returns-in_err-cursor : goal.returns-in_err-cursor
 unfolding words.params counted
 returns-in_err-cursor c =
     let p = err_from_is_err_and c.from_residual.result c.from_residual.ensures.1 in
-    rw (p.1, p.2) (run_stops _ c.loop-index.index _ _ _ _ (omega arith) c.loop-index.invariant.2 c.in_err-cursor.ensures (u16_passes _ _ _ _ _))
+    rw (p.1, p.2) (run_stops _ c.loop-index.index _ _ _ _ (omega arith) c.loop-index.invariant.2 c.in_err-cursor.ensures (u16_passes _ _ _ _ c.in_err-cursor.field-0.0.refusal _))
