@@ -18,7 +18,7 @@ abbrev pub of_file : Refusal → Rejected
 of_file refusal = record { refusal = number refusal; ordinal = None; errors = 0 }
 
 abbrev pub of_statement : Stopped → Rejected
-of_statement s = record { refusal = number s.refusal; ordinal = Some s.ordinal; errors = 0 }
+of_statement s = record { refusal = s.refusal; ordinal = Some s.ordinal; errors = 0 }
 
 abbrev pub of_end : Unfinished → Rejected
 of_end u = record { refusal = number u.refusal; ordinal = Some u.sizing.begun; errors = 0 }

@@ -44,7 +44,7 @@ impl Answer {
 
 // Why a section is refused, at which statement, and the size errors that were counted. The refusal is its number, as in the
 // answer: what `refused` promises holds of any number, and a `Refusal` would ask more.
-#[derive(Clone, Copy)]
+#[derive(Clone, Copy, Default)]
 pub struct Rejected {
     pub refusal: u64,
     pub ordinal: Option<u64>,
@@ -68,8 +68,9 @@ impl From<Stopped> for Rejected {
 
     fn from(stopped: Stopped) -> Rejected {
         Rejected {
+            refusal: stopped.refusal,
             ordinal: Some(stopped.ordinal),
-            ..Rejected::from(stopped.refusal)
+            ..Rejected::default()
         }
     }
 }

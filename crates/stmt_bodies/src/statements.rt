@@ -75,9 +75,10 @@ fn other_statement(
             temporaries,
             pos,
             walk,
-        ).map_err(|refusal| stop(walk, refusal)),
+        ).map_err(|refusal| stop(walk, u64::from(refusal))),
         _ => simple(code, context, scope, actions, temporaries, pos, walk).map_err(|refusal| stop(
-            walk, refusal,
+            walk,
+            u64::from(refusal),
         )),
     }
 }
@@ -106,13 +107,13 @@ fn begin(walk: Walk, ordinal: u64) -> Result<Walk, Stopped>
 {
     if walk.export.kind != 0 {
         return Err(Stopped {
-            refusal: Refusal::AfterExport,
+            refusal: u64::from(Refusal::AfterExport),
             ordinal,
         });
     }
     if MOST_STATEMENTS <= walk.statements {
         return Err(Stopped {
-            refusal: Refusal::TooManyStatements,
+            refusal: u64::from(Refusal::TooManyStatements),
             ordinal,
         });
     }
@@ -163,7 +164,7 @@ fn enter(
     ensures { walked (to_steps result) scope.new actions.new temporaries.new ≡ enter_macro deep context.entry.now.section.stream.now context.entry.now.section.table.now scope.old actions.old temporaries.old context.entry.now.env call.id call.arguments next state (to_walk walk) }
 {
     if deep == 0 {
-        return Err(stop(walk, Refusal::MacroTooDeep));
+        return Err(stop(walk, u64::from(Refusal::MacroTooDeep)));
     }
     let start = body_at(macro_at(context.section.table, call.id), call.arguments);
     let count = u16_in(context.section.stream, start, 0);
@@ -213,7 +214,7 @@ fn macro_statement(
         call,
         walk.st,
     )
-    .map_err(|refusal| stop(walk, refusal))?;
+    .map_err(|refusal| stop(walk, u64::from(refusal)))?;
     enter(
         deep,
         context,
@@ -242,18 +243,18 @@ fn call_statement(
 {
     let arguments = access::byte(context.section.stream, pos, 3);
     let name = u16_in(context.section.stream, pos, 1);
-    match called_of(context.section, name).map_err(|refusal| stop(walk, refusal))? {
+    match called_of(context.section, name).map_err(|refusal| stop(walk, u64::from(refusal)))? {
         Called::DelaySlot => delay_slot(
             context.section.stream,
             actions,
             pos,
             arguments,
             walk,
-        ).map_err(|refusal| stop(walk, refusal)),
+        ).map_err(|refusal| stop(walk, u64::from(refusal))),
         Called::UserOp(id) => {
             let call = Call { id, arguments };
             user_op_statement(context, scope, actions, temporaries, pos, call, walk).map_err(
-                |refusal| stop(walk, refusal),
+                |refusal| stop(walk, u64::from(refusal)),
             )
         }
         Called::Macro(id) => {
@@ -318,7 +319,7 @@ pub fn body(
         let own = ordinal.wrapping_add(i);
         let (next, walked) = statement(deep, context, scope, actions, temporaries, at, own, walk)?;
         if !forward(at, next, context.section.stream.len()) {
-            return Err(stop(walked, Refusal::Malformed));
+            return Err(stop(walked, u64::from(Refusal::Malformed)));
         }
         at = next;
         walk = walked;

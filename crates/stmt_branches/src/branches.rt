@@ -106,7 +106,7 @@ fn branch_label(
         no_output(),
         cond.state,
     )
-    .map_err(|refusal| stop(here, refusal))?;
+    .map_err(|refusal| stop(here, u64::from(refusal)))?;
     Ok((cond.next, Walk { st, ..here }))
 }
 
@@ -123,7 +123,10 @@ fn label_branch(
     ensures { walked (to_steps result) scope.new actions.new temporaries.new ≡ label_branch context.entry.now.section.stream.now context.entry.now.section.table.now scope.old actions.old temporaries.old context.entry.now.env cond.next cond.value cond.state (to_walk walk) }
 {
     let name = u16_in(context.section.stream, cond.next, 1);
-    let id = get_or_insert_label(scope, name, walk.labels).map_err(|refusal| stop(walk, refusal))?;
+    let id = get_or_insert_label(scope, name, walk.labels).map_err(|refusal| stop(
+        walk,
+        u64::from(refusal),
+    ))?;
     let next = after(cond.next, 4);
     branch_label(
         context,
@@ -281,7 +284,10 @@ fn resolve_branch(
     if access::byte(context.section.stream, cond.next, 0) == statement::DST_LABEL {
         return label_branch(context, scope, actions, temporaries, cond, walk);
     }
-    jump(context, scope, actions, temporaries, cond, walk).map_err(|refusal| stop(walk, refusal))
+    jump(context, scope, actions, temporaries, cond, walk).map_err(|refusal| stop(
+        walk,
+        u64::from(refusal),
+    ))
 }
 
 #[tactic(auto, unfolding(crate::specs::Branches::branch))]
@@ -316,7 +322,7 @@ pub fn cond_branch(
 {
     let at = after(pos, 1);
     let cond = expr_value(DEPTH, context, scope, at, actions, temporaries, walk.st).map_err(
-        |refusal| stop(walk, refusal),
+        |refusal| stop(walk, u64::from(refusal)),
     )?;
     resolve_branch(context, scope, actions, temporaries, cond, walk)
 }

@@ -39,4 +39,4 @@ to_step w (Err refusal) = Step.Stop (number refusal) w.st.sizing.begun
 -- steps of which one may have ended in another statement
 abbrev pub to_steps : Result (ℕ × walks.Walk) stopped.Stopped → Step
 to_steps (Ok x) = Step.Next x.0 (to_walk x.1)
-to_steps (Err s) = Step.Stop (number s.refusal) s.ordinal
+to_steps (Err s) = Step.Stop s.refusal s.ordinal

@@ -1,10 +1,8 @@
 // The state of the walk, and where a refusal stops it.
 ghost use Rattle.std.specs.Prelude.{◌≡◌, Err};
-ghost use Rattle.codes.specs.Refusals.{number};
 ghost use Rattle.stmt_walk.specs.Outcomes.{to_walk, to_steps};
 ghost use Rattle.stmt_walk.specs.Walks.{stop};
 
-use codes::refusal::Refusal;
 use expr_scope::scope::Access;
 use list_pushes::push::State;
 
@@ -29,16 +27,17 @@ pub struct Walk {
     pub export: Export,
 }
 
-// A refusal, and the ordinal of the statement that had begun.
+// The number of a refusal, and the ordinal of the statement that had begun. What `stop` promises holds of any number, and a
+// `Refusal` would ask more.
 #[derive(Clone, Copy)]
 pub struct Stopped {
-    pub refusal: Refusal,
+    pub refusal: u64,
     pub ordinal: u64,
 }
 
 // A refusal, at the statement that has begun.
-pub fn stop(walk: Walk, refusal: Refusal) -> Stopped
-    ensures { to_steps (Err result) ≡ stop (number refusal) (to_walk walk) }
+pub fn stop(walk: Walk, refusal: u64) -> Stopped
+    ensures { to_steps (Err result) ≡ stop refusal (to_walk walk) }
 {
     Stopped {
         refusal,
