@@ -1,5 +1,6 @@
 -- The numbers that the answer gives to refusals.
-use Rattle.std.specs.Prelude.{ℕ, Result, Ok, Err}
+use Rattle.std.specs.Prelude.{ℕ, Option, Result, Ok, Err, List, [], ◌∷◌, eqb}
+use Rattle.std.specs.List.{find}
 use Rattle.codes.specs.declared.refusal.Refusal.{Refusal}
 
 abbrev pub number : Refusal → ℕ
@@ -44,3 +45,24 @@ number Refusal.ErrorsRecorded = 51
 abbrev pub number_or_zero : {A : Type 0} → Result A Refusal → ℕ
 number_or_zero (Ok x) = 0
 number_or_zero (Err refusal) = number refusal
+
+-- all refusals, in the order of their numbers
+unfoldable pub refusals : List Refusal
+refusals =
+    Refusal.BadLength ∷ Refusal.BlockCheck ∷ Refusal.Malformed ∷ Refusal.OutsideLimit ∷ Refusal.NamesNothing ∷
+    Refusal.SpelledTwice ∷ Refusal.TooManyStatements ∷ Refusal.MacroTooDeep ∷ Refusal.ListFull ∷
+    Refusal.TooManyTemporaries ∷ Refusal.TooManyLabels ∷ Refusal.AfterExport ∷ Refusal.Redeclared ∷
+    Refusal.Undefined ∷ Refusal.WrongKind ∷ Refusal.AbsentTable ∷ Refusal.DelaySlotArgument ∷ Refusal.MacroArguments ∷
+    Refusal.LabelTwice ∷ Refusal.StoreToNoAddress ∷ Refusal.JumpToNonLocal ∷ Refusal.AddressOfNonLocal ∷
+    Refusal.AddressOfOffset ∷ Refusal.ConstantPool ∷ Refusal.ArgumentCount ∷ Refusal.MacroInExpression ∷
+    Refusal.SubpieceArgument ∷ Refusal.SlicePastEnd ∷ Refusal.NotAssignable ∷ Refusal.ConstSpace ∷
+    Refusal.NoDefaultSpace ∷ Refusal.OtherSpace ∷ Refusal.ShiftTooFar ∷ Refusal.OffsetTooFar ∷ Refusal.SubpieceSize ∷
+    Refusal.ErrorsRecorded ∷ []
+
+-- the first of some refusals that has the number
+abbrev pub among : List Refusal → ℕ → Option Refusal
+among some n = find (λ refusal. eqb (number refusal) n) some
+
+-- the refusal that has the number, if one has it
+unfoldable pub numbered : ℕ → Option Refusal
+numbered n = among refusals n

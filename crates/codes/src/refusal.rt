@@ -1,6 +1,6 @@
 // The refusals.
 ghost use Rattle.std.specs.Prelude.{◌≡◌};
-ghost use Rattle.codes.specs.Refusals.{number};
+ghost use Rattle.codes.specs.Refusals.{number, among, numbered};
 
 // Why a file is refused, by the number that the answer gives it.
 #[derive(Clone, Copy, Debug, PartialEq, Eq)]
@@ -48,5 +48,80 @@ impl From<Refusal> for u64 {
 
     fn from(refusal: Refusal) -> u64 {
         refusal as u64
+    }
+}
+
+// All of them, in the order of their numbers.
+const REFUSALS: [Refusal; 36] = [
+    Refusal::BadLength,
+    Refusal::BlockCheck,
+    Refusal::Malformed,
+    Refusal::OutsideLimit,
+    Refusal::NamesNothing,
+    Refusal::SpelledTwice,
+    Refusal::TooManyStatements,
+    Refusal::MacroTooDeep,
+    Refusal::ListFull,
+    Refusal::TooManyTemporaries,
+    Refusal::TooManyLabels,
+    Refusal::AfterExport,
+    Refusal::Redeclared,
+    Refusal::Undefined,
+    Refusal::WrongKind,
+    Refusal::AbsentTable,
+    Refusal::DelaySlotArgument,
+    Refusal::MacroArguments,
+    Refusal::LabelTwice,
+    Refusal::StoreToNoAddress,
+    Refusal::JumpToNonLocal,
+    Refusal::AddressOfNonLocal,
+    Refusal::AddressOfOffset,
+    Refusal::ConstantPool,
+    Refusal::ArgumentCount,
+    Refusal::MacroInExpression,
+    Refusal::SubpieceArgument,
+    Refusal::SlicePastEnd,
+    Refusal::NotAssignable,
+    Refusal::ConstSpace,
+    Refusal::NoDefaultSpace,
+    Refusal::OtherSpace,
+    Refusal::ShiftTooFar,
+    Refusal::OffsetTooFar,
+    Refusal::SubpieceSize,
+    Refusal::ErrorsRecorded,
+];
+
+// The first of some refusals that has the number.
+fn among(refusals: &[Refusal], number: u64) -> Option<Refusal>
+    ensures { result ≡ among refusals.now number }
+{
+    refusals
+        .iter()
+        .find(|refusal| u64::from(**refusal) == number)
+        .copied()
+}
+
+impl Refusal {
+    // The refusal that has the number, if one has it.
+    #[tactic(auto, unfolding(crate::specs::Refusals::numbered, crate::specs::Refusals::refusals))]
+    pub fn numbered(number: u64) -> Option<Refusal>
+        ensures { result ≡ numbered number }
+    {
+        among(&REFUSALS, number)
+    }
+}
+
+#[cfg(test)]
+mod tests {
+    use super::*;
+
+    #[test]
+    fn a_number_names_its_refusal(rt: HostRuntime) {
+        assert_eq!(rt; Refusal::numbered(1), Some(Refusal::BadLength));
+        assert_eq!(rt; Refusal::numbered(10), Some(Refusal::TooManyStatements));
+        assert_eq!(rt; Refusal::numbered(51), Some(Refusal::ErrorsRecorded));
+        for number in [0, 7, 43, 52, u64::MAX] {
+            assert_eq!(rt; Refusal::numbered(number), None, "at {number}");
+        }
     }
 }
