@@ -3,19 +3,19 @@
 use mathlib.Core.Path.{◌≡◌, refl}
 use mathlib.Core.Bool.{Bool, true, false}
 use mathlib.Core.List.{List}
-use Prim.Native.Nat.{ℕ, zero, suc, ◌+◌, ◌-◌}
+use Prim.Native.Nat.{ℕ, ◌-◌}
 use native.Mathlib.Omega.{arith}
 use lib.ListN.{length, get_or, set}
-use lib.Dec.{eqb, leb, ltb}
+use lib.Dec.{eqb}
 use Rattle.prelude.specs.Base.{when◌then◌else◌}
 use Rattle.std.specs.Int.NonZero.{non_zero_u64_get}
 use Rattle.std.specs.declared.num.NonZeroU64.{NonZeroU64}
 use Rattle.access.specs.Le.{le16}
-use Rattle.access.specs.Loops.{run}
-use Rattle.file_syntax.specs.Cursors.{Cursor, cursor, refuse, number, u8, u16, u16or, skip}
-use Rattle.file_syntax.specs.Expressions.{counted, Kind, kind_of, after_code, expr}
-use Rattle.file_syntax.specs.Statements.{Jump, jump_of, after_jump, jump_label, Target, target_of, after_target, branch_dst, Form, form_of, after_form, statement, body}
+use Rattle.file_syntax.specs.Cursors.{Cursor, cursor, refuse, u8, u16, u16or, skip}
+use Rattle.file_syntax.specs.Expressions.{counted}
+use Rattle.file_syntax.specs.Statements.{body}
 use Rattle.file_syntax.proofs.RefusedLaws.{refused}
+use Rattle.file_syntax.proofs.RangeLaws.{refused_by, refuse_refused_by, run_keeps, counted_refused_by, u8_refused_by, u16or_refused_by, skip_refused_by, code_refused_by, count_refused_by, name_refused_by, body_refused_by}
 use Rattle.file_section.specs.Names.{Reading, reading, known, letters, spelling, name_at, names}
 use Rattle.file_section.specs.Headers.{global_counts, counts, roles, header}
 use Rattle.file_section.specs.Lists.{mark, Which, which_of, after_name, after, params, macro_head, macro, named, rest_of, entry, list, lists}
@@ -25,53 +25,9 @@ use Rattle.file_section.specs.Stream.{OfStream, zeros, tail, statements}
 abbrev pub Fine : Cursor → Type 0
 Fine c = (c.bad ≡ 0 → ⊥) → OfStream c.bad
 
-number_fine : (v n len lim k : ℕ) (c : Cursor) → OfStream k → Fine c → Fine (number v n len lim k c)
-unfolding number
-number_fine v n len lim k c h f = go (eqb c.bad 0) (leb (c.at + n) len) (ltb v lim)
-  where
-    go : (a b d : Bool) → Fine (when a then (when b then (when d then cursor (c.at + n) 0 v else cursor c.at k 0) else cursor c.at 3 0) else c)
-    go true true true = λ z. absurd (z refl)
-    go true true false = λ z. h
-    go true false d = λ z. (omega arith, omega arith)
-    go false b d = f
-
-u8_fine : (s : List ℕ) (lim k : ℕ) (c : Cursor) → OfStream k → Fine c → Fine (u8 s lim k c)
-unfolding u8
-u8_fine s lim k c h f = number_fine _ _ _ _ k c h f
-
-u16_fine : (s : List ℕ) (lim k : ℕ) (c : Cursor) → OfStream k → Fine c → Fine (u16 s lim k c)
-unfolding u16
-u16_fine s lim k c h f = number_fine _ _ _ _ k c h f
-
-u16or_fine : (s : List ℕ) (lim k : ℕ) (c : Cursor) → OfStream k → Fine c → Fine (u16or s lim k c)
-unfolding u16or
-u16or_fine s lim k c h f = number_fine _ _ _ _ k c h f
-
-refuse_fine : (k : ℕ) (c : Cursor) → OfStream k → Fine c → Fine (refuse k c)
-unfolding refuse
-refuse_fine k c h f = go (eqb c.bad 0)
-  where
-    go : (a : Bool) → Fine (when a then cursor c.at k 0 else c)
-    go true = λ z. h
-    go false = f
-
-skip_fine : (s : List ℕ) (n : ℕ) (c : Cursor) → Fine c → Fine (skip s n c)
-unfolding skip number
-skip_fine s n c f = go (eqb c.bad 0) (leb (c.at + n) (length s))
-  where
-    go : (a b : Bool) → Fine (when a then (when b then cursor (c.at + n) 0 0 else cursor c.at 3 0) else c)
-    go true true = λ z. absurd (z refl)
-    go true false = λ z. (omega arith, omega arith)
-    go false b = f
-
-run_fine : {A : Type 0} (P : A → Type 0) (n i : ℕ) (f : ℕ → A → A) (x : A) → ((j : ℕ) (y : A) → P y → P (f j y)) → P x → P (run n i f x)
-unfolding run
-run_fine P zero i f x h p = p
-run_fine P (suc n) i f x h p = run_fine P n (suc i) f (f i x) h (h i x p)
-
-counted_fine : (g : Cursor → Cursor) (c : Cursor) → ((y : Cursor) → Fine y → Fine (g y)) → Fine c → Fine (counted g c)
-unfolding counted
-counted_fine g c h f = run_fine Fine c.val 0 (λ _. g) c (λ j. h) f
+-- by which number, whatever was read last
+abbrev ByStream : ℕ → ℕ → Type 0
+ByStream refusal v = OfStream refusal
 
 -- the numbers themselves
 malformed : OfStream 3
@@ -86,82 +42,34 @@ names_nothing = (omega arith, omega arith)
 spelled_twice : OfStream 6
 spelled_twice = (omega arith, omega arith)
 
--- Fields.
+-- what `file_syntax` shows of its words
+
+u8_fine : (s : List ℕ) (lim k : ℕ) (c : Cursor) → OfStream k → Fine c → Fine (u8 s lim k c)
+u8_fine = u8_refused_by ByStream malformed
+
+u16or_fine : (s : List ℕ) (lim k : ℕ) (c : Cursor) → OfStream k → Fine c → Fine (u16or s lim k c)
+u16or_fine = u16or_refused_by ByStream malformed
+
+refuse_fine : (k : ℕ) (c : Cursor) → OfStream k → Fine c → Fine (refuse k c)
+refuse_fine = refuse_refused_by ByStream
+
+skip_fine : (s : List ℕ) (n : ℕ) (c : Cursor) → Fine c → Fine (skip s n c)
+skip_fine = skip_refused_by ByStream malformed
 
 code_fine : (s : List ℕ) (n : ℕ) (c : Cursor) → Fine c → Fine (u8 s n 3 c)
-code_fine s n c f = u8_fine s n 3 c malformed f
+code_fine = code_refused_by ByStream malformed
 
 count_fine : (s : List ℕ) (lim : ℕ) (c : Cursor) → Fine c → Fine (u16 s lim 4 c)
-count_fine s lim c f = u16_fine s lim 4 c outside_limit f
+count_fine s lim c = count_refused_by ByStream malformed s lim c outside_limit
 
 name_fine : (s : List ℕ) (m : ℕ) (c : Cursor) → Fine c → Fine (u16 s m 5 c)
-name_fine s m c f = u16_fine s m 5 c names_nothing f
+name_fine s m c = name_refused_by ByStream malformed s m c names_nothing
 
-space_fine : (s : List ℕ) (m : ℕ) (c : Cursor) → Fine c → Fine (u16or s 1025 4 (u16or s m 5 c))
-space_fine s m c f = u16or_fine s 1025 4 _ outside_limit (u16or_fine s m 5 c names_nothing f)
-
-call_fine : (s : List ℕ) (m : ℕ) (c : Cursor) → Fine c → Fine (u8 s 9 4 (u16 s m 5 c))
-call_fine s m c f = u8_fine s 9 4 _ outside_limit (name_fine s m c f)
-
--- Expressions and statements.
-
-after_code_fine : (w : Kind) (s : List ℕ) (m : ℕ) (g : Cursor → Cursor) (c : Cursor) → ((y : Cursor) → Fine y → Fine (g y)) → Fine c → Fine (after_code w s m g c)
-unfolding after_code
-after_code_fine Kind.ident s m g c h f = name_fine s m c f
-after_code_fine Kind.integer s m g c h f = skip_fine s 8 c f
-after_code_fine Kind.address s m g c h f = name_fine s m _ (u16or_fine s 1025 4 c outside_limit f)
-after_code_fine Kind.truncate s m g c h f = count_fine s 1025 _ (h c f)
-after_code_fine Kind.slice s m g c h f = count_fine s 8193 _ (count_fine s 8193 _ (h c f))
-after_code_fine Kind.operator s m g c h f = h _ (code_fine s 39 _ (h c f))
-after_code_fine Kind.deref s m g c h f = h _ (space_fine s m c f)
-after_code_fine Kind.pool s m g c h f = counted_fine g _ h (u8_fine s 9 4 c outside_limit f)
-after_code_fine Kind.calling s m g c h f = counted_fine g _ h (call_fine s m c f)
-
-expr_fine : (d : ℕ) (s : List ℕ) (m : ℕ) (c : Cursor) → Fine c → Fine (expr d s m c)
-unfolding expr
-expr_fine zero s m c f = refuse_fine 4 _ outside_limit (code_fine s 9 c f)
-expr_fine (suc d) s m c f = after_code_fine (kind_of (u8 s 9 3 c).val) s m (expr d s m) _ (expr_fine d s m) (code_fine s 9 c f)
-
-after_jump_fine : (w : Jump) (s : List ℕ) (m : ℕ) (c : Cursor) → Fine c → Fine (after_jump w s m c)
-unfolding after_jump
-after_jump_fine Jump.to_name s m c f = name_fine s m c f
-after_jump_fine Jump.to_integer s m c f = count_fine s 1025 _ (skip_fine s 8 c f)
-
-jump_label_fine : (s : List ℕ) (m : ℕ) (c : Cursor) → Fine c → Fine (jump_label s m c)
-unfolding jump_label
-jump_label_fine s m c f = after_jump_fine (jump_of (u8 s 2 3 c).val) s m _ (code_fine s 2 c f)
-
-after_target_fine : (w : Target) (s : List ℕ) (m : ℕ) (c : Cursor) → Fine c → Fine (after_target w s m c)
-unfolding after_target
-after_target_fine Target.direct s m c f = jump_label_fine s m c f
-after_target_fine Target.indirect s m c f = jump_label_fine s m c f
-after_target_fine Target.label s m c f = name_fine s m c f
-
-branch_dst_fine : (s : List ℕ) (m : ℕ) (c : Cursor) → Fine c → Fine (branch_dst s m c)
-unfolding branch_dst
-branch_dst_fine s m c f = after_target_fine (target_of (u8 s 3 3 c).val) s m _ (code_fine s 3 c f)
-
-after_form_fine : (w : Form) (s : List ℕ) (m : ℕ) (c : Cursor) → Fine c → Fine (after_form w s m c)
-unfolding after_form
-after_form_fine Form.unimplemented s m c f = f
-after_form_fine Form.export s m c f = expr_fine 32 s m c f
-after_form_fine Form.local s m c f = u16or_fine s 1025 4 _ outside_limit (name_fine s m c f)
-after_form_fine Form.assignment s m c f = expr_fine 32 s m _ (u16or_fine s 1025 4 _ outside_limit (name_fine s m c f))
-after_form_fine Form.build s m c f = name_fine s m c f
-after_form_fine Form.copy s m c f = expr_fine 32 s m _ (expr_fine 32 s m c f)
-after_form_fine Form.store s m c f = expr_fine 32 s m _ (expr_fine 32 s m _ (space_fine s m c f))
-after_form_fine Form.calling s m c f = counted_fine (expr 32 s m) _ (expr_fine 32 s m) (call_fine s m c f)
-after_form_fine Form.branch s m c f = code_fine s 3 _ (branch_dst_fine s m c f)
-after_form_fine Form.cond_branch s m c f = code_fine s 3 _ (branch_dst_fine s m _ (expr_fine 32 s m c f))
-after_form_fine Form.placed s m c f = name_fine s m c f
-
-statement_fine : (s : List ℕ) (m : ℕ) (c : Cursor) → Fine c → Fine (statement s m c)
-unfolding statement
-statement_fine s m c f = after_form_fine (form_of (u8 s 11 3 c).val) s m _ (code_fine s 11 c f)
+counted_fine : (g : Cursor → Cursor) (c : Cursor) → ((y : Cursor) → Fine y → Fine (g y)) → Fine c → Fine (counted g c)
+counted_fine = counted_refused_by ByStream
 
 body_fine : (s : List ℕ) (m n : ℕ) (c : Cursor) → Fine c → Fine (body s m n c)
-unfolding body
-body_fine s m n c f = run_fine Fine n 0 (λ _. statement s m) c (λ j. statement_fine s m) f
+body_fine = body_refused_by ByStream malformed outside_limit names_nothing
 
 -- The header.
 
@@ -203,7 +111,7 @@ spelling_fine s t i c f = go (eqb (u8 s 25 4 c).bad 0)
 
 names_fine : (s : List ℕ) (n : ℕ) (w : Reading) → Fine w.cursor → Fine (names s n w).cursor
 unfolding names name_at
-names_fine s n w f = run_fine FineReading n 0 (name_at s) w (λ i y g. spelling_fine s y.table i y.cursor g) f
+names_fine s n w f = run_keeps FineReading n 0 (name_at s) w (λ i y g. spelling_fine s y.table i y.cursor g) f
 
 mark_fine : (at v : ℕ) (w : Reading) → Fine w.cursor → Fine (mark at v w).cursor
 unfolding mark
@@ -241,7 +149,7 @@ entry_fine k s i w f = go (eqb k 5) (mark_fine _ _ _ (name_fine s (le16 s 2) w.c
 
 lists_fine : (s : List ℕ) (w : Reading) → Fine w.cursor → Fine (lists s w).cursor
 unfolding lists list
-lists_fine s w f = run_fine FineReading 9 0 (list s) w (λ k y g. run_fine FineReading _ 0 (entry k s) _ (entry_fine k s) g) f
+lists_fine s w f = run_keeps FineReading 9 0 (list s) w (λ k y g. run_keeps FineReading _ 0 (entry k s) _ (entry_fine k s) g) f
 
 -- The whole stream.
 
@@ -254,7 +162,7 @@ tail_fine s c f = go (zeros (length s - c.at) c.at s)
     go false = refuse_fine 3 c malformed f
 
 refused_fine : (p : ℕ) (r : NonZeroU64) (x : ℕ) → Fine (refused p r x) → OfStream (non_zero_u64_get r)
-refused_fine p r x f = f (λ z. omega (arith, r.ok, z))
+refused_fine = refused_by ByStream
 
 fine_as : (c d : Cursor) → c ≡ d → Fine d → Fine c
 fine_as c d e f = rw e f

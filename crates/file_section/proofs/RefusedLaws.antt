@@ -8,7 +8,7 @@ use Rattle.prelude.specs.Base.{when◌then◌else◌}
 use Rattle.std.specs.declared.num.NonZeroU64.{NonZeroU64}
 use Rattle.access.specs.Le.{le16}
 use Rattle.file_syntax.specs.Cursors.{refuse}
-use Rattle.file_syntax.proofs.RefusedLaws.{refused, refusal_number, refuse_passes, u8_passes, u16_passes, u16or_passes, skip_passes, counted_refused, body_passes}
+use Rattle.file_syntax.proofs.RefusedLaws.{refused, not_zero, refuse_passes, u8_passes, u16_passes, u16or_passes, skip_passes, counted_passes, counted_refused, body_passes}
 use Rattle.file_section.specs.Names.{reading, spelling}
 use Rattle.file_section.specs.Headers.{counts, roles}
 use Rattle.file_section.specs.Lists.{mark, Which, which_of, after_name, after, params, macro_head, named}
@@ -24,11 +24,11 @@ roles_passes s p r x = simp (u16or_passes s (le16 s 4) 5 p r x, u16_passes s (le
 
 pub spelling_passes : (s t : List ℕ) (i p : ℕ) (r : NonZeroU64) (x : ℕ) → spelling s t i (refused p r x) ≡ refused p r x
 unfolding spelling
-spelling_passes s t i p r x = rw (u8_passes s 25 4 p r x, refusal_number r)
+spelling_passes s t i p r x = rw (u8_passes s 25 4 p r x, not_zero r)
 
 pub mark_passes : (at v p : ℕ) (r : NonZeroU64) (x : ℕ) (t : List ℕ) → mark at v (reading (refused p r x) t) ≡ reading (refused p r x) t
 unfolding mark
-mark_passes at v p r x t = rw (refusal_number r)
+mark_passes at v p r x t = rw (not_zero r)
 
 pub named_passes : (k : ℕ) (s : List ℕ) (i p : ℕ) (r : NonZeroU64) (x : ℕ) (t : List ℕ) → named k s i (reading (refused p r x) t) ≡ reading (refused p r x) t
 unfolding named
@@ -66,4 +66,4 @@ tail_passes s p r x = go (zeros (length s - p) p s)
     go true = refl
     go false = refuse_passes 3 p r x
 
-pub ruleset passing = (u8_passes, u16_passes, u16or_passes, skip_passes, refuse_passes, body_passes, counts_passes, roles_passes, spelling_passes, mark_passes, named_passes, after_passes, params_passes, macro_head_passes, tail_passes)
+pub ruleset passing = (u8_passes, u16_passes, u16or_passes, skip_passes, refuse_passes, counted_passes, body_passes, counts_passes, roles_passes, spelling_passes, mark_passes, named_passes, after_passes, params_passes, macro_head_passes, tail_passes)

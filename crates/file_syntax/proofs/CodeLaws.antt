@@ -6,7 +6,7 @@ use native.Mathlib.Numerals.{sub-one}
 use Rattle.std.specs.declared.num.NonZeroU64.{NonZeroU64}
 use Rattle.file_syntax.specs.Cursors.{Cursor, refuse, code}
 use Rattle.file_syntax.specs.Expressions.{kind_of, after_code, expr}
-use Rattle.file_syntax.proofs.RefusedLaws.{refused, refuse_passes, after_code_passes, u8_passes, u16_passes, u16or_passes, skip_passes, expr_passes, exprs_passes}
+use Rattle.file_syntax.proofs.RefusedLaws.{refused, refuse_passes, after_code_passes, u8_passes, u16_passes, u16or_passes, skip_passes, counted_passes, expr_passes, exprs_passes}
 
 pub deepest : (d : ℕ) (s : List ℕ) (m : ℕ) (c : Cursor) → d ≡ 0 → expr d s m c ≡ refuse 4 (code s 9 c)
 unfolding expr
@@ -23,4 +23,4 @@ unfolding expr
 code_refused zero s m p r x c e = rw e (refuse_passes 4 p r x)
 code_refused (suc d) s m p r x c e = rw e (after_code_passes (kind_of x) s m (expr d s m) p r x (expr_passes d s m p r x))
 
-pub ruleset expr_laws = (code_refused, deepest, deeper, u8_passes, u16_passes, u16or_passes, skip_passes, expr_passes, exprs_passes)
+pub ruleset expr_laws = (code_refused, deepest, deeper, u8_passes, u16_passes, u16or_passes, skip_passes, counted_passes, expr_passes, exprs_passes)

@@ -2,3 +2,4 @@
 pub mod CursorLaws
 pub mod RefusedLaws
 pub mod CodeLaws
+pub mod RangeLaws

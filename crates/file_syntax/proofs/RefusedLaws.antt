@@ -8,6 +8,9 @@ use lib.Dec.{eqb}
 use borrow.Author.Tests.{ne_eqb}
 use Rattle.std.specs.Int.NonZero.{non_zero_u64_get}
 use Rattle.std.specs.declared.num.NonZeroU64.{NonZeroU64}
+use Rattle.codes.specs.declared.refusal.Refusal.{Refusal}
+use Rattle.codes.specs.Refusals as refusals
+use Rattle.codes.proofs.Numbers.{number-positive}
 use Rattle.access.specs.Loops.{run}
 use Rattle.access.proofs.LoopLaws.{run_again, run_end}
 use Rattle.file_syntax.specs.Cursors.{Cursor, cursor, refuse, number, u8, u16, u16or, skip}
@@ -17,12 +20,19 @@ use Rattle.file_syntax.specs.Statements.{Jump, jump_of, after_jump, jump_label, 
 abbrev pub refused : ℕ → NonZeroU64 → ℕ → Cursor
 refused p r x = cursor p (non_zero_u64_get r) x
 
-pub refusal_number : (r : NonZeroU64) → eqb (non_zero_u64_get r) 0 ≡ false
-refusal_number r = ne_eqb (non_zero_u64_get r) 0 (λ z. omega (arith, r.ok))
+pub not_zero : (r : NonZeroU64) → eqb (non_zero_u64_get r) 0 ≡ false
+not_zero r = ne_eqb (non_zero_u64_get r) 0 (λ z. omega (arith, r.ok))
+
+-- a refusal of `codes` as such a number: with it, and 0 for x, the laws below are those of a `Refusal`
+abbrev pub non_zero : Refusal → NonZeroU64
+non_zero r = record { value = refusals.number r; ok = number-positive r }
+
+pub refusal_number : (r : Refusal) → eqb (refusals.number r) 0 ≡ false
+refusal_number r = not_zero (non_zero r)
 
 pub number_passes : (v n len lim k p : ℕ) (r : NonZeroU64) (x : ℕ) → number v n len lim k (refused p r x) ≡ refused p r x
 unfolding number
-number_passes v n len lim k p r x = rw (refusal_number r)
+number_passes v n len lim k p r x = rw (not_zero r)
 
 pub u8_passes : (s : List ℕ) (lim k p : ℕ) (r : NonZeroU64) (x : ℕ) → u8 s lim k (refused p r x) ≡ refused p r x
 unfolding u8
@@ -42,7 +52,7 @@ skip_passes s n p r x = number_passes _ _ _ _ _ p r x
 
 pub refuse_passes : (k p : ℕ) (r : NonZeroU64) (x : ℕ) → refuse k (refused p r x) ≡ refused p r x
 unfolding refuse
-refuse_passes k p r x = rw (refusal_number r)
+refuse_passes k p r x = rw (not_zero r)
 
 pub run_passes : {A : Type 0} (n i : ℕ) (f : A → A) (x : A) → f x ≡ x → run n i (λ _. f) x ≡ x
 unfolding run
@@ -123,6 +133,6 @@ body_passes s m n p r x = run_passes n 0 (statement s m) _ (statement_passes s m
 pub run_stops : {A : Type 0} (n i : ℕ) (f : A → A) (x y w : A) → i < n → run (n - i) i (λ _. f) x ≡ w → y ≡ f x → f y ≡ y → y ≡ w
 run_stops n i f x y w h e p q = sym (run_passes (n - (i + 1)) (i + 1) f y q) ∙ run_again n i (λ _. f) x y w h e p
 
-pub ruleset passing = (u8_passes, u16_passes, u16or_passes, skip_passes, refuse_passes, expr_passes, exprs_passes, jump_label_passes, branch_dst_passes, statement_passes, body_passes)
+pub ruleset passing = (u8_passes, u16_passes, u16or_passes, skip_passes, refuse_passes, counted_passes, expr_passes, exprs_passes, jump_label_passes, branch_dst_passes, statement_passes, body_passes)
 
 pub ruleset body_laws = (run_end, body_passes, exprs_passes)

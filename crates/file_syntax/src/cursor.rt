@@ -8,7 +8,7 @@ ghost use Rattle.access.specs.Le.{le16};
 ghost use Rattle.std.specs.Int.NonZero.{non_zero_u64_get};
 ghost use Rattle.file_syntax.specs.Cursors.{refuse, u8, u16, u16or, u8_is_number, u16_is_number, skip, code, small_count, name, name_or, size, size_or, bits};
 ghost use Rattle.file_syntax.specs.Cursors as words;
-ghost use Rattle.file_syntax.specs.Reads.{good, to_cursor};
+ghost use Rattle.file_syntax.specs.Reads.{good, refusal_named, to_cursor};
 
 use access::inside::two;
 use codes::limit::SIZES;
@@ -293,5 +293,14 @@ impl From<Refused> for u64 {
 
     fn from(refused: Refused) -> u64 {
         refused.refusal.get()
+    }
+}
+
+// A number that no refusal has is taken for that of a malformed stream; no reader refuses by one, unless it is told to.
+impl From<Refused> for Refusal {
+    ghost from_gives = { λ refused refusal. refusal ≡ refusal_named (non_zero_u64_get refused.refusal) };
+
+    fn from(refused: Refused) -> Refusal {
+        Refusal::numbered(u64::from(refused)).unwrap_or(Refusal::Malformed)
     }
 }
