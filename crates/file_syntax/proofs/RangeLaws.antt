@@ -1,5 +1,5 @@
--- What a reading comes to be refused by: what holds of the numbers that the words refuse by, and of a cursor that is not refused
--- yet or is so by such a number, holds of what each word leaves.
+-- What a reading comes to be refused by. P says which number of a refusal may stand beside which number read last. Where it holds
+-- of each number that a word refuses by, beside 0, and of the cursor if that is refused, it holds of what the word leaves.
 use mathlib.Core.Path.{refl}
 use mathlib.Core.Bool.{Bool, true, false}
 use mathlib.Core.List.{List}
@@ -14,8 +14,8 @@ use Rattle.codes.specs.declared.refusal.Refusal.{Refusal}
 use Rattle.codes.specs.Refusals as refusals
 use Rattle.codes.proofs.Numbers.{numbered-number}
 use Rattle.access.specs.Loops.{run}
-use Rattle.file_syntax.specs.Cursors.{Cursor, cursor, refuse, number, u8, u16, u16or, skip}
-use Rattle.file_syntax.specs.Expressions.{counted, Kind, kind_of, after_code, expr}
+use Rattle.file_syntax.specs.Cursors.{Cursor, cursor, refuse, number, u8, u16, u16or, skip, code, name}
+use Rattle.file_syntax.specs.Expressions.{space, call, counted, Kind, kind_of, after_code, expr, exprs}
 use Rattle.file_syntax.specs.Statements.{Jump, jump_of, after_jump, jump_label, Target, target_of, after_target, branch_dst, Form, form_of, after_form, statement, body}
 use Rattle.file_syntax.specs.Reads.{RefusedBy, OfRefusal, good}
 use Rattle.file_syntax.specs.declared.cursor.Cursor as places
@@ -79,21 +79,21 @@ module _ (P : ℕ → ℕ → Type 0) where
         go true false = λ z. cut
         go false b = f
 
-    pub code_refused_by : (s : List ℕ) (n : ℕ) (c : Cursor) → RefusedBy P c → RefusedBy P (u8 s n 3 c)
+    pub code_refused_by : (s : List ℕ) (n : ℕ) (c : Cursor) → RefusedBy P c → RefusedBy P (code s n c)
     code_refused_by s n c f = u8_refused_by s n 3 c cut f
 
     pub count_refused_by : (s : List ℕ) (lim : ℕ) (c : Cursor) → P 4 0 → RefusedBy P c → RefusedBy P (u16 s lim 4 c)
     count_refused_by s lim c h f = u16_refused_by s lim 4 c h f
 
-    pub name_refused_by : (s : List ℕ) (m : ℕ) (c : Cursor) → P 5 0 → RefusedBy P c → RefusedBy P (u16 s m 5 c)
+    pub name_refused_by : (s : List ℕ) (m : ℕ) (c : Cursor) → P 5 0 → RefusedBy P c → RefusedBy P (name s m c)
     name_refused_by s m c h f = u16_refused_by s m 5 c h f
 
     -- the parts of a section, which refuse by 3, 4 and 5
     module _ (outside_limit : P 4 0) (names_nothing : P 5 0) where
-      pub space_refused_by : (s : List ℕ) (m : ℕ) (c : Cursor) → RefusedBy P c → RefusedBy P (u16or s 1025 4 (u16or s m 5 c))
+      pub space_refused_by : (s : List ℕ) (m : ℕ) (c : Cursor) → RefusedBy P c → RefusedBy P (space s m c)
       space_refused_by s m c f = u16or_refused_by s 1025 4 _ outside_limit (u16or_refused_by s m 5 c names_nothing f)
 
-      pub call_refused_by : (s : List ℕ) (m : ℕ) (c : Cursor) → RefusedBy P c → RefusedBy P (u8 s 9 4 (u16 s m 5 c))
+      pub call_refused_by : (s : List ℕ) (m : ℕ) (c : Cursor) → RefusedBy P c → RefusedBy P (call s m c)
       call_refused_by s m c f = u8_refused_by s 9 4 _ outside_limit (name_refused_by s m c names_nothing f)
 
       after_code_refused_by : (w : Kind) (s : List ℕ) (m : ℕ) (g : Cursor → Cursor) (c : Cursor) → ((y : Cursor) → RefusedBy P y → RefusedBy P (g y)) → RefusedBy P c → RefusedBy P (after_code w s m g c)
@@ -113,7 +113,7 @@ module _ (P : ℕ → ℕ → Type 0) where
       expr_refused_by zero s m c f = refuse_refused_by 4 _ outside_limit (code_refused_by s 9 c f)
       expr_refused_by (suc d) s m c f = after_code_refused_by (kind_of (u8 s 9 3 c).val) s m (expr d s m) _ (expr_refused_by d s m) (code_refused_by s 9 c f)
 
-      pub exprs_refused_by : (d : ℕ) (s : List ℕ) (m : ℕ) (c : Cursor) → RefusedBy P c → RefusedBy P (counted (expr d s m) c)
+      pub exprs_refused_by : (d : ℕ) (s : List ℕ) (m : ℕ) (c : Cursor) → RefusedBy P c → RefusedBy P (exprs d s m c)
       exprs_refused_by d s m c f = counted_refused_by (expr d s m) c (expr_refused_by d s m) f
 
       after_jump_refused_by : (w : Jump) (s : List ℕ) (m : ℕ) (c : Cursor) → RefusedBy P c → RefusedBy P (after_jump w s m c)

@@ -24,11 +24,11 @@ pub not_zero : (r : NonZeroU64) → eqb (non_zero_u64_get r) 0 ≡ false
 not_zero r = ne_eqb (non_zero_u64_get r) 0 (λ z. omega (arith, r.ok))
 
 -- a refusal of `codes` as such a number: with it, and 0 for x, the laws below are those of a `Refusal`
-abbrev pub non_zero : Refusal → NonZeroU64
-non_zero r = record { value = refusals.number r; ok = number-positive r }
+abbrev pub nonzero_number : Refusal → NonZeroU64
+nonzero_number r = record { value = refusals.number r; ok = number-positive r }
 
 pub refusal_number : (r : Refusal) → eqb (refusals.number r) 0 ≡ false
-refusal_number r = not_zero (non_zero r)
+refusal_number r = not_zero (nonzero_number r)
 
 pub number_passes : (v n len lim k p : ℕ) (r : NonZeroU64) (x : ℕ) → number v n len lim k (refused p r x) ≡ refused p r x
 unfolding number

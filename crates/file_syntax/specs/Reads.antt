@@ -16,7 +16,7 @@ abbrev pub to_cursor : Result places.Cursor Refused → Cursor
 to_cursor (Ok c) = good c
 to_cursor (Err e) = cursor e.at (non_zero_u64_get e.refusal) e.val
 
--- not refused, or as P allows of the number of the refusal and the number read last
+-- not refused, or so that P holds of the refusal's number and of the number read last
 abbrev pub RefusedBy : (ℕ → ℕ → Type 0) → Cursor → Type 0
 RefusedBy P c = (c.bad ≡ 0 → ⊥) → P c.bad c.val
 
@@ -24,6 +24,6 @@ RefusedBy P c = (c.bad ≡ 0 → ⊥) → P c.bad c.val
 abbrev pub refusal_named : ℕ → Refusal
 refusal_named n = unwrap_or (numbered n) Refusal.Malformed
 
--- the number of a refusal, and nothing read last
+-- the number of a refusal, and 0 read last
 abbrev pub OfRefusal : ℕ → ℕ → Type 0
 OfRefusal n v = (number (refusal_named n) ≡ n) × (v ≡ 0)

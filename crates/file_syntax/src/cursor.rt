@@ -296,7 +296,8 @@ impl From<Refused> for u64 {
     }
 }
 
-// A number that no refusal has is taken for that of a malformed stream; no reader refuses by one, unless it is told to.
+// A number that no refusal has is taken for that of a malformed file; no reader refuses by such a number, unless its caller
+// gives it.
 impl From<Refused> for Refusal {
     ghost from_gives = { λ refused refusal. refusal ≡ refusal_named (non_zero_u64_get refused.refusal) };
 
